@@ -1,0 +1,51 @@
+-- One record more.
+use Rattle.std.proofs.Common.{◌≡◌, ◌∙◌, sym, ap, refl, ℕ, List, [], ◌∷◌, ◌++◌, Option, Some, None, true, false, inl, length}
+use Rattle.std.proofs.lemmas.List.Elements.{All-push}
+use Rattle.csv.specs.Reading.{Reached, ReadRecord, default_config, reader_state, is_flexible, expected_len, took_first}
+use Rattle.csv.specs.declared.reader.Reader.{Reader}
+use Rattle.std.proofs.Common.{ap₂}
+use Rattle.csv.specs.Machine.{Read, next_record}
+use Rattle.csv.specs.declared.parser.Config.{Config}
+use Rattle.csv.specs.declared.parser.State.{State}
+use Rattle.csv.specs.declared.parser.State.TheVariants as st
+use Rattle.csv.proofs.ReadFacts.{rows-more, rows-end}
+use Rattle.cad_files.specs.Input.{HasRead, IsWhole, BeginsWith}
+
+pub has_read-more : {R : Type 0} (rem : R → Option (List ℕ)) (a b : Reader R) (fields : List (List ℕ)) (text : List ℕ) (rows : List (List (List ℕ)))
+    → HasRead rem text rows a → ReadRecord rem a b true fields → took_first b ≡ true → is_flexible b ≡ is_flexible a
+    → HasRead rem text (rows ++ (fields ∷ [])) b
+has_read-more rem a b fields text rows h r first same =
+    let lengths = r.5 refl h.strict in
+    record {
+      trim = r.3 ∙ h.trim;
+      ready = inl first;
+      config = r.2 ∙ h.config;
+      strict = same ∙ h.strict;
+      reached = rows-more rem a b fields default_config st.StartRecord text h.reached.0 rows h.config h.reached.1 h.reached.2 r;
+      lengths = All-push (λ row. expected_len b ≡ Some (length row)) rows fields (λ k d lt. rw (h.lengths k d lt) at lengths.0) lengths.1;
+    }
+
+pub has_read-end : {R : Type 0} (rem : R → Option (List ℕ)) (a b : Reader R) (fields : List (List ℕ)) (text : List ℕ) (rows : List (List (List ℕ)))
+    → HasRead rem text rows a → ReadRecord rem a b false fields → IsWhole text rows
+has_read-end rem a b fields text rows h r = (reader_state a, h.reached.0, h.reached.2, rows-end rem a b fields default_config h.reached.0 h.config h.reached.1 r)
+
+pub begins : {R : Type 0} (rem : R → Option (List ℕ)) (text : List ℕ) (rows : List (List (List ℕ))) (a : Reader R) → HasRead rem text rows a → BeginsWith text rows
+begins rem text rows a h = (reader_state a, h.reached.0, h.reached.2)
+
+same_read : (a b : Option Read) (p q : Read) → a ≡ b → a ≡ Some p → b ≡ Some q → p ≡ q
+same_read a b p q e f g = cc
+
+-- records that begin a text are a front of all its records
+pub reached_front : (cfg : Config) (s s1 s2 : State) (xs y1 y2 : List ℕ) (front whole : List (List (List ℕ)))
+    → Reached cfg s xs front s1 y1 → Reached cfg s xs whole s2 y2 → next_record cfg s2 [] [] y2 ≡ None → (rest : List (List (List ℕ))) × (whole ≡ front ++ rest)
+unfolding Reached
+reached_front cfg s s1 s2 xs y1 y2 [] whole h k e = (whole, refl)
+reached_front cfg s s1 s2 xs y1 y2 (r ∷ rs) [] h k e =
+    absurd (let none : next_record cfg s [] [] xs ≡ None = rw (k.0, k.1) e in let some = h.1 in let bad : Some h.0 ≡ None = sym some ∙ none in cc)
+reached_front cfg s s1 s2 xs y1 y2 (r ∷ rs) (q ∷ qs) h k e =
+    let p_is : k.0 ≡ h.0 = same_read _ _ k.0 h.0 refl k.1 h.1 in
+    let more = reached_front cfg h.0.1 s1 s2 h.0.2 y1 y2 rs qs h.3 (rw p_is at k.3) e in
+    (more.0, ap₂ (λ (x : List (List ℕ)) (xs : List (List (List ℕ))). x ∷ xs) (k.2 ∙ ap (λ (p : Read). p.0) p_is ∙ sym h.2) more.1)
+
+pub whole_front : (text : List ℕ) (front whole : List (List (List ℕ))) → BeginsWith text front → IsWhole text whole → (rest : List (List (List ℕ))) × (whole ≡ front ++ rest)
+whole_front text front whole h k = reached_front default_config st.StartRecord h.0 k.0 text h.1 k.1 front whole h.2 k.2 k.3

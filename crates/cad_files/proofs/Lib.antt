@@ -1,0 +1,4 @@
+pub mod DigitFacts
+pub mod FieldFacts
+pub mod InputFacts
+pub mod DecimalFacts

@@ -1,0 +1,41 @@
+//! Reading an input record by record.
+
+ghost use Rattle.std.specs.Prelude.{◌≡◌, ◌++◌, ◌∷◌, [], ℕ, List, IfOk, true, false};
+ghost use Rattle.csv.specs.Records.{fields_of};
+ghost use Rattle.cad_files.specs.Input.{HasRead, IsWhole, BeginsWith};
+
+use csv::{ByteRecord, ErrorKind, Reader};
+use std::io::Read;
+
+/// Why an input could not be read on.
+#[derive(Clone, Copy, Debug, PartialEq, Eq)]
+pub enum InputFault {
+    /// The reader failed, or a record has another number of fields than the first.
+    Read,
+    /// A growth was refused.
+    Memory,
+}
+
+/// The next record into `row`, and whether there was one. After a fault the reader is not used again.
+pub fn next_row<R: Read>(
+    reader: &mut Reader<R>,
+    row: &mut ByteRecord,
+) -> Result<bool, InputFault>
+    ensures more { IfOk result (λ found. found ≡ true → (text : List ℕ) (rows : List (List (List ℕ))) →
+        HasRead R.remaining text rows reader.old → HasRead R.remaining text (rows ++ fields_of row.new ∷ []) reader.new) }
+    ensures ends { IfOk result (λ found. found ≡ false → (text : List ℕ) (rows : List (List (List ℕ))) →
+        HasRead R.remaining text rows reader.old → IsWhole text rows) }
+{
+    match reader.read_byte_record(row) {
+        Ok(found) => Ok(found),
+        Err(e) => match e.kind() {
+            ErrorKind::OutOfMemory => Err(InputFault::Memory),
+            _ => Err(InputFault::Read),
+        },
+    }
+}
+
+/// A text has one list of records, and what its records begin with is a front of it.
+pub fn one_reading()
+    ensures { (text : List ℕ) (front whole : List (List (List ℕ))) → BeginsWith text front → IsWhole text whole → (rest : List (List (List ℕ))) × (whole ≡ front ++ rest) }
+{}

@@ -1,0 +1,4 @@
+pub mod Depth
+pub mod History
+pub mod Steps
+pub mod Standing

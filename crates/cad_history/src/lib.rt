@@ -1,0 +1,14 @@
+//! An editor with undo and redo, over any store of a map.
+#![tactic(auto)]
+
+mod commands;
+mod editor;
+mod laws;
+mod run;
+#[cfg(test)]
+mod tests;
+
+pub use commands::{Answer, Command, DEPTH_LIMIT, Depth, UndoFault};
+pub use editor::Editor;
+pub use laws::one_history;
+pub use run::{run, step};

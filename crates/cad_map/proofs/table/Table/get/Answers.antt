@@ -1,0 +1,7 @@
+use Rattle.std.proofs.Common.{◌∙◌, ap}
+use Rattle.cad_map.proofs.Entries.{lookup-row}
+use Rattle.cad_map.specs.Table.{row_with}
+use Rattle.cad_map.proofs.table.Table.get.Goals as goal
+
+pub returns : goal.returns
+returns g c = c.get.ensures.value ∙ lookup-row g.R.Numbered.number_of c.args.number c.self.inside.rows.entries c.self.invariant.0 ∙ ap (row_with g.R.Numbered.number_of c.args.number) c.self.view_is

@@ -1,0 +1,6 @@
+pub mod Table
+pub mod Map
+pub mod Valid
+pub mod Refusals
+pub mod Effects
+pub mod Outcome

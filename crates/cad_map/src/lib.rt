@@ -1,0 +1,8 @@
+//! What a map is, when it is valid, and what an edit makes of it.
+#![tactic(auto)]
+
+mod store;
+mod table;
+
+pub use store::{Counts, MapStore, MapView};
+pub use table::{Numbered, Table};

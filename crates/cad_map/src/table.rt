@@ -1,0 +1,98 @@
+//! Rows in order of entry, found by their numbers.
+ghost use Rattle.std.specs.Prelude.{◌≡◌, ℕ, ◌++◌, ◌∷◌, [], None, length, slice_get, IsSome, IfOk, OnOk, OnErr};
+ghost use Rattle.std.specs.Option.{option_copied};
+ghost use Rattle.cad_map.specs.Table.{row_with, without_row, with_row};
+
+use cad_rows::Memory;
+use indexmap::IndexMap;
+use std::alloc::Global;
+use std::marker::Model;
+
+/// A row with a number of its own.
+pub trait Numbered: Drop {
+    ghost number_of: { Self → ℕ };
+
+    /// Its number.
+    fn number(&self) -> u32
+        ensures { result ≡ number_of self.now };
+
+    /// An equal row.
+    fn copied(&self) -> Result<Self, Memory>
+        ensures { IfOk result (λ row. row ≡ self.now) };
+}
+
+/// Rows in order of entry. No two have the same number.
+#[derive(Drop)]
+pub struct Table<R: Numbered> {
+    rows: IndexMap<u32, R>,
+}
+
+impl<R: Numbered> Model for Table<R> {
+    ghost use Rattle.std.specs.Prelude.{List, nat_eq};
+    ghost use Rattle.indexmap.specs.IndexMap.{values, IsUnique};
+    ghost use Rattle.cad_map.specs.Table.{AreNumbered};
+
+    ghost Value = { List R };
+
+    ghost view = { λ a. values a.rows };
+
+    ghost invariant = { λ a. AreNumbered R.number_of a.rows.entries × IsUnique nat_eq a.rows };
+}
+
+impl<R: Numbered> Table<R> {
+    pub fn new(alloc: Global) -> Table<R>
+        ensures { result ≡ [] }
+    {
+        Table {
+            rows: IndexMap::new(alloc),
+        }
+    }
+
+    pub fn len(&self) -> usize
+        ensures { result ≡ length self.now }
+    {
+        self.rows.len()
+    }
+
+    /// The row at a place in order of entry, and `None` past the end.
+    pub fn at(&self, place: usize) -> Option<&R>
+        ensures { option_copied result ≡ slice_get self.now place }
+    {
+        let (_, row) = self.rows.get_index(place)?;
+        Some(row)
+    }
+
+    /// The row with a number.
+    pub fn get(&self, number: u32) -> Option<&R>
+        ensures { option_copied result ≡ row_with R.number_of number self.now }
+    {
+        self.rows.get(&number)
+    }
+
+    /// Puts a row last.
+    pub fn put(&mut self, row: R) -> Result<(), Memory>
+        requires { row_with R.number_of (R.number_of row) self.old ≡ None }
+        ensures ok { OnOk result (self.new ≡ self.old ++ row ∷ []) }
+        ensures err { OnErr result (self.new ≡ self.old) }
+    {
+        self.rows.insert(row.number(), row)?;
+        Ok(())
+    }
+
+    /// Puts a row in the place of the one with its number.
+    pub fn set(&mut self, row: R) -> Result<(), Memory>
+        requires { IsSome (row_with R.number_of (R.number_of row) self.old) }
+        ensures ok { OnOk result (self.new ≡ with_row R.number_of row self.old) }
+        ensures err { OnErr result (self.new ≡ self.old) }
+    {
+        self.rows.insert(row.number(), row)?;
+        Ok(())
+    }
+
+    /// Takes the row with a number away.
+    pub fn take(&mut self, number: u32)
+        ensures { self.new ≡ without_row R.number_of number self.old }
+    {
+        let _ = self.rows.shift_remove(&number);
+    }
+}
