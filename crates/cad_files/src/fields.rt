@@ -1,13 +1,18 @@
 //! The fields of a record.
-
-ghost use Rattle.std.specs.Prelude.{◌≡◌, ◌≢◌, ◌∷◌, [], ◌<◌, ◌≤◌, ◌^◌, length, IfSome, IfNone, ℕ, Some, decimal};
+ghost use Rattle.std.specs.Prelude.{◌≡◌, ◌<◌, ◌≤◌, ◌^◌, length, map, IfSome, IfOk, ℕ, Some, decimal};
 ghost use Rattle.csv.specs.Records.{fields_of};
-ghost use Rattle.cad_files.specs.Fields.{digits_from, starts_well as starts_well_of, magnitude_of, number_of, coordinate_of};
+ghost use Rattle.cad_rows.specs.Limits.{IsNumber};
+ghost use Rattle.cad_files.specs.Record.{seven_of};
+ghost use Rattle.cad_files.specs.Fields.{digits_from, starts_well as starts_well_of, magnitude_of, number_of, coordinate_of, text_of, item_of, are_blank as are_blank_of};
 
+use cad_rows::{Item, Label, Memory, ParcelNo, PointNo, SourceNo, StringNo};
 use csv::ByteRecord;
+use std::alloc::Global;
+use std::marker::Model;
+use std::str;
 
 /// The seven fields of a record: its kind, and six more.
-#[derive(Clone, Copy, Debug)]
+#[derive(Drop)]
 pub(crate) struct Fields<'a> {
     pub kind: &'a [u8],
     pub a: &'a [u8],
@@ -18,10 +23,17 @@ pub(crate) struct Fields<'a> {
     pub f: &'a [u8],
 }
 
+impl<'a> Model for Fields<'a> {
+    ghost use Rattle.cad_files.specs.Record.{Seven};
+
+    ghost Value = { Seven };
+
+    ghost view = { λ r. record { kind = r.kind.now; a = r.a.now; b = r.b.now; c = r.c.now; d = r.d.now; e = r.e.now; f = r.f.now } };
+}
+
 /// The fields of a record of seven.
 pub(crate) fn seven(row: &ByteRecord) -> Option<Fields<'_>>
-    ensures found { IfSome result (λ r. fields_of row.now ≡ r.kind.now ∷ r.a.now ∷ r.b.now ∷ r.c.now ∷ r.d.now ∷ r.e.now ∷ r.f.now ∷ []) }
-    ensures none { IfNone result (length (fields_of row.now) ≢ 7) }
+    ensures { result ≡ seven_of (fields_of row.now) }
 {
     if row.len() != 7 {
         return None;
@@ -42,6 +54,18 @@ pub(crate) fn seven(row: &ByteRecord) -> Option<Fields<'_>>
         e,
         f,
     })
+}
+
+/// Whether these fields are unused.
+pub(crate) fn are_blank(fields: &[&[u8]]) -> bool
+    ensures { result ≡ are_blank_of (map (λ f. f.now) fields.now) }
+{
+    for field in fields {
+        if !field.is_empty() {
+            return false;
+        }
+    }
+    true
 }
 
 // The number that digits stand for.
@@ -73,6 +97,7 @@ fn starts_well(text: &[u8]) -> bool
 fn magnitude(text: &[u8], most: usize) -> Option<u64>
     requires { most ≤ 18 }
     ensures value { result ≡ magnitude_of most text.now }
+    ensures some { IfSome result (λ n. 1 ≤ n) }
     ensures bound { IfSome result (λ n. n < 10 ^ most) }
 {
     if starts_well(text) && text.len() <= most {
@@ -82,12 +107,53 @@ fn magnitude(text: &[u8], most: usize) -> Option<u64>
     }
 }
 
-/// The number of a row: 1 to 999,999,999, with no zero before it.
-pub(crate) fn number(text: &[u8]) -> Option<u32>
-    ensures { result ≡ number_of text.now }
+// The number of a row: 1 to 999,999,999, with no zero before it.
+fn number(text: &[u8]) -> Option<u32>
+    ensures value { result ≡ number_of text.now }
+    ensures within { IfSome result IsNumber }
 {
     match magnitude(text, 9) {
         Some(value) => Some(value as u32),
+        None => None,
+    }
+}
+
+/// The number of a source.
+pub(crate) fn source_no(text: &[u8]) -> Option<SourceNo>
+    ensures { result ≡ number_of text.now }
+{
+    match number(text) {
+        Some(no) => SourceNo::new(no),
+        None => None,
+    }
+}
+
+/// The number of a point.
+pub(crate) fn point_no(text: &[u8]) -> Option<PointNo>
+    ensures { result ≡ number_of text.now }
+{
+    match number(text) {
+        Some(no) => PointNo::new(no),
+        None => None,
+    }
+}
+
+// The number of a string.
+fn string_no(text: &[u8]) -> Option<StringNo>
+    ensures { result ≡ number_of text.now }
+{
+    match number(text) {
+        Some(no) => StringNo::new(no),
+        None => None,
+    }
+}
+
+// The number of a parcel.
+fn parcel_no(text: &[u8]) -> Option<ParcelNo>
+    ensures { result ≡ number_of text.now }
+{
+    match number(text) {
+        Some(no) => ParcelNo::new(no),
         None => None,
     }
 }
@@ -109,6 +175,42 @@ pub(crate) fn coordinate(text: &[u8]) -> Option<i64>
             Some(value) => Some(value as i64),
             None => None,
         }
+    }
+}
+
+/// A text of 1 to 80 bytes of UTF-8.
+#[tactic(auto, unfolding(crate::specs::Fields::text_of))]
+pub(crate) fn text(alloc: Global, bytes: &[u8]) -> Result<Option<Label>, Memory>
+    ensures { IfOk result (λ label. label ≡ text_of bytes.now) }
+{
+    match str::from_utf8(bytes) {
+        Ok(text) => Label::new(alloc, text),
+        Err(_) => Ok(None),
+    }
+}
+
+/// An item by the name of its kind, and its number.
+#[tactic(auto, unfolding(crate::specs::Fields::item_of))]
+pub(crate) fn item(kind: &[u8], number: &[u8]) -> Option<Item>
+    ensures { result ≡ item_of kind.now number.now }
+{
+    if kind == b"point".as_slice() {
+        match point_no(number) {
+            Some(point) => Some(Item::Point(point)),
+            None => None,
+        }
+    } else if kind == b"string".as_slice() {
+        match string_no(number) {
+            Some(string) => Some(Item::String(string)),
+            None => None,
+        }
+    } else if kind == b"parcel".as_slice() {
+        match parcel_no(number) {
+            Some(parcel) => Some(Item::Parcel(parcel)),
+            None => None,
+        }
+    } else {
+        None
     }
 }
 

@@ -3,6 +3,7 @@
 
 mod fields;
 mod input;
+mod lists;
 mod out;
 mod sink;
 

@@ -4,11 +4,11 @@
 mod commands;
 mod editor;
 mod laws;
-mod run;
+mod sequence;
 #[cfg(test)]
 mod tests;
 
 pub use commands::{Answer, Command, DEPTH_LIMIT, Depth, UndoFault};
 pub use editor::Editor;
 pub use laws::one_history;
-pub use run::{run, step};
+pub use sequence::{run, step};

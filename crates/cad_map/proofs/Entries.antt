@@ -1,5 +1,5 @@
 -- Entries of a table, each with its row under the row's number, beside the list of the rows.
-use Rattle.std.proofs.Common.{◌≡◌, ℕ, List, [], ◌∷◌, ◌++◌, Bool, true, false, cond, not, nat_eq, map, filter, refl, sym, ap, ◌∙◌, true≢false, Option, Some, None, is_some}
+use Rattle.std.proofs.Common.{◌≡◌, ℕ, List, [], ◌∷◌, ◌++◌, Bool, true, false, cond, not, nat_eq, map, filter, refl, sym, ap, ◌∙◌, true≢false, Option, Some, None, is_some, zero, suc, take, slice_get, subst, ◌+◌, add-one}
 use Rattle.std.specs.Prelude.{find, if◌then◌else◌}
 use Rattle.std.specs.Map.{lookup, keys_of, values_of, remove_entry}
 use Rattle.std.specs.List.{AllByRecursion, IsDistinct}
@@ -105,3 +105,26 @@ module _ {R : Type 0} (number : R → ℕ) where
       by : AreNumbered number (remove_entry (nat_eq n) es) → (b : Bool) → nat_eq n e.0 ≡ b → AreNumbered number (remove_entry (nat_eq n) (e ∷ es))
       by again true is = rw is h.1
       by again false is = rw is (h.0, again)
+
+  -- a fact of each key holds of the number of each row
+  number-from_keys : (P : ℕ → Type 0) (es : List (ℕ × R)) (i : ℕ) (r : R) → AreNumbered number es → AllByRecursion P (keys_of es) → slice_get (values_of es) i ≡ Some r → P (number r)
+  number-from_keys P [] i r h all at = cc
+  number-from_keys P (e ∷ es) zero r h all at =
+      let same : e.1 ≡ r = cc in
+      subst P (h.0 ∙ ap number same) all.0
+  number-from_keys P (e ∷ es) (suc i) r h all at = number-from_keys P es i r h.1 all.1 at
+
+  -- no row before a place has the number of the row at it
+  pub row_with-before : (es : List (ℕ × R)) (i : ℕ) (r : R) → AreNumbered number es → IsDistinct nat_eq (keys_of es) → slice_get (values_of es) i ≡ Some r → row_with number (number r) (take i (values_of es)) ≡ None
+  row_with-before [] i r h unique at = cc
+  row_with-before (e ∷ es) zero r h unique at = refl
+  row_with-before (e ∷ es) (suc i) r h unique at =
+      let differs : nat_eq e.0 (number r) ≡ false = number-from_keys (λ k. nat_eq e.0 k ≡ false) es i r h.1 (IsDistinct-head nat_eq e.0 (keys_of es) unique) at in
+      ap (λ (b : Bool). cond b (Some e.1) (row_with number (number r) (take i (values_of es)))) (ap (λ (k : ℕ). nat_eq k (number r)) (sym h.0) ∙ differs)
+      ∙ row_with-before es i r h.1 (IsDistinct-tail nat_eq e.0 (keys_of es) unique) at
+
+-- one more of the first elements
+pub take-more : {X : Type 0} (xs : List X) (i : ℕ) (x : X) → slice_get xs i ≡ Some x → take i xs ++ x ∷ [] ≡ take (i + 1) xs
+take-more [] i x at = cc
+take-more (y ∷ xs) zero x at = let same : y ≡ x = cc in ap (λ (z : _). z ∷ []) (sym same)
+take-more (y ∷ xs) (suc i) x at = rw (add-one (suc i)) (ap (λ (zs : List _). y ∷ zs) (take-more xs i x at ∙ ap (λ (n : ℕ). take n xs) (add-one i)))

@@ -1,6 +1,5 @@
 -- A map: its rows in order of entry.
-use Rattle.std.specs.Prelude.{ℕ, Bool, ◌==◌, List, [], length, Option}
-use Rattle.std.specs.List.{list_any}
+use Rattle.std.specs.Prelude.{ℕ, Bool, List, [], Option, is_some}
 use Rattle.cad_rows.specs.declared.rows.PointRow.{PointRow}
 use Rattle.cad_rows.specs.declared.rows.SourceRow.{SourceRow}
 use Rattle.cad_map.specs.Table.{row_with}
@@ -15,12 +14,6 @@ empty_map = record { sources = []; points = [] }
 
 -- ---- Rows by their numbers
 
-abbrev pub has_point : Map → ℕ → Bool
-has_point m p = list_any (λ r. r.number == p) m.points
-
-abbrev pub has_source : Map → ℕ → Bool
-has_source m s = list_any (λ r. r.number == s) m.sources
-
 -- the row of a point
 abbrev pub point_of : Map → ℕ → Option PointRow
 point_of m p = row_with (λ r. r.number) p m.points
@@ -28,3 +21,9 @@ point_of m p = row_with (λ r. r.number) p m.points
 -- the row of a source
 abbrev pub source_of : Map → ℕ → Option SourceRow
 source_of m s = row_with (λ r. r.number) s m.sources
+
+abbrev pub has_point : Map → ℕ → Bool
+has_point m p = is_some (point_of m p)
+
+abbrev pub has_source : Map → ℕ → Bool
+has_source m s = is_some (source_of m s)

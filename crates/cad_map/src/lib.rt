@@ -1,8 +1,10 @@
 //! What a map is, when it is valid, and what an edit makes of it.
 #![tactic(auto)]
 
+mod plain;
 mod store;
 mod table;
 
+pub use plain::PlainMap;
 pub use store::{Counts, MapStore, MapView};
 pub use table::{Numbered, Table};

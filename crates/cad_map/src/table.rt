@@ -89,10 +89,22 @@ impl<R: Numbered> Table<R> {
         Ok(())
     }
 
-    /// Takes the row with a number away.
+    /// Takes the row with a number away, if there is one.
     pub fn take(&mut self, number: u32)
         ensures { self.new ≡ without_row R.number_of number self.old }
     {
         let _ = self.rows.shift_remove(&number);
+    }
+
+    /// The same rows.
+    pub fn copy(&self) -> Result<Table<R>, Memory>
+        ensures { IfOk result (λ copied. copied ≡ self.now) }
+    {
+        let mut copied = Table::new(*self.rows.allocator());
+        for place in 0..self.len() {
+            let row = self.at(place).unwrap();
+            copied.put(row.copied()?)?;
+        }
+        Ok(copied)
     }
 }

@@ -1,0 +1,68 @@
+//! Lists of numbers in a field.
+ghost use Rattle.std.specs.Prelude.{◌≡◌, ◌<◌, ◌==◌, ◌∷◌, [], length, is_some, IfOk, MatchOption};
+ghost use Rattle.std.specs.List.{list_any, slice_split};
+ghost use Rattle.cad_files.specs.Fields.{numbers_of, is_space, repeated};
+
+use crate::fields::source_no;
+use cad_rows::{Memory, Numbers, SourceNo};
+use std::alloc::Global;
+
+// The text before the first space, and the text after it, where there is one.
+fn first_part(text: &[u8]) -> (&[u8], Option<&[u8]>)
+    ensures parts { MatchOption result.1 (slice_split is_space text.now ≡ result.0.now ∷ []) (λ rest. slice_split is_space text.now ≡ result.0.now ∷ slice_split is_space rest.now) }
+    ensures shorter { MatchOption result.1 (Unit {0}) (λ rest. length rest.now < length text.now) }
+{
+    for i in 0..text.len() {
+        if text[i] == b' ' {
+            return (text.split_at(i).0, Some(text.split_at(i + 1).1));
+        }
+    }
+    (text, None)
+}
+
+/// The numbers of sources, with one space between them.
+#[tactic(auto, unfolding(crate::specs::Fields::numbers_of))]
+pub(crate) fn source_list(alloc: Global, text: &[u8]) -> Result<Option<Numbers<SourceNo>>, Memory>
+    ensures { IfOk result (λ list. list ≡ numbers_of text.now) }
+{
+    let mut sources = Numbers::new(alloc);
+    if text.is_empty() {
+        return Ok(Some(sources));
+    }
+    let mut rest = text;
+    loop {
+        let (part, more) = first_part(rest);
+        let Some(source) = source_no(part) else {
+            return Ok(None);
+        };
+        sources.push(source)?;
+        match more {
+            Some(more) => rest = more,
+            None => return Ok(Some(sources)),
+        }
+    }
+}
+
+// Whether a number is one of these.
+fn is_among(no: u32, list: &[SourceNo]) -> bool
+    ensures { result ≡ list_any (λ k. k == no) list.now }
+{
+    for other in list {
+        if other.get() == no {
+            return true;
+        }
+    }
+    false
+}
+
+/// Whether a number stands twice.
+pub(crate) fn has_repeated(list: &[SourceNo]) -> bool
+    ensures { result ≡ is_some (repeated [] list.now) }
+{
+    for i in 0..list.len() {
+        if is_among(list[i].get(), list.split_at(i).0) {
+            return true;
+        }
+    }
+    false
+}
