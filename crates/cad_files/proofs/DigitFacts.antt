@@ -1,9 +1,10 @@
 -- Reading digits from the left.
-use Rattle.std.proofs.Common.{◌≡◌, sym, refl, ℕ, suc, ◌+◌, ◌-◌, ◌*◌, ◌^◌, ◌<◌, ◌≤◌, ◌⊎◌, List, ◌∷◌, length, drop, get_or, Option, Some, None, IfSome, arith, add-one, drop-cons}
+use Rattle.std.proofs.Common.{◌≡◌, sym, refl, ℕ, suc, ◌+◌, ◌-◌, ◌*◌, ◌^◌, ◌<◌, ◌≤◌, ◌⊎◌, List, ◌∷◌, length, drop, get_or, Option, Some, None, IfSome, arith, add-one, drop-cons, true, false, inl, inr, [], nat_le, ◌&&◌}
 use Rattle.std.proofs.lemmas.List.{drop_all}
 use Rattle.std.proofs.Math.Nat.{pow-suc, pow-le-pow_right}
+use Rattle.std.proofs.lemmas.Bool.{cases_Bool}
 use Rattle.std.proofs.lemmas.Bool.Decides.{nat_tests}
-use Rattle.cad_files.specs.Fields.{digits_from}
+use Rattle.cad_files.specs.Fields.{digits_from, starts_well}
 
 pub digits_next : (v d : ℕ) (rest : List ℕ) → 48 ≤ d → d ≤ 57 → digits_from v (d ∷ rest) ≡ digits_from (v * 10 + (d - 48)) rest
 unfolding digits_from
@@ -38,3 +39,26 @@ short_bound v n most h few = omega (arith, pow-le-pow_right {n = 10} (omega arit
 pub short_if : (o : Option ℕ) (n most : ℕ) → IfSome o (λ v. v < 10 ^ n) → n ≤ most → IfSome o (λ v. v < 10 ^ most)
 short_if None n most h few = tt
 short_if (Some v) n most h few = short_bound v n most h few
+
+if_above : (o : Option ℕ) (v w : ℕ) → w ≤ v → IfSome o (λ n. v ≤ n) → IfSome o (λ n. w ≤ n)
+if_above None v w h e = tt
+if_above (Some n) v w h e = omega arith
+
+-- more digits make a number no less
+pub digits_grow : (v : ℕ) (ds : List ℕ) → IfSome (digits_from v ds) (λ n. v ≤ n)
+unfolding digits_from
+digits_grow v [] = omega arith
+digits_grow v (d ∷ ds) = elim (cases_Bool (nat_le 48 d && nat_le d 57)) [
+  | inl digit ↦ rw digit (if_above (digits_from (v * 10 + (d - 48)) ds) (v * 10 + (d - 48)) v (omega arith) (digits_grow (v * 10 + (d - 48)) ds))
+  | inr other ↦ rw other tt
+]
+
+-- digits of which the first is no zero stand for no zero
+pub digits_some : (text : List ℕ) → starts_well text ≡ true → IfSome (digits_from 0 text) (λ n. 1 ≤ n)
+unfolding digits_from
+digits_some [] starts = cc starts
+digits_some (d ∷ ds) starts =
+    let low : 49 ≤ d = grind (arith, nat_tests) in
+    let high : d ≤ 57 = grind (arith, nat_tests) in
+    let digit : (nat_le 48 d && nat_le d 57) ≡ true = grind (arith, nat_tests) in
+    rw digit (if_above (digits_from (0 * 10 + (d - 48)) ds) (0 * 10 + (d - 48)) 1 (omega arith) (digits_grow (0 * 10 + (d - 48)) ds))

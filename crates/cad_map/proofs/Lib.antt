@@ -1,1 +1,3 @@
 mod Entries
+pub mod Lists
+pub mod Kept

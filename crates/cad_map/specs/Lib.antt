@@ -4,3 +4,4 @@ pub mod Valid
 pub mod Refusals
 pub mod Effects
 pub mod Outcome
+pub mod Asked
