@@ -1,5 +1,5 @@
 //! Why an edit of a valid map is refused before anything is tried: one function for each reason, asked in order.
-ghost use Rattle.std.specs.Prelude.{◌≡◌, IsTrue, ◌↔◌, unwrap_or, option_map, [], nat_le, length};
+ghost use Rattle.std.specs.Prelude.{◌≡◌, IsTrue, ◌↔◌, unwrap_or, option_map, [], nat_le, length, if◌then◌else◌};
 ghost use Rattle.std.specs.Option.{option_copied};
 ghost use Rattle.cad_rows.specs.Limits.{source_limit};
 ghost use Rattle.geo_exact.specs.Position.{in_range};
@@ -60,12 +60,12 @@ fn range_row(edit: &Edit) -> Option<Refusal>
     }
 }
 
-fn is_known<M: MapView>(map: &M, name: Name) -> bool
-    ensures { result ≡ is_there (M.map map.now) name }
+fn is_known<M: MapView>(map: &M, name: &Name) -> bool
+    ensures { result ≡ is_there (M.map map.now) name.now }
 {
     match name {
-        Name::Point(no) => map.point(no).is_some(),
-        Name::Source(no) => map.source(no).is_some(),
+        Name::Point(no) => map.point(*no).is_some(),
+        Name::Source(no) => map.source(*no).is_some(),
         Name::String(_) | Name::Parcel(_) => false,
     }
 }
@@ -80,6 +80,17 @@ fn name_of(item: Item) -> Name
     }
 }
 
+/// The refusal of an edit that names this row, where it isn't there.
+fn unless_known<M: MapView>(map: &M, name: Name) -> Option<Refusal>
+    ensures { result ≡ (if is_there (M.map map.now) name then None else Some (Refusal.Unknown name)) }
+{
+    if is_known(map, &name) {
+        None
+    } else {
+        Some(Refusal::Unknown(name))
+    }
+}
+
 /// A row that the edit names isn't there.
 fn unknown_row<M: MapView>(map: &M, edit: &Edit) -> Option<Refusal>
     ensures { result ≡ unknown (M.map map.now) edit.now }
@@ -87,23 +98,27 @@ fn unknown_row<M: MapView>(map: &M, edit: &Edit) -> Option<Refusal>
     match edit {
         Edit::AddSource { .. } | Edit::AddPoint { .. } => None,
         Edit::DropPoint { point } => {
-            if is_known(map, Name::Point(*point)) {
-                None
-            } else {
-                Some(Refusal::Unknown(Name::Point(*point)))
-            }
+            let no = *point;
+            unless_known(map, Name::Point(no))
         }
         Edit::Attach { item, source } => {
-            let item = name_of(*item);
-            let source = Name::Source(*source);
-            if !is_known(map, item) {
-                Some(Refusal::Unknown(item))
-            } else if !is_known(map, source) {
-                Some(Refusal::Unknown(source))
-            } else {
-                None
+            let no = *source;
+            if let Some(refusal) = unless_known(map, name_of(*item)) {
+                return Some(refusal);
             }
+            unless_known(map, Name::Source(no))
         }
+    }
+}
+
+/// The refusal of an edit that gives this number, where it is in use.
+fn if_known<M: MapView>(map: &M, name: Name) -> Option<Refusal>
+    ensures { result ≡ (if is_there (M.map map.now) name then Some (Refusal.Taken name) else None) }
+{
+    if is_known(map, &name) {
+        Some(Refusal::Taken(name))
+    } else {
+        None
     }
 }
 
@@ -111,15 +126,16 @@ fn unknown_row<M: MapView>(map: &M, edit: &Edit) -> Option<Refusal>
 fn taken_row<M: MapView>(map: &M, edit: &Edit) -> Option<Refusal>
     ensures { result ≡ taken (M.map map.now) edit.now }
 {
-    let name = match edit {
-        Edit::AddSource { source, .. } => Name::Source(*source),
-        Edit::AddPoint { point, .. } => Name::Point(*point),
-        Edit::DropPoint { .. } | Edit::Attach { .. } => return None,
-    };
-    if is_known(map, name) {
-        Some(Refusal::Taken(name))
-    } else {
-        None
+    match edit {
+        Edit::AddSource { source, .. } => {
+            let no = *source;
+            if_known(map, Name::Source(no))
+        }
+        Edit::AddPoint { point, .. } => {
+            let no = *point;
+            if_known(map, Name::Point(no))
+        }
+        Edit::DropPoint { .. } | Edit::Attach { .. } => None,
     }
 }
 

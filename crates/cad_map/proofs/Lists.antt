@@ -98,6 +98,17 @@ module _ {R : Type 0} (number : R → ℕ) where
       by true = holds
       by false = all.0
 
+  pub found-number : (n : ℕ) (rows : List R) (row : R) → row_with number n rows ≡ Some row → number row ≡ n
+  found-number n [] row found = cc
+  found-number n (r ∷ rows) row found = by (λ rest. found-number n rows row rest) (nat_eq (number r) n) refl
+    where
+      by : (row_with number n rows ≡ Some row → number row ≡ n) → (b : Bool) → nat_eq (number r) n ≡ b → number row ≡ n
+      by again true is =
+          let here : Some r ≡ Some row = sym (ap (λ (b : Bool). cond b (Some r) (row_with number n rows)) is) ∙ found in
+          let same : r ≡ row = cc in
+          ap number (sym same) ∙ eqb-true (number r) n is
+      by again false is = again (sym (ap (λ (b : Bool). cond b (Some r) (row_with number n rows)) is) ∙ found)
+
   pub length-without_row : (n : ℕ) (rows : List R) → length (without_row number n rows) ≤ length rows
   length-without_row n [] = omega arith
   length-without_row n (r ∷ rows) = by (length-without_row n rows) (nat_eq (number r) n) refl
@@ -105,3 +116,7 @@ module _ {R : Type 0} (number : R → ℕ) where
       by : length (without_row number n rows) ≤ length rows → (b : Bool) → nat_eq (number r) n ≡ b → length (without_row number n (r ∷ rows)) ≤ length (r ∷ rows)
       by rest true is = rw is (omega (arith, rest))
       by rest false is = rw is (omega (arith, rest))
+
+  -- a row that is found has the number, and is found by it
+  pub found-again : (n : ℕ) (rows : List R) (row : R) → row_with number n rows ≡ Some row → is_some (row_with number (number row) rows) ≡ true
+  found-again n rows row found = ap (λ (k : ℕ). is_some (row_with number k rows)) (found-number n rows row found) ∙ ap (λ (o : Option R). is_some o) found

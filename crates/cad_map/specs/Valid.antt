@@ -1,5 +1,6 @@
 -- What makes a map valid, rule by rule. (A map has points and sources, so the rules on strings and rings have nothing to say.)
-use Rattle.std.specs.Prelude.{◌≢◌, ℕ, ◌≤◌, Bool, true, ◌&&◌, not, ⊤, List, [], ◌∷◌, length, map, IsTrue, is_some, int_le}
+use Rattle.std.specs.Prelude.{◌≢◌, ℕ, ◌≤◌, Bool, true, ◌&&◌, not, ⊤, List, [], ◌∷◌, length, map, IsTrue, is_some}
+use Rattle.std.specs.Ordering.{int_eq}
 use Rattle.std.specs.List.{list_all, AllByRecursion}
 use Rattle.geo_exact.specs.Position.{Position, OnTheMap}
 use Rattle.cad_rows.specs.Limits.{IsNumber, IsLabel, row_limit, source_limit}
@@ -39,7 +40,7 @@ pub record HasSoundRows (m : Map) : Type 0 where
 -- ---- V3
 
 abbrev pub is_same_position : Position → Position → Bool
-is_same_position a b = int_le a.x b.x && int_le b.x a.x && int_le a.y b.y && int_le b.y a.y
+is_same_position a b = int_eq a.x b.x && int_eq a.y b.y
 
 -- the test passes for each element and each later one
 abbrev pub each_pair : {X : Type 0} → (X → X → Bool) → List X → Bool

@@ -61,6 +61,11 @@ impl PlainMap {
         }
     }
 
+    /// What the map takes its memory from.
+    pub fn allocator(&self) -> Global {
+        self.points.allocator()
+    }
+
     /// An equal map.
     pub fn copy(&self) -> Result<PlainMap, Memory>
         ensures { IfOk result (λ copied. copied ≡ self.now) }

@@ -48,6 +48,11 @@ impl<R: Numbered> Table<R> {
         }
     }
 
+    /// What the table takes its memory from.
+    pub fn allocator(&self) -> Global {
+        *self.rows.allocator()
+    }
+
     pub fn len(&self) -> usize
         ensures { result ≡ length self.now }
     {
