@@ -1,5 +1,5 @@
 -- An edit of a map has one outcome.
-use Rattle.std.proofs.Common.{◌≡◌, Some, None, refl, sym, ◌∙◌, subst}
+use Rattle.std.proofs.Common.{◌≡◌, Some, None, refl, sym, ap, ◌∙◌, subst}
 use Rattle.std.proofs.lemmas.Option.{same_Some}
 use Rattle.cad_rows.specs.declared.edits.Edit.{Edit}
 use Rattle.cad_rows.specs.declared.refusals.Rule.{Rule}
@@ -9,17 +9,16 @@ use Rattle.cad_rows.specs.declared.refusals.Refusal.TheVariants.{Breaks, Memory}
 use Rattle.cad_map.specs.Map.{Map}
 use Rattle.cad_map.specs.Valid.{IsValid, Keeps, FirstBroken}
 use Rattle.cad_map.specs.Effects.{after}
-use Rattle.cad_map.specs.Refusals.{first_refusal}
 use Rattle.cad_map.specs.Outcome.{IsRefused, LeadsTo, MayRefuse}
 use Rattle.cad_map.specs.Outcome.IsRefused.{at_once, breaking}
 use Rattle.cad_map.specs.Outcome.MayRefuse.{refused, out_of_memory}
 
 keeps : (m : Map) (r : Rule) → IsValid m → Keeps m r
-keeps m V3 valid = valid.v3
-keeps m V4 valid = tt
-keeps m V6 valid = tt
-keeps m V7 valid = tt
-keeps m V8 valid = tt
+keeps m V3 valid = valid.keeps.v3
+keeps m V4 valid = valid.keeps.v4
+keeps m V6 valid = valid.keeps.v6
+keeps m V7 valid = valid.keeps.v7
+keeps m V8 valid = valid.keeps.v8
 
 none_broken : (m : Map) (r : Rule) → IsValid m → ¬ FirstBroken m r
 none_broken m r valid b = b.broken (keeps m r valid)
@@ -58,17 +57,17 @@ leads-one m e x y p q = p.is ∙ sym q.is
 
 -- an edit that leads to a map is not refused
 pub leads-not_refused : (m : Map) (e : Edit) (x : Map) (r : Refusal) → LeadsTo m e x → ¬ IsRefused m e r
-leads-not_refused m e x r leads (at_once {r} at) = absurd (cc (leads.allowed, at))
+leads-not_refused m e x r leads (at_once at) = let never : None ≡ Some r = sym leads.allowed ∙ at in absurd (cc)
 leads-not_refused m e x r leads (breaking {rule} none broken) = none_broken (after m e) rule (subst IsValid leads.is leads.valid) broken
 
 -- an edit is refused in one way
 pub refused-one : (m : Map) (e : Edit) (r s : Refusal) → IsRefused m e r → IsRefused m e s → r ≡ s
-refused-one m e r s (at_once {r} at) (at_once {s} at') = same_Some _ _ (sym at ∙ at')
-refused-one m e r s (at_once {r} at) (breaking {rule} none broken) = absurd (cc (at, none))
-refused-one m e r s (breaking {rule} none broken) (at_once {s} at) = absurd (cc (at, none))
-refused-one m e r s (breaking {rule} none broken) (breaking {other} none' broken') = ap Breaks (broken-one (after m e) rule other broken broken')
+refused-one m e r s (at_once at) (at_once at') = same_Some _ _ (sym at ∙ at')
+refused-one m e r s (at_once at) (breaking none broken) = let never : None ≡ Some r = sym none ∙ at in absurd (cc)
+refused-one m e r s (breaking none broken) (at_once at) = let never : None ≡ Some s = sym none ∙ at in absurd (cc)
+refused-one m e r s (breaking {rule} none broken) (breaking {rule = other} none' broken') = ap Breaks (broken-one (after m e) rule other broken broken')
 
 -- beside want of memory a store refuses as the edit is refused
 pub refused-but_memory : (m : Map) (e : Edit) (r : Refusal) → MayRefuse m e r → ¬ (r ≡ Memory) → IsRefused m e r
-refused-but_memory m e r (refused {r} is) not_memory = is
+refused-but_memory m e r (refused is) not_memory = is
 refused-but_memory m e r (out_of_memory none) not_memory = absurd (not_memory refl)

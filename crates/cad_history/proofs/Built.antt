@@ -1,5 +1,5 @@
 -- The map that is shown is the opened one with the standing edits applied in order.
-use Rattle.std.proofs.Common.{◌≡◌, ℕ, zero, suc, ◌+◌, ◌<◌, ◌≤◌, List, [], ◌∷◌, ◌++◌, length, take, slice_get, Some, refl, sym, ap, ◌∙◌, arith}
+use Rattle.std.proofs.Common.{◌≡◌, ℕ, zero, suc, ◌+◌, List, [], ◌∷◌, length, take, slice_get, Some, refl, sym, ap, ◌∙◌, subst, arith}
 use Rattle.std.proofs.lemmas.Option.{same_Some}
 use Rattle.cad_rows.specs.declared.edits.Edit.{Edit}
 use Rattle.cad_map.specs.Map.{Map}
@@ -24,7 +24,7 @@ built_from : (maps : List Map) (edits : List Edit) (k : ℕ) (first a : Map) →
 built_from [] edits k first a chain same at_first at = absurd (omega arith)
 built_from (m ∷ maps) edits k first a chain same at_first at =
     let is_first = same_Some _ _ at_first in
-    rw is_first (built_to k m maps edits a chain (omega arith) at)
+    subst (λ x. LeadAlong x (take k edits) a) is_first (built_to k m maps edits a chain (omega arith) at)
 
 pub built_shown : (h : History) (first a : Map) → IsHistory h → opened h ≡ Some first → shown h ≡ Some a → LeadAlong first (standing h) a
 unfolding Chain

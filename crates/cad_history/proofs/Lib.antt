@@ -1,6 +1,8 @@
-pub mod Cut
-pub mod Broken
-pub mod Moves
+mod Cut
+mod Broken
+mod Moves
+mod Calls
+mod Sources
 pub mod Runs
 pub mod OneHistory
 pub mod Built

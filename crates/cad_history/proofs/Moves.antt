@@ -12,6 +12,19 @@ use Rattle.cad_history.specs.History.{History, IsHistory, shown, beginning, with
 use Rattle.cad_history.specs.Standing.{EditorState, StandsFor}
 use Rattle.cad_history.proofs.Cut.{length-cut, cut_below, cut_at}
 
+-- the history of one valid map is one
+pub IsHistory-beginning : (m : Map) (depth : ℕ) → IsValid m → IsHistory (beginning m depth)
+IsHistory-beginning m depth valid = record {
+  each = λ i e b a at_e at_b at_a. absurd (omega (arith, slice_get_within {A = Edit} [] i e at_e));
+  valid = λ i n at_n.
+      let here : i ≡ 0 = omega (arith, slice_get_within (m ∷ []) i n at_n) in
+      subst IsValid (same_Some _ _ (ap (slice_get (m ∷ [])) (sym here) ∙ at_n)) valid;
+  one_more = refl;
+  above_floor = omega arith;
+  at_a_map = omega arith;
+  within_depth = omega arith;
+}
+
 -- a history with an edit
 pub IsHistory-with_edit : (h : History) (e : Edit) (b a : Map) → IsHistory h → shown h ≡ Some b → LeadsTo b e a → IsHistory (with_edit h e a)
 IsHistory-with_edit h e b a is at_b leads =
@@ -64,6 +77,21 @@ module _ {S R : Type 0} (map_of : S → Map) (belongs : R → Map → Map → Ty
   -- an editor whose map is valid stands for valid maps
   pub shown-valid : (s : EditorState S R) (h : History) → StandsFor map_of belongs s h → IsValid (map_of s.store)
   shown-valid s h st = st.history.valid h.place (map_of s.store) st.shows
+
+  -- no more edits stand than there are records
+  pub within_records : (s : EditorState S R) (h : History) → StandsFor map_of belongs s h → s.place ≤ length s.records
+  within_records s h st = omega (arith, st.at_place, st.each_pair, st.history.at_a_map)
+
+  -- the store stays where it is
+  pub stayed : (s t : S) (rs : List R) (p d : ℕ) (h : History) → StandsFor map_of belongs (record { store = s; records = rs; place = p; depth = d }) h → map_of t ≡ map_of s → StandsFor map_of belongs (record { store = t; records = rs; place = p; depth = d }) h
+  stayed s t rs p d h st same = record {
+    history = st.history;
+    shows = st.shows ∙ ap Some (sym same);
+    pairs = st.pairs;
+    each_pair = st.each_pair;
+    at_place = st.at_place;
+    of_depth = st.of_depth;
+  }
 
   -- the store goes to another place
   pub moved : (s t : S) (rs : List R) (p q d k : ℕ) (h : History) → StandsFor map_of belongs (record { store = s; records = rs; place = p; depth = d }) h → h.floor + q ≡ k → slice_get h.maps k ≡ Some (map_of t) → StandsFor map_of belongs (record { store = t; records = rs; place = q; depth = d }) (record h { place = k })

@@ -1,5 +1,5 @@
 -- Steps of a history in turn.
-use Rattle.std.proofs.Common.{◌≡◌, ◌+◌, ◌-◌, ◌<◌, ◌≤◌, List, [], ◌∷◌, ◌++◌, length, take, slice_get, Some, refl, sym, ap, ◌∙◌, subst, arith}
+use Rattle.std.proofs.Common.{◌≡◌, ◌+◌, ◌-◌, List, [], ◌∷◌, ◌++◌, refl, ap, ◌∙◌, subst, arith}
 use Rattle.cad_history.specs.declared.commands.Command.{Command}
 use Rattle.cad_history.specs.declared.commands.Answer.{Answer}
 use Rattle.cad_history.specs.History.{History, IsHistory, opened}
@@ -17,7 +17,7 @@ run_more h mid new (d ∷ cs) (b ∷ bs) c a run step = (run.0, run.1, run_more 
 
 -- a step of a history is one
 pub IsHistory-step : (h new : History) (c : Command) (a : Answer) → IsHistory h → Step h c a new → IsHistory new
-IsHistory-step h new c a is (edit_made {e} {x} {y} at leads) = IsHistory-with_edit h e x y is at leads
+IsHistory-step h new c a is (edit_made {e} {old = x} {new = y} at leads) = IsHistory-with_edit h e x y is at leads
 IsHistory-step h new c a is (edit_refused at may) = is
 IsHistory-step h new c a is (undo_made can) = IsHistory-at h (h.place - 1) is (omega arith) (omega (arith, is.at_a_map))
 IsHistory-step h new c a is (nothing_to_undo cannot) = is
@@ -28,7 +28,7 @@ IsHistory-step h new c a is (no_memory_to_redo can) = is
 
 -- no step changes the opened map
 opened-step : (h new : History) (c : Command) (a : Answer) → IsHistory h → Step h c a new → opened new ≡ opened h
-opened-step h new c a is (edit_made {e} {x} {y} at leads) = cut_below (h.place + 1) h.maps y 0 (omega (arith, is.at_a_map)) (omega arith)
+opened-step h new c a is (edit_made {e} {old = x} {new = y} at leads) = cut_below (h.place + 1) h.maps y 0 (omega (arith, is.at_a_map)) (omega arith)
 opened-step h new c a is (edit_refused at may) = refl
 opened-step h new c a is (undo_made can) = refl
 opened-step h new c a is (nothing_to_undo cannot) = refl
@@ -44,10 +44,3 @@ opened-run [] (a ∷ answers) h new is run = absurd run
 opened-run (c ∷ cs) [] h new is run = absurd run
 opened-run (c ∷ cs) (a ∷ answers) h new is run =
     opened-run cs answers run.0 new (IsHistory-step h run.0 c a is run.1) run.2 ∙ opened-step h run.0 c a is run.1
-
--- each command has its answer
-pub length-run : (cs : List Command) (answers : List Answer) (h new : History) → Run h cs answers new → length answers ≡ length cs
-length-run [] [] h new run = refl
-length-run [] (a ∷ answers) h new run = absurd run
-length-run (c ∷ cs) [] h new run = absurd run
-length-run (c ∷ cs) (a ∷ answers) h new run = omega (arith, length-run cs answers run.0 new run.2)

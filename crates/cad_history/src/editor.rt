@@ -69,9 +69,7 @@ impl<M: MapStore> Editor<M> {
         if self.place == 0 {
             return Err(UndoFault::Nothing);
         }
-        let Some(record) = self.records.get(self.place - 1) else {
-            return Err(UndoFault::Nothing);
-        };
+        let record = self.records.get(self.place - 1).unwrap();
         match self.store.back(record) {
             Ok(()) => {
                 self.place -= 1;
@@ -90,9 +88,7 @@ impl<M: MapStore> Editor<M> {
         if self.place >= self.records.len() {
             return Err(UndoFault::Nothing);
         }
-        let Some(record) = self.records.get(self.place) else {
-            return Err(UndoFault::Nothing);
-        };
+        let record = self.records.get(self.place).unwrap();
         match self.store.forward(record) {
             Ok(()) => {
                 self.place += 1;

@@ -6,9 +6,11 @@ mod editor;
 mod laws;
 mod sequence;
 #[cfg(test)]
+mod source_store;
+#[cfg(test)]
 mod tests;
 
 pub use commands::{Answer, Command, DEPTH_LIMIT, Depth, UndoFault};
 pub use editor::Editor;
-pub use laws::one_history;
+pub use laws::{histories_stay, one_history};
 pub use sequence::{run, step};
