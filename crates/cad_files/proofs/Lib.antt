@@ -3,3 +3,9 @@ pub mod FieldFacts
 pub mod InputFacts
 pub mod DecimalFacts
 pub mod ListFacts
+pub mod PlanFacts
+pub mod RowFacts
+pub mod NameFacts
+pub mod ValidFacts
+pub mod TextFacts
+pub mod AgainFacts

@@ -1,4 +1,10 @@
 pub mod Record
 pub mod Fields
+pub mod Rows
 pub mod Input
+pub mod Plan
+pub mod Building
+pub mod Line
+pub mod Texts
+pub mod Answers
 pub mod Sinks

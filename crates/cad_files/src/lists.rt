@@ -1,11 +1,12 @@
 //! Lists of numbers in a field.
-ghost use Rattle.std.specs.Prelude.{◌≡◌, ◌<◌, ◌==◌, ◌∷◌, [], length, is_some, IfOk, MatchOption};
+ghost use Rattle.std.specs.Prelude.{◌≡◌, ◌<◌, ◌==◌, ◌∷◌, [], length, is_some, None, Some, IfOk, MatchOption, if◌then◌else◌};
 ghost use Rattle.std.specs.List.{list_any, slice_split};
 ghost use Rattle.cad_files.specs.Fields.{numbers_of, is_space, repeated};
 
 use crate::fields::source_no;
 use cad_rows::{Memory, Numbers, SourceNo};
 use std::alloc::Global;
+use std::marker::Model;
 
 // The text before the first space, and the text after it, where there is one.
 fn first_part(text: &[u8]) -> (&[u8], Option<&[u8]>)
@@ -55,8 +56,8 @@ fn is_among(no: u32, list: &[SourceNo]) -> bool
     false
 }
 
-/// Whether a number stands twice.
-pub(crate) fn has_repeated(list: &[SourceNo]) -> bool
+// Whether a number stands twice.
+fn has_repeated(list: &[SourceNo]) -> bool
     ensures { result ≡ is_some (repeated [] list.now) }
 {
     for i in 0..list.len() {
@@ -65,4 +66,48 @@ pub(crate) fn has_repeated(list: &[SourceNo]) -> bool
         }
     }
     false
+}
+
+/// Sources of which none stands twice.
+#[derive(Debug, Drop)]
+pub struct DistinctSources {
+    list: Numbers<SourceNo>,
+}
+
+impl Model for DistinctSources {
+    ghost use Rattle.std.specs.Prelude.{◌≡◌, ℕ, List, [], None};
+    ghost use Rattle.cad_files.specs.Fields.{repeated};
+
+    ghost Value = { List ℕ };
+
+    ghost view = { λ a. a.list };
+
+    ghost invariant = { λ a. repeated [] a.list ≡ None };
+}
+
+impl DistinctSources {
+    // The same sources, or `None` where one stands twice.
+    pub(crate) fn new(list: Numbers<SourceNo>) -> Option<DistinctSources>
+        ensures { result ≡ (if is_some (repeated [] list) then None else Some list) }
+    {
+        if has_repeated(list.as_slice()) {
+            return None;
+        }
+        Some(DistinctSources { list })
+    }
+
+    // How many there are.
+    pub(crate) fn len(&self) -> usize
+        ensures { result ≡ length self.now }
+    {
+        self.list.len()
+    }
+
+    // The same sources as a list.
+    pub(crate) fn into_numbers(self) -> Numbers<SourceNo>
+        ensures value { result ≡ self }
+        ensures distinct { repeated [] result ≡ None }
+    {
+        self.list
+    }
 }

@@ -1,0 +1,57 @@
+//! The program's arguments, and a job in a file.
+use crate::cases::lines;
+use cad_files::MemSink;
+use cad_history::Depth;
+use cad_job::{JobFault, args_status, read_args, run_path};
+use std::test::Fail;
+
+#[test]
+fn depth_and_file(rt: HostRuntime) -> Result<(), Fail> {
+    for (words, depth, file) in [
+        (["cadedit", "--depth", "5", "F"].as_slice(), 5, Some("F")),
+        (["cadedit"].as_slice(), 100, None),
+        (["cadedit", "F"].as_slice(), 100, Some("F")),
+        (["cadedit", "--depth", "1000"].as_slice(), 1000, None),
+    ] {
+        let args = match read_args(rt.alloc(), words) {
+            Ok(args) => args,
+            Err(_) => return Err(Fail),
+        };
+        assert_eq!(rt; args.depth.get(), depth);
+        assert!(rt; args.file == file);
+    }
+    Ok(())
+}
+
+#[test]
+fn arguments_that_are_none(rt: HostRuntime) -> Result<(), Fail> {
+    for (words, status) in [
+        (["cadedit", "--depth", "0"].as_slice(), 64u8),
+        (["cadedit", "--depth", "1001"].as_slice(), 64),
+        (["cadedit", "--depth", "x"].as_slice(), 64),
+        (["cadedit", "F", "G"].as_slice(), 64),
+        (["cadedit", "--help"].as_slice(), 0),
+    ] {
+        match read_args(rt.alloc(), words) {
+            Ok(_) => return Err(Fail),
+            Err(error) => assert_eq!(rt; args_status(&error), status),
+        }
+    }
+    Ok(())
+}
+
+#[test]
+fn a_job_in_a_file(rt: HostRuntime) -> Result<(), Fail> {
+    let answers = lines(
+        rt.alloc(),
+        &["ok", "ok", "ok", "ok", "ok", "ok", "ok", "ok", "nothing", "plan,2", "open"],
+    )?;
+    let depth = Depth::new(100).expect(&rt, "a depth");
+    let mut sink = MemSink::new(rt.alloc(), u64::MAX);
+    assert_eq!(rt; run_path(&rt, "first.csv", &mut sink, depth), Ok(()));
+    assert!(rt; sink.bytes() == answers.as_slice());
+    let mut none = MemSink::new(rt.alloc(), u64::MAX);
+    assert_eq!(rt; run_path(&rt, "not-there.csv", &mut none, depth), Err(JobFault::Read));
+    assert!(rt; none.bytes().is_empty());
+    Ok(())
+}

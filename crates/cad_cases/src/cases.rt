@@ -1,0 +1,56 @@
+//! A worked job, and what becomes of it.
+use cad_files::MemSink;
+use cad_history::Depth;
+use cad_job::{JobFault, run_job};
+use std::alloc::Global;
+use std::test::Fail;
+
+/// A worked job. Records are written without the commas that fill them up to seven fields.
+pub(crate) struct Case {
+    pub name: &'static str,
+    pub depth: usize,
+    pub job: &'static [&'static str],
+    pub answers: &'static [&'static str],
+    pub end: Result<(), JobFault>,
+}
+
+/// How many commas a record has outside quotes.
+fn commas(record: &str) -> usize {
+    let mut count = 0usize;
+    let mut quoted = false;
+    for byte in record.as_bytes() {
+        if *byte == b'"' {
+            quoted = !quoted;
+        } else if *byte == b',' && !quoted {
+            count = count.saturating_add(1);
+        }
+    }
+    count
+}
+
+/// The records as lines, each filled up to seven fields.
+pub(crate) fn lines(alloc: Global, records: &[&str]) -> Result<Vec<u8>, Fail> {
+    let mut text = Vec::new(alloc);
+    for record in records {
+        text.extend_from_slice(record.as_bytes())?;
+        for _ in commas(record)..6 {
+            text.push(b',')?;
+        }
+        text.push(b'\n')?;
+    }
+    Ok(text)
+}
+
+/// Runs each job, and compares what it wrote and how it ended.
+pub(crate) fn check(rt: &HostRuntime, cases: &[Case]) -> Result<(), Fail> {
+    for case in cases {
+        let job = lines(rt.alloc(), case.job)?;
+        let answers = lines(rt.alloc(), case.answers)?;
+        let depth = Depth::new(case.depth).expect(rt, "a depth");
+        let mut sink = MemSink::new(rt.alloc(), u64::MAX);
+        let end = run_job(rt.alloc(), job.as_slice(), &mut sink, depth);
+        assert_eq!(rt; end, case.end, "how {} ends", case.name);
+        assert!(rt; sink.bytes() == answers.as_slice(), "what {} writes", case.name);
+    }
+    Ok(())
+}

@@ -1,0 +1,243 @@
+//! Records, fields and plan faults.
+use crate::cases::{Case, check};
+use cad_files::{MemSink, PlanFault};
+use cad_history::Depth;
+use cad_job::{JobFault, run_job};
+use cad_rows::{Name, PointNo, Rule, SourceNo};
+use std::test::Fail;
+
+const CASES: &[Case] = &[
+    Case {
+        name: "an empty script",
+        depth: 100,
+        job: &["plan,2", "open"],
+        answers: &[],
+        end: Ok(()),
+    },
+    Case {
+        name: "words that are none",
+        depth: 100,
+        job: &[
+            "plan,1", "open", "Undo", "undo ", "attach,source,1,1", "undo,,,,,,0", "plan,1",
+            "open", "add-source,0,A", "attach,parcel,0,1", "drop-point,0", "areas",
+            "split,1,1,0,0,2,3", "move,1,0,0", "outline,0",
+        ],
+        answers: &[
+            "syntax", "syntax", "syntax", "syntax", "syntax", "syntax", "syntax", "syntax",
+            "syntax", "syntax", "syntax", "syntax", "syntax",
+        ],
+        end: Ok(()),
+    },
+    Case {
+        name: "quotes and commas in texts",
+        depth: 100,
+        job: &[
+            "plan,1", "open", "add-source,1,\"North, 7\"", "add-source,2,\"a\"\"b\"",
+            "add-source,3,\" \"", "add-source,4,\"\"", "\"undo\",\"\"", "print",
+        ],
+        answers: &[
+            "ok", "ok", "ok", "syntax", "ok", "plan,2", "source,1,\"North, 7\"",
+            "source,2,\"a\"\"b\"", "open",
+        ],
+        end: Ok(()),
+    },
+    Case {
+        name: "a plan of version 1 past its limit",
+        depth: 100,
+        job: &["plan,1", "point,5,1000000001,0", "open"],
+        answers: &[],
+        end: Err(JobFault::Plan(PlanFault::Range(2))),
+    },
+    Case {
+        name: "a plan of version 2 at its limit, and the wider limit of edits",
+        depth: 100,
+        job: &[
+            "plan,2", "point,5,10000000000,-10000000000", "open", "add-point,6,-10000000000,0",
+            "print",
+        ],
+        answers: &[
+            "ok", "plan,2", "point,5,10000000000,-10000000000", "point,6,-10000000000,0", "open",
+        ],
+        end: Ok(()),
+    },
+    Case {
+        name: "a plan of version 2 past its limit",
+        depth: 100,
+        job: &["plan,2", "point,5,0,10000000001", "open"],
+        answers: &[],
+        end: Err(JobFault::Plan(PlanFault::Range(2))),
+    },
+    Case {
+        name: "version 3",
+        depth: 100,
+        job: &["plan,3", "open"],
+        answers: &[],
+        end: Err(JobFault::Plan(PlanFault::Version)),
+    },
+    Case {
+        name: "no plan at all",
+        depth: 100,
+        job: &["open"],
+        answers: &[],
+        end: Err(JobFault::Plan(PlanFault::Version)),
+    },
+    Case {
+        name: "a field too many in the first record",
+        depth: 100,
+        job: &["plan,1,x"],
+        answers: &[],
+        end: Err(JobFault::Plan(PlanFault::Version)),
+    },
+    Case {
+        name: "leading zeros",
+        depth: 100,
+        job: &["plan,1", "point,05,5,5", "open"],
+        answers: &[],
+        end: Err(JobFault::Plan(PlanFault::Syntax(2))),
+    },
+    Case {
+        name: "syntax before range and full, in one record",
+        depth: 100,
+        job: &["plan,1", "point,5,1000000001,0,1 1", "open"],
+        answers: &[],
+        end: Err(JobFault::Plan(PlanFault::Syntax(2))),
+    },
+    Case {
+        name: "range before full, in one record",
+        depth: 100,
+        job: &[
+            "plan,1",
+            "point,5,1000000001,0,1 2 3 4 5 6 7 8 9 10 11 12 13 14 15 16 17",
+            "open",
+        ],
+        answers: &[],
+        end: Err(JobFault::Plan(PlanFault::Range(2))),
+    },
+    Case {
+        name: "a second plan record",
+        depth: 100,
+        job: &["plan,1", "source,1,A", "plan,1", "open"],
+        answers: &[],
+        end: Err(JobFault::Plan(PlanFault::Syntax(3))),
+    },
+    Case {
+        name: "a parcel, which isn't built yet",
+        depth: 100,
+        job: &["plan,1", "parcel,1,A", "open"],
+        answers: &[],
+        end: Err(JobFault::Plan(PlanFault::Syntax(2))),
+    },
+    Case {
+        name: "no open",
+        depth: 100,
+        job: &["plan,1", "source,1,A"],
+        answers: &[],
+        end: Err(JobFault::Plan(PlanFault::NoOpen)),
+    },
+    Case {
+        name: "an empty input",
+        depth: 100,
+        job: &[],
+        answers: &[],
+        end: Err(JobFault::Plan(PlanFault::NoOpen)),
+    },
+    Case {
+        name: "two points at one position",
+        depth: 100,
+        job: &["plan,1", "point,1,5,5", "point,2,5,5", "open"],
+        answers: &[],
+        end: Err(JobFault::Plan(PlanFault::Breaks(Rule::V3))),
+    },
+];
+
+#[test]
+fn records_and_fields(rt: HostRuntime) -> Result<(), Fail> {
+    check(&rt, CASES)
+}
+
+#[test]
+fn faults_that_name_a_row(rt: HostRuntime) -> Result<(), Fail> {
+    let source = SourceNo::new(1).expect(&rt, "a number");
+    let point = PointNo::new(1).expect(&rt, "a number");
+    let unknown = SourceNo::new(9).expect(&rt, "a number");
+    for (job, fault) in [
+        (
+            "plan,1,,,,,\nsource,1,A,,,,\nsource,1,B,,,,\npoint,1,0,0,9,,\nopen,,,,,,\n",
+            PlanFault::Taken(Name::Source(source)),
+        ),
+        (
+            "plan,1,,,,,\npoint,1,0,0,9,,\npoint,1,5,5,,,\nopen,,,,,,\n",
+            PlanFault::Taken(Name::Point(point)),
+        ),
+        (
+            "plan,1,,,,,\npoint,1,0,0,9,,\npoint,2,0,0,,,\nopen,,,,,,\n",
+            PlanFault::Unknown(Name::Source(unknown)),
+        ),
+    ] {
+        let depth = Depth::new(100).expect(&rt, "a depth");
+        let mut sink = MemSink::new(rt.alloc(), u64::MAX);
+        let end = run_job(rt.alloc(), job.as_bytes(), &mut sink, depth);
+        assert_eq!(rt; end, Err(JobFault::Plan(fault)), "{job}");
+        assert!(rt; sink.bytes().is_empty(), "{job}");
+    }
+    Ok(())
+}
+
+/// Lines of other lengths, blank lines, a byte order mark, other line ends, and bytes that are no text.
+#[test]
+fn lines_of_all_kinds(rt: HostRuntime) -> Result<(), Fail> {
+    for (job, answers, end) in [
+        (
+            b"plan,1,,,,,\n\n\n\npoint,05,5,5,,,\n".as_slice(),
+            b"".as_slice(),
+            Err(JobFault::Plan(PlanFault::Syntax(2))),
+        ),
+        (
+            b"\xef\xbb\xbfplan,1,,,,,\r\nopen,,,,,,\rundo,,,,,,".as_slice(),
+            b"nothing,,,,,,\n".as_slice(),
+            Ok(()),
+        ),
+        (
+            b"plan,1\n".as_slice(),
+            b"".as_slice(),
+            Err(JobFault::Plan(PlanFault::Syntax(1))),
+        ),
+        (
+            b"plan,1,,,,,\npoint,05,5,5,,,\nx\n".as_slice(),
+            b"".as_slice(),
+            Err(JobFault::Plan(PlanFault::Syntax(2))),
+        ),
+        (
+            b"plan,1,,,,,\nx\npoint,05,5,5,,,\n".as_slice(),
+            b"".as_slice(),
+            Err(JobFault::Read),
+        ),
+        (
+            b"plan,1,,,,,\nopen,,,,,,\nx\n".as_slice(),
+            b"".as_slice(),
+            Err(JobFault::Read),
+        ),
+        (
+            b"plan,1,,,,,\nopen,,,,,,\nundo,,,,,,\nundo,,,,,\nundo,,,,,,\n".as_slice(),
+            b"nothing,,,,,,\n".as_slice(),
+            Err(JobFault::Read),
+        ),
+        (
+            b"plan,1,,,,,\nsource,1,\xff,,,,\nopen,,,,,,\n".as_slice(),
+            b"".as_slice(),
+            Err(JobFault::Plan(PlanFault::Syntax(2))),
+        ),
+        (
+            b"plan,1,,,,,\nopen,,,,,,\nadd-source,1,\xff,,,,\n".as_slice(),
+            b"syntax,,,,,,\n".as_slice(),
+            Ok(()),
+        ),
+    ] {
+        let depth = Depth::new(100).expect(&rt, "a depth");
+        let mut sink = MemSink::new(rt.alloc(), u64::MAX);
+        let got = run_job(rt.alloc(), job, &mut sink, depth);
+        assert_eq!(rt; got, end);
+        assert!(rt; sink.bytes() == answers);
+    }
+    Ok(())
+}

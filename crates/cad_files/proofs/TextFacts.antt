@@ -1,0 +1,49 @@
+-- Records and fields that are written one after another.
+use Rattle.std.proofs.Common.{◌≡◌, ◌∙◌, sym, ap, refl, ℕ, ◌+◌, ◌<◌, ◌≤◌, List, [], ◌∷◌, ◌++◌, map, take, length, get_or, Some, slice_get, append_assoc, append-nil, arith, decimal}
+use Rattle.std.specs.List.{flat_map, join_with_byte}
+use Rattle.std.proofs.lemmas.List.{map_more, length-map, length-take}
+use Rattle.std.proofs.lemmas.Option.{get_or_from_slice_get}
+use Rattle.std.proofs.lemmas.Grind.{flat_map-append}
+use Rattle.cad_files.specs.Texts.{Record, text_of, record_text, list_field}
+
+-- one record more
+pub text_of-more : {X : Type 0} (f : X → Record) (es : List X) (i : ℕ) (e : X) (text : List ℕ) → i < length es → slice_get es i ≡ Some e
+    → text ++ text_of (map f (take (i + 1) es)) ≡ (text ++ text_of (map f (take i es))) ++ record_text (f e)
+text_of-more f es i e text h at =
+    ap (λ (l : List Record). text ++ text_of l) (map_more f es i e h)
+    ∙ ap (λ (l : List ℕ). text ++ l) (flat_map-append record_text (map f (take i es)) _ ∙ ap (λ (l : List ℕ). text_of (map f (take i es)) ++ l) (append-nil _ ∙ ap (λ x. record_text (f x)) (get_or_from_slice_get es i e e at)))
+    ∙ sym (append_assoc text (text_of (map f (take i es))) (record_text (f e)))
+
+-- a first and a last record round two lists
+pub text_of-between : (first last : Record) (a b : List Record) → text_of ((first ∷ (a ++ b)) ++ (last ∷ [])) ≡ ((([] ++ record_text first) ++ text_of a) ++ text_of b) ++ record_text last
+text_of-between first last a b = simp (flat_map-append, append_assoc, append-nil)
+
+pub some_is : {X : Type 0} (x y : X) → Some x ≡ Some y → x ≡ y
+some_is x y h = cc
+
+-- ---- Lists of numbers
+
+join-push : (c : ℕ) (p : List ℕ) (ps : List (List ℕ)) (x : List ℕ) → join_with_byte c ((p ∷ ps) ++ x ∷ []) ≡ (join_with_byte c (p ∷ ps) ++ c ∷ []) ++ x
+join-push c p [] x = sym (append_assoc p (c ∷ []) x)
+join-push c p (q ∷ ps) x =
+    ap (λ (l : List ℕ). p ++ (c ∷ l)) (join-push c q ps x)
+    ∙ sym (append_assoc (p ++ (c ∷ join_with_byte c (q ∷ ps))) (c ∷ []) x ∙ append_assoc p (c ∷ join_with_byte c (q ∷ ps)) (c ∷ x) ∙ ap (λ (l : List ℕ). p ++ (c ∷ l)) (sym (append_assoc (join_with_byte c (q ∷ ps)) (c ∷ []) x)))
+
+join-some : (c : ℕ) (ps : List (List ℕ)) (x : List ℕ) → 0 < length ps → join_with_byte c (ps ++ x ∷ []) ≡ (join_with_byte c ps ++ c ∷ []) ++ x
+join-some c [] x h = absurd (omega arith)
+join-some c (p ∷ ps) x h = join-push c p ps x
+
+pub list_field-none : list_field [] ≡ []
+unfolding list_field
+list_field-none = refl
+
+pub list_field-first : (ns : List ℕ) (i x d : ℕ) → i ≤ 0 → i < length ns → x ≡ get_or ns i d → list_field (take i ns) ++ decimal x ≡ list_field (take (i + 1) ns)
+unfolding list_field
+list_field-first [] i x d none h is = absurd (omega arith)
+list_field-first (n ∷ ns) i x d none h is = let zero : i ≡ 0 = omega arith in rw (is, zero) refl
+
+pub list_field-more : (ns : List ℕ) (i x d : ℕ) → 0 < i → i < length ns → x ≡ get_or ns i d → (list_field (take i ns) ++ 32 ∷ []) ++ decimal x ≡ list_field (take (i + 1) ns)
+unfolding list_field
+list_field-more ns i x d some h is =
+    let long : 0 < length (map decimal (take i ns)) = simp (length-map, length-take) (omega arith) in
+    sym (ap (join_with_byte 32) (map_more decimal ns i d h) ∙ rw (← is) (join-some 32 (map decimal (take i ns)) (decimal x) long))

@@ -1,0 +1,20 @@
+use Rattle.std.proofs.Common.{◌≡◌, ◌∙◌, sym, ap, is_some, true, false, None, rules}
+use Rattle.cad_map.proofs.Kept.{none-from_some}
+use Rattle.cad_files.specs.Building.{missing, sources_named}
+use Rattle.cad_files.proofs.NameFacts.{missing_row-none, missing_row-found, missing_row-more}
+use Rattle.cad_files.proofs.building.missing_row.Goals as goal
+
+pub loop-i-init : goal.loop-i-init
+loop-i-init c = missing_row-none c.args.plain.now
+
+pub returns-then-is_some : goal.returns-then-is_some
+returns-then-is_some c =
+    let here : c.missing_source-name.result ≡ missing c.args.plain.now (sources_named c.index-rows-i.result.sources) = search rules in
+    let some = ap is_some (sym here) ∙ sym c.is_some.ensures ∙ c.if-is_some.true in
+    here ∙ sym (missing_row-found c.args.plain.now c.args.rows.now c.loop-i.i c.index-rows-i.result _ c.loop-i-test.true c.index-rows-i.is c.loop-i.invariant some)
+
+pub loop-i-preserved : goal.loop-i-preserved
+loop-i-preserved c =
+    let here : c.missing_source-name.result ≡ missing c.args.plain.now (sources_named c.index-rows-i.result.sources) = search rules in
+    let none = none-from_some _ (ap is_some (sym here) ∙ sym c.is_some.ensures ∙ c.if-is_some.false) in
+    missing_row-more c.args.plain.now c.args.rows.now c.loop-i.i c.index-rows-i.result _ c.loop-i-test.true c.index-rows-i.is c.loop-i.invariant none

@@ -1,0 +1,50 @@
+-- The text of a map's plan, and of answers: records of seven fields, as the default writer writes them.
+use Rattle.std.specs.Prelude.{◌≡◌, ℕ, List, [], ◌∷◌, ◌++◌, map, codes, decimal, Some, false}
+use Rattle.std.specs.List.{flat_map, join_with_byte}
+use Rattle.std.specs.Fmt.{signed_decimal}
+use Rattle.std.specs.Global.{Vec}
+use Rattle.csv.specs.Writing.{row_text, default_writer, text_written, writer_setup, fields_written, has_written}
+use Rattle.csv.specs.declared.writer.Writer.{Writer}
+use Rattle.cad_rows.specs.declared.rows.PointRow.{PointRow}
+use Rattle.cad_rows.specs.declared.rows.SourceRow.{SourceRow}
+use Rattle.cad_map.specs.Map.{Map}
+
+abbrev pub Record : Type 0
+Record = List (List ℕ)
+
+-- a record as the default writer writes it
+unfoldable pub record_text : Record → List ℕ
+record_text fields = row_text default_writer fields
+
+-- records, one after another
+abbrev pub text_of : List Record → List ℕ
+text_of records = flat_map record_text records
+
+-- numbers with one space between them
+unfoldable pub list_field : List ℕ → List ℕ
+list_field ns = join_with_byte 32 (map decimal ns)
+
+-- ---- The plan of a map
+
+abbrev pub first_record : Record
+first_record = codes "plan" ∷ codes "2" ∷ [] ∷ [] ∷ [] ∷ [] ∷ [] ∷ []
+
+abbrev pub source_record : SourceRow → Record
+source_record r = codes "source" ∷ decimal r.number ∷ r.text ∷ [] ∷ [] ∷ [] ∷ [] ∷ []
+
+abbrev pub point_record : PointRow → Record
+point_record r = codes "point" ∷ decimal r.number ∷ signed_decimal r.position.x ∷ signed_decimal r.position.y ∷ list_field r.sources ∷ [] ∷ [] ∷ []
+
+abbrev pub open_record : Record
+open_record = codes "open" ∷ [] ∷ [] ∷ [] ∷ [] ∷ [] ∷ [] ∷ []
+
+-- sources, then points, each in order of entry
+abbrev pub plan_records : Map → List Record
+plan_records m = (first_record ∷ (map source_record m.sources ++ map point_record m.points)) ++ open_record ∷ []
+
+-- the writer has written this text, and stands between records
+pub record HasWritten (text : List ℕ) (writer : Writer (Vec ℕ)) : Type 0 where
+  pub setup : writer_setup writer ≡ default_writer
+  pub between : fields_written writer ≡ 0
+  pub clean : has_written writer ≡ false
+  pub written : text_written (λ v. Some v.items) writer ≡ Some text

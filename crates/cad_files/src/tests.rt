@@ -1,0 +1,268 @@
+use crate::{
+    Line, LineFault, MemSink, OutSink, PlanFault, Sink, SinkFault, answer_text, build, next_row,
+    plan_text, read_line, read_plan, syntax_text, write_all,
+};
+use cad_history::{Answer, Command};
+use cad_rows::{Edit, Item, Memory, Name, ParcelNo, PointNo, Refusal, Rule, SourceNo, StringNo};
+use csv::{ByteRecord, ReaderBuilder};
+use std::alloc::{AllocError, Global};
+use std::test::Fail;
+
+// The plan text of a plan's map, or the text of its fault.
+fn plan_or_fault(alloc: Global, plan: &str) -> Result<Vec<u8>, AllocError> {
+    let mut reader = ReaderBuilder::new()
+        .has_headers(false)
+        .from_reader(alloc, plan.as_bytes());
+    let built = match read_plan(alloc, &mut reader) {
+        Ok(rows) => build(alloc, &rows),
+        Err(fault) => Err(fault),
+    };
+    match built {
+        Ok(map) => match plan_text(alloc, &map) {
+            Ok(text) => Ok(text),
+            Err(Memory) => Err(AllocError),
+        },
+        Err(fault) => {
+            let text = fault.to_string(alloc)?;
+            Vec::from_slice(alloc, text.as_bytes())
+        }
+    }
+}
+
+#[test]
+fn plans(rt: HostRuntime) -> Result<(), Fail> {
+    for (plan, want) in [
+        (
+            "plan,1,,,,,\npoint,9,0,-5,1 2,,\nsource,1,\"Plan, 7\",,,,\npoint,1,1000,0,,,\nsource,2, a ,,,,\nopen,,,,,,\nundo,,,,,,\n",
+            "plan,2,,,,,\nsource,1,\"Plan, 7\",,,,\nsource,2, a ,,,,\npoint,9,0,-5,1 2,,\npoint,1,1000,0,,,\nopen,,,,,,\n",
+        ),
+        (
+            "plan,2,,,,,\npoint,5,10000000000,-10000000000,,,\nopen,,,,,,\n",
+            "plan,2,,,,,\npoint,5,10000000000,-10000000000,,,\nopen,,,,,,\n",
+        ),
+        ("plan,1,,,,,\nopen,,,,,,\n", "plan,2,,,,,\nopen,,,,,,\n"),
+        ("", "12 no-open"),
+        ("plan,1,,,,,\n", "12 no-open"),
+        ("open,,,,,,\n", "2 version"),
+        ("plan,3,,,,,\n", "2 version"),
+        ("plan,1,x,,,,\n", "2 version"),
+        ("plan,1\n", "3 syntax record 1"),
+        ("plan,1,,,,,\nplan,1,,,,,\n", "3 syntax record 2"),
+        ("plan,1,,,,,\npoint,05,5,5,,,\n", "3 syntax record 2"),
+        ("plan,1,,,,,\npoint,5,-0,5,,,\n", "3 syntax record 2"),
+        ("plan,1,,,,,\npoint,5,1000000001,5,1 1,,\n", "3 syntax record 2"),
+        ("plan,1,,,,,\npoint,5,1000000001,5,,,\n", "4 range record 2"),
+        ("plan,2,,,,,\npoint,5,5,10000000001,,,\n", "4 range record 2"),
+        (
+            "plan,1,,,,,\npoint,5,5,5,1 2 3 4 5 6 7 8 9 10 11 12 13 14 15 16 17,,\n",
+            "7 full",
+        ),
+        (
+            "plan,1,,,,,\npoint,1,0,0,9,,\npoint,1,5,5,,,\nsource,7,a,,,,\nsource,7,b,,,,\nopen,,,,,,\n",
+            "5 taken source 7",
+        ),
+        (
+            "plan,1,,,,,\npoint,1,0,0,9,,\npoint,1,0,0,,,\nopen,,,,,,\n",
+            "5 taken point 1",
+        ),
+        (
+            "plan,1,,,,,\npoint,1,0,0,,,\npoint,2,0,0,9,,\nopen,,,,,,\n",
+            "6 unknown source 9",
+        ),
+        (
+            "plan,1,,,,,\npoint,1,0,0,,,\npoint,2,0,0,,,\nopen,,,,,,\n",
+            "11 breaks V3",
+        ),
+        ("plan,1,,,,,\npoint,5,5,5,,\n", "1 read"),
+    ] {
+        match plan_or_fault(rt.alloc(), plan) {
+            Ok(text) => assert!(rt; text.as_slice() == want.as_bytes(), "{plan}"),
+            Err(AllocError) => assert!(rt; false, "memory"),
+        }
+    }
+    Ok(())
+}
+
+#[test]
+fn fault_texts(rt: HostRuntime) -> Result<(), Fail> {
+    let (Some(string), Some(parcel)) = (StringNo::new(4), ParcelNo::new(4)) else {
+        return Ok(());
+    };
+    for (fault, want) in [
+        (PlanFault::Taken(Name::String(string)), "5 taken string 4"),
+        (PlanFault::Unknown(Name::Parcel(parcel)), "6 unknown parcel 4"),
+        (PlanFault::Breaks(Rule::V4), "11 breaks V4"),
+        (PlanFault::Breaks(Rule::V6), "11 breaks V6"),
+        (PlanFault::Breaks(Rule::V7), "11 breaks V7"),
+        (PlanFault::Breaks(Rule::V8), "11 breaks V8"),
+        (PlanFault::Memory, "13 memory"),
+    ] {
+        match fault.to_string(rt.alloc()) {
+            Ok(text) => assert!(rt; text.as_str() == want, "{want}"),
+            Err(AllocError) => assert!(rt; false, "memory"),
+        }
+    }
+    Ok(())
+}
+
+#[test]
+fn answers(rt: HostRuntime) -> Result<(), Fail> {
+    let (Some(point), Some(string), Some(parcel), Some(source)) = (
+        PointNo::new(1),
+        StringNo::new(12),
+        ParcelNo::new(2),
+        SourceNo::new(999_999_999),
+    ) else {
+        return Ok(());
+    };
+    for (answer, want) in [
+        (Answer::Done, "ok,,,,,,\n"),
+        (Answer::Nothing, "nothing,,,,,,\n"),
+        (Answer::Refused(Refusal::Range), "refused,1,range,,,,\n"),
+        (
+            Answer::Refused(Refusal::Unknown(Name::Source(source))),
+            "refused,2,unknown,source,999999999,,\n",
+        ),
+        (
+            Answer::Refused(Refusal::Taken(Name::String(string))),
+            "refused,3,taken,string,12,,\n",
+        ),
+        (
+            Answer::Refused(Refusal::Retired(parcel)),
+            "refused,4,retired,parcel,2,,\n",
+        ),
+        (Answer::Refused(Refusal::Outside), "refused,5,outside,,,,\n"),
+        (
+            Answer::Refused(Refusal::NoChange),
+            "refused,6,no-change,,,,\n",
+        ),
+        (
+            Answer::Refused(Refusal::NotFree(point)),
+            "refused,7,not-free,point,1,,\n",
+        ),
+        (
+            Answer::Refused(Refusal::NotDegreeTwo(point)),
+            "refused,8,not-degree-two,point,1,,\n",
+        ),
+        (
+            Answer::Refused(Refusal::BadChain),
+            "refused,9,bad-chain,,,,\n",
+        ),
+        (
+            Answer::Refused(Refusal::NotInParcel(point)),
+            "refused,10,not-in-parcel,point,1,,\n",
+        ),
+        (
+            Answer::Refused(Refusal::ChainJoinsRings),
+            "refused,11,chain-joins-rings,,,,\n",
+        ),
+        (
+            Answer::Refused(Refusal::SameParcel),
+            "refused,12,same-parcel,,,,\n",
+        ),
+        (
+            Answer::Refused(Refusal::NotNeighbours),
+            "refused,13,not-neighbours,,,,\n",
+        ),
+        (
+            Answer::Refused(Refusal::NotOneChain),
+            "refused,14,not-one-chain,,,,\n",
+        ),
+        (
+            Answer::Refused(Refusal::AlreadyAttached),
+            "refused,15,already-attached,,,,\n",
+        ),
+        (
+            Answer::Refused(Refusal::NotAttached),
+            "refused,16,not-attached,,,,\n",
+        ),
+        (Answer::Refused(Refusal::Full), "refused,17,full,,,,\n"),
+        (
+            Answer::Refused(Refusal::Breaks(Rule::V8)),
+            "refused,18,breaks,V8,,,\n",
+        ),
+        (Answer::Refused(Refusal::Memory), "refused,19,memory,,,,\n"),
+    ] {
+        match answer_text(rt.alloc(), &answer) {
+            Ok(text) => assert!(rt; text.as_slice() == want.as_bytes(), "{want}"),
+            Err(Memory) => assert!(rt; false, "memory"),
+        }
+    }
+    match syntax_text(rt.alloc()) {
+        Ok(text) => assert!(rt; text.as_slice() == b"syntax,,,,,,\n".as_slice()),
+        Err(Memory) => assert!(rt; false, "memory"),
+    }
+    Ok(())
+}
+
+// What a script's record is read as: a letter of its kind and the number that it names first.
+fn letter(line: &Result<Line, LineFault>) -> (char, u32) {
+    match line {
+        Ok(Line::Print) => ('p', 0),
+        Ok(Line::Command(Command::Undo)) => ('u', 0),
+        Ok(Line::Command(Command::Redo)) => ('r', 0),
+        Ok(Line::Command(Command::Edit(edit))) => match edit {
+            Edit::AddSource { source, .. } => ('S', source.get()),
+            Edit::AddPoint { point, .. } => ('P', point.get()),
+            Edit::DropPoint { point } => ('D', point.get()),
+            Edit::Attach { item, .. } => match item {
+                Item::Point(no) => ('A', no.get()),
+                Item::String(no) => ('B', no.get()),
+                Item::Parcel(no) => ('C', no.get()),
+            },
+        },
+        Err(LineFault::Syntax) => ('x', 0),
+        Err(LineFault::Memory) => ('m', 0),
+    }
+}
+
+#[test]
+fn lines(rt: HostRuntime) -> Result<(), Fail> {
+    for (text, want) in [
+        ("add-source,7,\"a, b\",,,,\n", ('S', 7)),
+        ("add-point,5,0,-999999999999999999,,,\n", ('P', 5)),
+        ("drop-point,999999999,,,,,\n", ('D', 999_999_999)),
+        ("attach,point,1,2,,,\n", ('A', 1)),
+        ("attach,string,3,2,,,\n", ('B', 3)),
+        ("attach,parcel,4,2,,,\n", ('C', 4)),
+        ("undo,,,,,,\n", ('u', 0)),
+        ("redo,,,,,,\n", ('r', 0)),
+        ("print,,,,,,\n", ('p', 0)),
+        ("attach,source,1,1,,,\n", ('x', 0)),
+        ("add-point,5,1000000000000000000,0,,,\n", ('x', 0)),
+        ("add-point,5,+5,0,,,\n", ('x', 0)),
+        ("add-source,7,,,,,\n", ('x', 0)),
+        ("drop-point,1000000000,,,,,\n", ('x', 0)),
+        ("Undo,,,,,,\n", ('x', 0)),
+        ("undo,,,,,,0\n", ('x', 0)),
+        ("frob,,,,,,\n", ('x', 0)),
+        ("undo\n", ('x', 0)),
+    ] {
+        let mut reader = ReaderBuilder::new()
+            .has_headers(false)
+            .from_reader(rt.alloc(), text.as_bytes());
+        let mut row = ByteRecord::new(rt.alloc());
+        assert_eq!(rt; next_row(&mut reader, &mut row), Ok(true));
+        let line = read_line(rt.alloc(), &row);
+        assert_eq!(rt; letter(&line), want, "{text}");
+    }
+    Ok(())
+}
+
+#[test]
+fn sinks(rt: HostRuntime) -> Result<(), Fail> {
+    let mut sink = MemSink::new(rt.alloc(), 4);
+    assert_eq!(rt; write_all(&mut sink, b"ok".as_slice()), Ok(()));
+    assert_eq!(rt; sink.write(b",,".as_slice()), Ok(2));
+    assert_eq!(rt; sink.flush(), Ok(()));
+    assert_eq!(rt; sink.write(b"lost".as_slice()), Err(SinkFault));
+    assert_eq!(rt; sink.flush(), Err(SinkFault));
+    assert!(rt; sink.bytes() == b"ok,,".as_slice());
+    let mut room = [0u8; 3];
+    let mut out = OutSink::new(room.as_mut_slice());
+    assert_eq!(rt; write_all(&mut out, b"ok".as_slice()), Ok(()));
+    assert_eq!(rt; out.flush(), Ok(()));
+    assert_eq!(rt; write_all(&mut out, b"no".as_slice()), Err(SinkFault));
+    assert!(rt; room.as_slice() == b"okn".as_slice());
+    Ok(())
+}

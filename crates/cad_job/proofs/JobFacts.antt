@@ -1,0 +1,86 @@
+-- From the parts of a job to the whole.
+use Rattle.std.proofs.Common.{◌≡◌, ◌≢◌, ◌∙◌, sym, ap, refl, ℕ, List, [], ◌++◌, append-nil, Option, Some, None, Result, Ok, Err, inl, inr, ◌⊎◌, IfSome, IfOk, option_map, false, length}
+use Rattle.std.proofs.lemmas.List.Elements.{All-nil}
+use Rattle.csv.specs.Reading.{Reached, default_config, source_of, strip_bom, reader_trim, reader_config, reader_state, is_flexible, names_headers, reader_headers, expected_len}
+use Rattle.csv.specs.declared.reader.Reader.{Reader}
+use Rattle.csv.specs.declared.reader.Trim.TheVariants as trim
+use Rattle.csv.specs.declared.parser.State.TheVariants as st
+use Rattle.cad_map.specs.Map.{Map}
+use Rattle.cad_files.specs.Input.{HasRead, BeginsWith}
+use Rattle.cad_files.specs.Rows.{Rows}
+use Rattle.cad_files.specs.Plan.{plan_of, opened}
+use Rattle.cad_files.specs.Building.{IsBuilt}
+use Rattle.cad_files.specs.declared.faults.PlanFault.{PlanFault}
+use Rattle.cad_files.specs.declared.faults.PlanFault.TheVariants as plan_faults
+use Rattle.cad_job.specs.Jobs.{DoesScript, DoesJob, IsFaultyPlan, IsJobText, BeginsJobText, job_fault}
+use Rattle.cad_job.specs.declared.faults.JobFault.{JobFault}
+use Rattle.cad_job.specs.declared.faults.JobFault.TheVariants as faults
+
+pub if_some : {X : Type 0} (o : Option X) (P : X → Type 0) → ((x : X) → o ≡ Some x → P x) → IfSome o P
+if_some None P h = tt
+if_some (Some x) P h = h x refl
+
+-- what follows from a fact of the value
+pub if_ok_follows : {X E : Type 0} (P Q : X → Type 0) (r : Result X E) → ((x : X) → P x → Q x) → IfOk r P → IfOk r Q
+if_ok_follows P Q (Ok x) follows holds = follows x holds
+if_ok_follows P Q (Err e) follows holds = tt
+
+-- what was done of a script was done of the job
+pub script_job : {X : Type 0} (result : Result X JobFault) (text : List ℕ) (plan : List (List (List ℕ))) (rows : Rows) (m : Map) (depth : ℕ) (written : List ℕ)
+    → plan_of plan ≡ opened rows → IsBuilt rows m → DoesScript text plan m depth written result → DoesJob text depth written result
+script_job (Ok x) text plan rows m depth written p b h = (plan, rows, m, p, b, h)
+script_job (Err (faults.Plan fault)) text plan rows m depth written p b h = absurd h
+script_job (Err faults.Read) text plan rows m depth written p b h = inr (plan, rows, m, p, b, h)
+script_job (Err faults.Long) text plan rows m depth written p b h = (plan, rows, m, p, b, h)
+script_job (Err faults.Write) text plan rows m depth written p b h = (plan, rows, m, p, b, h)
+script_job (Err faults.Memory) text plan rows m depth written p b h = inr (plan, rows, m, p, b, h)
+
+-- a fault of the plan ends the job with nothing written
+pub fault_job : (X : Type 0) (fault : PlanFault) (text : List ℕ) (depth : ℕ) → (fault ≢ plan_faults.Read → fault ≢ plan_faults.Memory → IsFaultyPlan text fault) → DoesJob {X = X} text depth [] (Err (job_fault fault))
+fault_job X plan_faults.Read text depth h = inl refl
+fault_job X plan_faults.Memory text depth h = inl refl
+fault_job X plan_faults.Version text depth h = let a : plan_faults.Version ≢ plan_faults.Read = λ e. cc e in let b : plan_faults.Version ≢ plan_faults.Memory = λ e. cc e in (refl, a, b, h a b)
+fault_job X plan_faults.NoOpen text depth h = let a : plan_faults.NoOpen ≢ plan_faults.Read = λ e. cc e in let b : plan_faults.NoOpen ≢ plan_faults.Memory = λ e. cc e in (refl, a, b, h a b)
+fault_job X plan_faults.Full text depth h = let a : plan_faults.Full ≢ plan_faults.Read = λ e. cc e in let b : plan_faults.Full ≢ plan_faults.Memory = λ e. cc e in (refl, a, b, h a b)
+fault_job X (plan_faults.Syntax n) text depth h = let a : (plan_faults.Syntax n) ≢ plan_faults.Read = λ e. cc e in let b : (plan_faults.Syntax n) ≢ plan_faults.Memory = λ e. cc e in (refl, a, b, h a b)
+fault_job X (plan_faults.Range n) text depth h = let a : (plan_faults.Range n) ≢ plan_faults.Read = λ e. cc e in let b : (plan_faults.Range n) ≢ plan_faults.Memory = λ e. cc e in (refl, a, b, h a b)
+fault_job X (plan_faults.Taken n) text depth h = let a : (plan_faults.Taken n) ≢ plan_faults.Read = λ e. cc e in let b : (plan_faults.Taken n) ≢ plan_faults.Memory = λ e. cc e in (refl, a, b, h a b)
+fault_job X (plan_faults.Unknown n) text depth h = let a : (plan_faults.Unknown n) ≢ plan_faults.Read = λ e. cc e in let b : (plan_faults.Unknown n) ≢ plan_faults.Memory = λ e. cc e in (refl, a, b, h a b)
+fault_job X (plan_faults.Breaks r) text depth h = let a : (plan_faults.Breaks r) ≢ plan_faults.Read = λ e. cc e in let b : (plan_faults.Breaks r) ≢ plan_faults.Memory = λ e. cc e in (refl, a, b, h a b)
+
+-- no fault of a plan is told as a write fault
+pub not_write : (fault : PlanFault) → job_fault fault ≡ faults.Write → ⊥
+not_write plan_faults.Read h = cc
+not_write plan_faults.Memory h = cc
+not_write plan_faults.Version h = cc
+not_write plan_faults.NoOpen h = cc
+not_write plan_faults.Full h = cc
+not_write (plan_faults.Syntax n) h = cc
+not_write (plan_faults.Range n) h = cc
+not_write (plan_faults.Taken n) h = cc
+not_write (plan_faults.Unknown n) h = cc
+not_write (plan_faults.Breaks r) h = cc
+
+-- all of a job text begins it
+pub front-whole : (m : Map) (depth : ℕ) (script : List (List (List ℕ))) (written : List ℕ) → IsJobText m depth script written → BeginsJobText m depth script written
+front-whole m depth script written told = (written, told, ([], sym (append-nil written)))
+
+-- a script's end, or a write fault in its place
+pub flushed_does : {X : Type 0} (end result : Result X JobFault) (text : List ℕ) (plan script : List (List (List ℕ))) (m : Map) (depth : ℕ) (written : List ℕ) (P Q : Type 0)
+    → BeginsWith text (plan ++ script) → IsJobText m depth script written → DoesScript text plan m depth written end → ((result ≡ end) × P) ⊎ ((result ≡ Err faults.Write) × Q) → DoesScript text plan m depth written result
+flushed_does end result text plan script m depth written P Q begins told does (inl h) = rw h.0 does
+flushed_does end result text plan script m depth written P Q begins told does (inr h) = rw h.0 (script, begins, front-whole m depth script written told)
+
+-- a new reader has read nothing
+pub has_read-start : {R : Type 0} (rem : R → Option (List ℕ)) (reader : Reader R) (input : Option (List ℕ)) (text : List ℕ)
+    → reader_trim reader ≡ trim.None → names_headers reader ≡ false → reader_headers reader ≡ None → reader_config reader ≡ default_config → is_flexible reader ≡ false
+    → reader_state reader ≡ st.StartRecord → source_of rem reader ≡ option_map strip_bom input → input ≡ Some text → HasRead rem (strip_bom text) [] reader
+unfolding Reached
+has_read-start rem reader input text t n h c f s source e = record {
+  trim = t;
+  ready = inr (inr (n, h));
+  config = c;
+  strict = f;
+  reached = (strip_bom text, source ∙ ap (λ o. option_map strip_bom o) e, (sym s, refl));
+  lengths = All-nil (λ row. expected_len reader ≡ Some (length row));
+}

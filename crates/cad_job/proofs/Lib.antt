@@ -1,0 +1,3 @@
+mod JobFacts
+mod SevenFacts
+mod ScriptFacts

@@ -1,0 +1,39 @@
+use Rattle.std.proofs.Common.{rules, ap, ap₂, refl, sym, codes, true, map, Option, Some, None, ◌≡◌, ◌∙◌, arith}
+use Rattle.std.specs.Prelude.{pos}
+use Rattle.clap.specs.Words.{App, Text, app_of, first_of, one_of, found_of, is_simple, matches_of, new_rule, one_text, rows_of, rule_of, with_rule}
+use Rattle.clap.specs.declared.builder.value_parser.ValueParser.TheVariants as parsers
+use Rattle.clap.proofs.WalkLemmas.{first_value-rows, one_text-rows}
+use Rattle.clap.proofs.OnLiterals.{clap_on_literals}
+use Rattle.cad_job.specs.Arguments.{cadedit, depth_rule}
+use Rattle.cad_job.proofs.args.read_args.Goals as goal
+
+cadedit_simple : is_simple cadedit ≡ true
+unfolding clap_on_literals
+cadedit_simple = refl
+
+there : (o : Option Text) → (o ≡ None → ⊥) → (t : Text) × (o ≡ Some t)
+there None h = absurd (h refl)
+there (Some t) h = (t, refl)
+
+pub returns-in-Some-new : goal.returns-in-Some-new
+returns-in-Some-new c =
+    let given = c.value_parser-2.ensures.given in
+    let made : c.range.result ≡ parsers.Signed (pos 1) (pos 1000) = rw (c.value_parser.ensures, c.new-2.ensures.start, c.new-2.ensures.end) at c.range.ensures in
+    let parser_is : c.value_parser-2.result.value_parser ≡ Some (parsers.Signed (pos 1) (pos 1000)) = given.1 ∙ ap (λ q. Some q) (given.2 ∙ made) in
+    let depth_is : rule_of c.default_value-depth.result ≡ depth_rule = search rules in
+    let file_is : rule_of c.new-file.result ≡ new_rule (codes "file") = search rules in
+    let app_is : app_of c.in_ok-command.command ≡ cadedit = c.in_ok-command.ensures.shape (search rules)
+    ∙ ap₂ with_rule (c.in_ok-arg.ensures.shape (search rules) ∙ ap₂ with_rule c.new-3.ensures.app depth_is) file_is in
+    let words = map (λ w. w.now) c.args.words.now in
+    let m = c.in_ok-matches.matches in
+    let found = c.in_ok-matches.ensures.ok.2 (ap is_simple app_is ∙ cadedit_simple) in
+    let rows : rows_of (found_of m) ≡ matches_of cadedit words = found.0 ∙ ap (λ (a : App). matches_of a words) app_is in
+    let one : one_text (found_of m) (codes "depth") ≡ one_of (codes "depth") (matches_of cadedit words) = one_text-rows (found_of m) (codes "depth") ∙ ap (one_of (codes "depth")) rows in
+    let given_depth = there (one_text (found_of m) (codes "depth")) (λ none. let bad : Some c.in-Some.edits ≡ None = c.in-Some.ensures.none none in cc) in
+    let (text, text_is) = given_depth in
+    record {
+      low = omega arith;
+      high = omega arith;
+      given = (text, sym one ∙ text_is, c.in-Some-new.ensures.value ∙ c.from.ensures ∙ (c.in-Some.ensures.value text text_is).0.1);
+      named = c.get_str-file.ensures ∙ first_value-rows (found_of m) (codes "file") ∙ ap (first_of (codes "file")) rows;
+    }

@@ -1,0 +1,18 @@
+use Rattle.std.proofs.Common.{ap, Err}
+use Rattle.cad_job.specs.Jobs.{printed, no_line}
+use Rattle.cad_job.proofs.JobFacts.{if_ok_follows}
+use Rattle.cad_job.proofs.job.answer_of_row.Goals as goal
+
+pub returns-in-Ok-Command : goal.returns-in-Ok-Command
+returns-in-Ok-Command g c =
+    if_ok_follows _ _ c.answer_of_command.result (λ text goes h stands. rw (c.in-Ok-Command.ensures.line, c.in-Ok-Command.field-0-is) (goes h stands)) c.answer_of_command.ensures
+
+pub returns-in-Ok-Print : goal.returns-in-Ok-Print
+returns-in-Ok-Print g c =
+    if_ok_follows _ _ c.plan_text.result
+    (λ text is h stands. (h, rw (c.in-Ok-Print.ensures.line, c.in-Ok-Print.field-0-is) (printed (c.map.ensures.shown h stands) is), stands))
+    c.plan_text.ensures
+
+pub returns-in-Err-Syntax : goal.returns-in-Err-Syntax
+returns-in-Err-Syntax g c =
+    if_ok_follows _ _ c.syntax_text.result (λ text is h stands. (h, rw (c.in-Err-Syntax.ensures.syntax (ap Err c.in-Err-Syntax.field-0-is)) (no_line is), stands)) c.syntax_text.ensures

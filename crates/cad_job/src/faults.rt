@@ -1,0 +1,41 @@
+//! Why a job ended early.
+use cad_files::PlanFault;
+use std::fmt;
+
+/// Why a job ended early.
+#[derive(Clone, Copy, Debug, PartialEq, Eq)]
+pub enum JobFault {
+    /// The plan is at fault.
+    Plan(PlanFault),
+    /// The reader failed, or a record has another number of fields than the first.
+    Read,
+    /// The sink failed.
+    Write,
+    /// The script has more than 1,000,000 records.
+    Long,
+    /// Memory ran out.
+    Memory,
+}
+
+/// The line that the program writes on standard error.
+impl fmt::Display for JobFault {
+    fn fmt<W: fmt::Write>(&self, f: &mut fmt::Formatter<W>) -> fmt::Result {
+        match self {
+            JobFault::Plan(fault) => write!(f, "cadedit: plan fault {fault}"),
+            JobFault::Read => write!(f, "cadedit: read fault"),
+            JobFault::Write => write!(f, "cadedit: write fault"),
+            JobFault::Long => write!(f, "cadedit: too many records"),
+            JobFault::Memory => write!(f, "cadedit: out of memory"),
+        }
+    }
+}
+
+/// The status with which the program ends after a fault.
+pub fn status(fault: &JobFault) -> u8 {
+    match fault {
+        JobFault::Plan(_) => 2,
+        JobFault::Read | JobFault::Write => 3,
+        JobFault::Long => 4,
+        JobFault::Memory => 5,
+    }
+}

@@ -1,0 +1,153 @@
+//! A job, from bytes to bytes.
+ghost use Rattle.std.specs.Prelude.{◌≡◌, ◌++◌, [], ℕ, List, Some, ◌⊎◌, Err, IfOk, IfSome, OnOk, IsErrOf};
+ghost use Rattle.std.specs.Io.KnownBytes.{Appends, Keeps};
+ghost use Rattle.csv.specs.Reading.{strip_bom};
+ghost use Rattle.csv.specs.Records.{fields_of};
+ghost use Rattle.cad_map.specs.Valid.{IsValid};
+ghost use Rattle.cad_history.specs.History.{History};
+ghost use Rattle.cad_history.specs.Standing.{StandsFor, StandsForSome};
+ghost use Rattle.cad_files.specs.Input.{HasRead};
+ghost use Rattle.cad_files.specs.Rows.{Rows};
+ghost use Rattle.cad_files.specs.Plan.{plan_of, opened};
+ghost use Rattle.cad_files.specs.Line.{line_of};
+ghost use Rattle.cad_files.specs.Sinks.{counted};
+ghost use Rattle.cad_job.specs.Jobs.{IsAnswered, DoesScript, DoesJob, job_fault};
+
+use crate::faults::JobFault;
+use cad_edit::PlainStore;
+use cad_files::{InputFault, Line, LineFault, PlanFault, Sink, answer_text, build, next_row, plan_text, read_line, read_plan, syntax_text, write_all};
+use cad_history::{Answer, Command, Depth, Editor, step};
+use cad_map::{MapStore, MapView};
+use cad_rows::{Memory, Refusal};
+use csv::{ByteRecord, Reader, ReaderBuilder};
+use std::alloc::Global;
+use std::io::Read;
+
+/// What a fault of a plan is to a job.
+fn fault_of_plan(fault: PlanFault) -> JobFault
+    ensures { result ≡ job_fault fault }
+{
+    match fault {
+        PlanFault::Read => JobFault::Read,
+        PlanFault::Memory => JobFault::Memory,
+        _ => JobFault::Plan(fault),
+    }
+}
+
+/// Reads a plan and a script, and writes the answer to each record of the script. At most so many edits can be
+/// undone as the depth says.
+pub fn run_job<R: Read + Drop, S: Sink>(
+    alloc: Global,
+    reader: R,
+    sink: &mut S,
+    depth: Depth,
+) -> Result<(), JobFault>
+    // What was written, where reader and sink tell their bytes.
+    ensures does { IfSome (R.remaining reader) (λ input. (written : List ℕ)
+        × Appends (S.taken sink.old) (S.taken sink.new) written × DoesJob (strip_bom input) depth written result) }
+
+    // A write fault comes only of a failed call of the sink.
+    ensures write { IsErrOf result JobFault.Write → S.failures sink.new ≡ counted (S.failures sink.old) }
+    ensures quiet { OnOk result (S.failures sink.new ≡ S.failures sink.old) }
+{
+    let mut reader = ReaderBuilder::new()
+        .has_headers(false)
+        .from_reader(alloc, reader);
+    let rows = match read_plan(alloc, &mut reader) {
+        Ok(rows) => rows,
+        Err(fault) => return Err(fault_of_plan(fault)),
+    };
+    let map = match build(alloc, &rows) {
+        Ok(map) => map,
+        Err(fault) => return Err(fault_of_plan(fault)),
+    };
+    run_script(alloc, &mut reader, PlainStore { map }, sink, depth)
+}
+
+/// Does the records of a script that are left, and writes each one's answer.
+fn run_script<R: Read, S: Sink, M: MapStore + Drop>(
+    alloc: Global,
+    reader: &mut Reader<R>,
+    store: M,
+    sink: &mut S,
+    depth: Depth,
+) -> Result<(), JobFault>
+    requires { IsValid (M.map store) }
+    ensures does { (text : List ℕ) (plan : List (List (List ℕ))) (rows : Rows) → HasRead R.remaining text plan reader.old → plan_of plan ≡ opened rows
+        → (written : List ℕ) × Appends (S.taken sink.old) (S.taken sink.new) written × DoesScript text plan (M.map store) depth written result }
+    ensures write { IsErrOf result JobFault.Write → S.failures sink.new ≡ counted (S.failures sink.old) }
+    ensures quiet { OnOk result (S.failures sink.new ≡ S.failures sink.old) }
+{
+    let mut editor = match Editor::open(alloc, store, depth) {
+        Ok(editor) => editor,
+        Err(_) => return Err(JobFault::Memory),
+    };
+    let mut row = ByteRecord::new(alloc);
+    for turn in 0..1_000_001u32 {
+        match next_row(reader, &mut row) {
+            Ok(true) => {}
+            Ok(false) => return flushed(sink, Ok(())),
+            Err(InputFault::Read) => return flushed(sink, Err(JobFault::Read)),
+            Err(InputFault::Memory) => return Err(JobFault::Memory),
+        }
+        if turn == 1_000_000 {
+            return flushed(sink, Err(JobFault::Long));
+        }
+        let text = match answer_of_row(alloc, &mut editor, &row) {
+            Ok(text) => text,
+            Err(_) => return Err(JobFault::Memory),
+        };
+        match write_all(sink, text.as_slice()) {
+            Ok(()) => {}
+            Err(_) => return Err(JobFault::Write),
+        }
+    }
+    unreachable!()
+}
+
+/// The end of a script, once the sink has sent on what it has taken.
+fn flushed<S: Sink>(sink: &mut S, end: Result<(), JobFault>) -> Result<(), JobFault>
+    ensures kept { Keeps (S.taken sink.old) (S.taken sink.new) }
+    ensures ended { ((result ≡ end) × (S.failures sink.new ≡ S.failures sink.old))
+        ⊎ ((result ≡ Err JobFault.Write) × (S.failures sink.new ≡ counted (S.failures sink.old))) }
+{
+    match sink.flush() {
+        Ok(()) => end,
+        Err(_) => Err(JobFault::Write),
+    }
+}
+
+/// Does what a record of a script asks for, and gives the text of its answer.
+fn answer_of_row<M: MapStore>(
+    alloc: Global,
+    editor: &mut Editor<M>,
+    row: &ByteRecord,
+) -> Result<Vec<u8>, Memory>
+    requires { StandsForSome M.map M.belongs editor.old }
+    ensures { IfOk result (λ text. (h : History) → StandsFor M.map M.belongs editor.old h →
+        (end : History) × IsAnswered h (line_of (fields_of row.now)) text.items end × StandsFor M.map M.belongs editor.new end) }
+{
+    match read_line(alloc, row) {
+        Ok(Line::Command(command)) => answer_of_command(alloc, editor, &command),
+        Ok(Line::Print) => plan_text(alloc, editor.map()),
+        Err(LineFault::Syntax) => syntax_text(alloc),
+        Err(LineFault::Memory) => Err(Memory),
+    }
+}
+
+/// Carries a command out, and gives the text of its answer.
+fn answer_of_command<M: MapStore>(
+    alloc: Global,
+    editor: &mut Editor<M>,
+    command: &Command,
+) -> Result<Vec<u8>, Memory>
+    requires { StandsForSome M.map M.belongs editor.old }
+    ensures { IfOk result (λ text. (h : History) → StandsFor M.map M.belongs editor.old h →
+        (end : History) × IsAnswered h (Some (Line.Command command.now)) text.items end × StandsFor M.map M.belongs editor.new end) }
+{
+    let answer = step(editor, command);
+    if answer == Answer::Refused(Refusal::Memory) {
+        return Err(Memory);
+    }
+    answer_text(alloc, &answer)
+}

@@ -1,0 +1,12 @@
+//! A job from bytes to bytes, and what the program is told by its arguments.
+#![tactic(auto)]
+
+mod args;
+mod faults;
+mod job;
+mod path;
+
+pub use args::{Args, args_status, read_args};
+pub use faults::{JobFault, status};
+pub use job::run_job;
+pub use path::run_path;

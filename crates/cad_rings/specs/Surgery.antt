@@ -1,0 +1,66 @@
+-- Cutting a ring by a chain, joining two rings along one, and points put in and taken out.
+use Rattle.std.specs.Prelude.{◌≡◌, ℕ, ◌+◌, ◌<◌, not, ◌==◌, nat_lt, List, [], ◌∷◌, ◌++◌, length, take, drop, reverse, filter, slice_range, slice_index, flat_map, if◌then◌else◌}
+use Rattle.cad_rings.specs.Cycle.{Ring, Side, is_side, opposite, sides_of, turned}
+
+-- the ring in the other direction
+abbrev pub reversed : Ring → Ring
+reversed ring = reverse ring
+
+-- the sides of a chain, from its first point to its last
+abbrev pub sides_of_chain : List ℕ → List Side
+sides_of_chain [] = []
+sides_of_chain (a ∷ []) = []
+sides_of_chain (a ∷ b ∷ points) = (a, b) ∷ sides_of_chain (b ∷ points)
+
+-- each side, and its opposite
+abbrev pub both_ways : List Side → List Side
+both_ways sides = flat_map (λ s. s ∷ opposite s ∷ []) sides
+
+-- ---- Cut by a chain
+
+-- the points from place i on, up to the one before place j, going round the end where j is not after i
+abbrev pub stretch : ℕ → ℕ → Ring → List ℕ
+stretch i j ring = if nat_lt i j then slice_range ring i j else drop i ring ++ take j ring
+
+-- a chain from the point at place i through inner points to the point at place j
+abbrev pub chain_across : ℕ → ℕ → List ℕ → Ring → List ℕ
+chain_across i j inner ring = slice_index ring i ∷ inner ++ slice_index ring j ∷ []
+
+-- what is left of that chain: the chain, and the ring from the chain's end back to its beginning
+abbrev pub left_ring : ℕ → ℕ → List ℕ → Ring → Ring
+left_ring i j inner ring = slice_index ring i ∷ inner ++ stretch j i ring
+
+-- what is right of it: the chain backwards, and the ring from the chain's beginning to its end
+abbrev pub right_ring : ℕ → ℕ → List ℕ → Ring → Ring
+right_ring i j inner ring = slice_index ring j ∷ reverse inner ++ stretch i j ring
+
+-- ---- Joined along a chain
+
+-- the first points of the ring from its place i on, with m sides between them
+abbrev pub chain_from : ℕ → ℕ → Ring → List ℕ
+chain_from i m ring = take (m + 1) (turned i ring)
+
+-- Two rings have m sides in common, from place i of one and in the opposite direction from place j of the other on, and each has another side.
+pub record HaveChainInCommon (i j m : ℕ) (kept ended : Ring) : Type 0 where
+  pub some : 0 < m
+  pub more_in_kept : m < length kept
+  pub more_in_ended : m < length ended
+  pub common : chain_from i m kept ≡ reverse (chain_from j m ended)
+
+-- the ring round both: each ring from the end of the chain to its beginning
+abbrev pub joined : ℕ → ℕ → ℕ → Ring → Ring → Ring
+joined i j m kept ended = drop m (turned i kept) ++ drop m (turned j ended)
+
+-- ---- Points put in and taken out
+
+-- the point is put on the side, between its two ends
+abbrev pub put_on : Side → ℕ → Ring → Ring
+put_on side p ring = flat_map (λ s. if is_side side s then s.0 ∷ p ∷ [] else s.0 ∷ []) (sides_of ring)
+
+-- what becomes of a side where a point is put on the side it is
+abbrev pub halves_by : Side → ℕ → Side → List Side
+halves_by side p s = if is_side side s then (s.0, p) ∷ (p, s.1) ∷ [] else s ∷ []
+
+-- the ring without the point
+abbrev pub without : ℕ → Ring → Ring
+without p ring = filter (λ q. not (q == p)) ring

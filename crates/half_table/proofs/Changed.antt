@@ -1,0 +1,108 @@
+-- A change of one half's links in the rows.
+use Rattle.std.proofs.Common.{◌≡◌, ℕ, Bool, true, false, cond, ◌&&◌, refl, sym, ap, ◌∙◌, subst, Option, Some, is_some, option_map, inl, inr, true≢false, nat_eq, if◌then◌else◌}
+use Rattle.std.proofs.lemmas.Bool.Decides.{Decides-eqb}
+use Rattle.std.specs.Bool.{beq}
+use Rattle.std.specs.Map.{lookup}
+use Rattle.std.specs.Option.{option_map_or}
+use Rattle.cad_rows.specs.declared.names.Face.{Face}
+use Rattle.cad_rows.specs.declared.names.Face.TheVariants.{Outside}
+use Rattle.half_table.specs.declared.half.Half.{Half}
+use Rattle.half_table.specs.declared.links.Links.{Links}
+use Rattle.half_table.specs.declared.links.Ends.{Ends}
+use Rattle.half_table.specs.Half.{is_half}
+use Rattle.half_table.specs.Rows.{Rows, strings, links_at, links_of}
+use Rattle.half_table.specs.Writes.{changed_at, with_links_at, ChangesNext, ChangesPrev, ChangesFace}
+use Rattle.half_table.proofs.Halves.{is_half-self, cases_half}
+
+-- the links on the other side stay
+side : (f g : Bool) (to : Links) (e : Ends) → Some (links_at g (with_links_at f to e)) ≡ (if beq g f then Some to else Some (links_at g e))
+side true true to e = refl
+side true false to e = refl
+side false true to e = refl
+side false false to e = refl
+
+pub changed-put : (old new : Rows) (h : Half) (to : Links) (e : Ends) → lookup (nat_eq h.string) old ≡ Some e
+    → ((q : ℕ) → lookup (nat_eq q) new ≡ cond (nat_eq h.string q) (Some (with_links_at h.forward to e)) (lookup (nat_eq q) old))
+    → (g : Half) → links_of new g ≡ changed_at h to (links_of old) g
+changed-put old new h to e there put g = by (nat_eq h.string g.string) refl
+  where
+    by : (b : Bool) → nat_eq h.string g.string ≡ b → links_of new g ≡ changed_at h to (links_of old) g
+    by true p =
+        let same : h.string ≡ g.string = (Decides-eqb h.string g.string).0 p in
+        let back : nat_eq g.string h.string ≡ true = (Decides-eqb g.string h.string).1 (sym same) in
+        let now : lookup (nat_eq g.string) new ≡ Some (with_links_at h.forward to e) = put g.string ∙ ap (λ b. cond b (Some (with_links_at h.forward to e)) (lookup (nat_eq g.string) old)) p in
+        let was : lookup (nat_eq g.string) old ≡ Some e = subst (λ s. lookup (nat_eq s) old ≡ Some e) same there in
+        ap (option_map (links_at g.forward)) now ∙ side h.forward g.forward to e
+        ∙ ap (λ o. if beq g.forward h.forward then Some to else option_map (links_at g.forward) o) (sym was)
+        ∙ ap (λ b. if b && beq g.forward h.forward then Some to else links_of old g) (sym back)
+    by false p =
+        let back : nat_eq g.string h.string ≡ false = turned (nat_eq g.string h.string) refl in
+        ap (option_map (links_at g.forward)) (put g.string ∙ ap (λ b. cond b (Some (with_links_at h.forward to e)) (lookup (nat_eq g.string) old)) p)
+        ∙ ap (λ b. if b && beq g.forward h.forward then Some to else links_of old g) (sym back)
+      where
+        turned : (b : Bool) → nat_eq g.string h.string ≡ b → nat_eq g.string h.string ≡ false
+        turned true q = absurd (true≢false (sym ((Decides-eqb h.string g.string).1 (sym ((Decides-eqb g.string h.string).0 q))) ∙ p))
+        turned false q = q
+
+module _ (old new : Rows) (h : Half) (l to : Links) (there : links_of old h ≡ Some l) (put : (g : Half) → links_of new g ≡ changed_at h to (links_of old) g) where
+  -- what the change leaves
+  left : {V : Type 0} (F : Option Links → V) (g : Half) → F (Some to) ≡ F (Some l) → F (links_of new g) ≡ F (links_of old g)
+  left F g same =
+      elim (cases_half g h) [
+        inl e ↦ ap F (put g) ∙ ap (λ b. F (if b then Some to else links_of old g)) (subst (λ x. is_half g x ≡ true) e (is_half-self g)) ∙ same
+          ∙ ap F (sym there) ∙ ap (λ x. F (links_of old x)) (sym e)
+      | inr ne ↦ ap F (put g) ∙ ap (λ b. F (if b then Some to else links_of old g)) ne ]
+
+  push : {V : Type 0} (F : Option Links → V) (b : Bool) (x : Option Links) → F (if b then Some to else x) ≡ (if b then F (Some to) else F x)
+  push F true x = refl
+  push F false x = refl
+
+  -- what it changes
+  made : {V : Type 0} (F : Option Links → V) (g : Half) → F (links_of new g) ≡ (if is_half g h then F (Some to) else F (links_of old g))
+  made F g = ap F (put g) ∙ push F (is_half g h) (links_of old g)
+
+module _ (old new : Rows) (h : Half) (e : Ends) (there : lookup (nat_eq h.string) old ≡ Some e) where
+  held : links_of old h ≡ Some (links_at h.forward e)
+  held = ap (option_map (links_at h.forward)) there
+
+  pub next-put : (to : Half) → strings new ≡ strings old → ((q : ℕ) → lookup (nat_eq q) new ≡ cond (nat_eq h.string q) (Some (with_links_at h.forward (record (links_at h.forward e) { next = to }) e)) (lookup (nat_eq q) old)) → ChangesNext h to old new
+  next-put to same put =
+      let l = links_at h.forward e in
+      let t : Links = record l { next = to } in
+      let p = changed-put old new h t e there put in
+      record {
+        strings = same;
+        next = λ g. made old new h l t held p (λ o. option_map_or (λ l. l.next) o g) g;
+        prev = λ g. left old new h l t held p (λ o. option_map_or (λ l. l.prev) o g) g refl;
+        origin = λ g. left old new h l t held p (λ o. option_map_or (λ l. l.origin) o 0) g refl;
+        face = λ g. left old new h l t held p (λ o. option_map_or (λ l. l.face) o Outside) g refl;
+        has = λ g. left old new h l t held p is_some g refl;
+      }
+
+  pub prev-put : (to : Half) → strings new ≡ strings old → ((q : ℕ) → lookup (nat_eq q) new ≡ cond (nat_eq h.string q) (Some (with_links_at h.forward (record (links_at h.forward e) { prev = to }) e)) (lookup (nat_eq q) old)) → ChangesPrev h to old new
+  prev-put to same put =
+      let l = links_at h.forward e in
+      let t : Links = record l { prev = to } in
+      let p = changed-put old new h t e there put in
+      record {
+        strings = same;
+        next = λ g. left old new h l t held p (λ o. option_map_or (λ l. l.next) o g) g refl;
+        prev = λ g. made old new h l t held p (λ o. option_map_or (λ l. l.prev) o g) g;
+        origin = λ g. left old new h l t held p (λ o. option_map_or (λ l. l.origin) o 0) g refl;
+        face = λ g. left old new h l t held p (λ o. option_map_or (λ l. l.face) o Outside) g refl;
+        has = λ g. left old new h l t held p is_some g refl;
+      }
+
+  pub face-put : (to : Face) → strings new ≡ strings old → ((q : ℕ) → lookup (nat_eq q) new ≡ cond (nat_eq h.string q) (Some (with_links_at h.forward (record (links_at h.forward e) { face = to }) e)) (lookup (nat_eq q) old)) → ChangesFace h to old new
+  face-put to same put =
+      let l = links_at h.forward e in
+      let t : Links = record l { face = to } in
+      let p = changed-put old new h t e there put in
+      record {
+        strings = same;
+        next = λ g. left old new h l t held p (λ o. option_map_or (λ l. l.next) o g) g refl;
+        prev = λ g. left old new h l t held p (λ o. option_map_or (λ l. l.prev) o g) g refl;
+        origin = λ g. left old new h l t held p (λ o. option_map_or (λ l. l.origin) o 0) g refl;
+        face = λ g. made old new h l t held p (λ o. option_map_or (λ l. l.face) o Outside) g;
+        has = λ g. left old new h l t held p is_some g refl;
+      }

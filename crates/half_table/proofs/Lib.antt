@@ -1,0 +1,10 @@
+pub mod Halves
+pub mod Cycles
+pub mod Changed
+pub mod Closed
+pub mod Spliced
+pub mod Laws
+pub mod Relabelled
+pub mod Loose
+pub mod LooseCycles
+pub mod Counted

@@ -1,0 +1,169 @@
+-- A string that comes or goes.
+use Rattle.std.proofs.Common.{◌≡◌, ℕ, List, [], ◌∷◌, ◌++◌, Bool, true, false, not, cond, refl, sym, ap, ◌∙◌, Option, Some, None, is_some, option_map, true≢false, nat_eq, if◌then◌else◌}
+use Rattle.std.proofs.lemmas.Bool.Decides.{Decides-eqb}
+use Rattle.std.specs.List.{IsDistinct}
+use Rattle.std.specs.Map.{lookup, keys_of}
+use Rattle.indexmap.specs.IndexMap.{insert_entry}
+use Rattle.std.specs.Option.{option_map_or}
+use Rattle.cad_rows.specs.declared.names.Face.TheVariants.{Outside}
+use Rattle.half_table.specs.declared.half.Half.{Half}
+use Rattle.half_table.specs.declared.links.Links.{Links}
+use Rattle.half_table.specs.declared.links.Ends.{Ends}
+use Rattle.half_table.specs.Half.{twin, forward_of, backward_of}
+use Rattle.half_table.specs.Rows.{Rows, strings, has_string, links_at, links_of, has, next, prev, origin, face, IsLinked}
+use Rattle.half_table.specs.Surgery.{AddsLoose, RemovesLoose, IsLoose, loose_ends}
+use Rattle.half_table.proofs.Halves.{twin-twin}
+
+nat_eq-symm : (a b : ℕ) → nat_eq a b ≡ nat_eq b a
+nat_eq-symm a b = same (nat_eq a b) (nat_eq b a) (λ e. (Decides-eqb b a).1 (sym ((Decides-eqb a b).0 e))) (λ e. (Decides-eqb a b).1 (sym ((Decides-eqb b a).0 e)))
+  where
+    same : (x y : Bool) → (x ≡ true → y ≡ true) → (y ≡ true → x ≡ true) → x ≡ y
+    same true y f g = sym (f refl)
+    same false true f g = g refl
+    same false false f g = refl
+
+module _ (old new : Rows) (s : ℕ) (w : Option Ends) (put : (q : ℕ) → lookup (nat_eq q) new ≡ cond (nat_eq s q) w (lookup (nat_eq q) old)) where
+  -- what is read of a half after the change
+  read : {V : Type 0} (F : Option Links → V) (g : Half) → F (links_of new g) ≡ (if nat_eq g.string s then F (option_map (links_at g.forward) w) else F (links_of old g))
+  read F g = ap (λ o. F (option_map (links_at g.forward) o)) (put g.string ∙ ap (λ b. cond b w (lookup (nat_eq g.string) old)) (nat_eq-symm s g.string)) ∙ push (nat_eq g.string s)
+    where
+      push : (b : Bool) → F (option_map (links_at g.forward) (cond b w (lookup (nat_eq g.string) old))) ≡ (if b then F (option_map (links_at g.forward) w) else F (links_of old g))
+      push true = refl
+      push false = refl
+
+-- where both branches agree under the test
+if-agree : {V : Type 0} (b : Bool) (x y z : V) → (b ≡ true → x ≡ y) → (if b then x else z) ≡ (if b then y else z)
+if-agree true x y z f = f refl
+if-agree false x y z f = refl
+
+-- a change of one string's halves that keeps next and prev in step
+module _ (old new : Rows) (s : ℕ) (m : Half → Half) (k : Bool) (linked : IsLinked old) (unique : IsDistinct nat_eq (strings new))
+    (next_is : (g : Half) → next new g ≡ (if nat_eq g.string s then m g else next old g))
+    (prev_is : (g : Half) → prev new g ≡ (if nat_eq g.string s then m g else prev old g))
+    (has_is : (g : Half) → has new g ≡ (if nat_eq g.string s then k else has old g))
+    (m_string : (g : Half) → (m g).string ≡ g.string) (m_twice : (g : Half) → m (m g) ≡ g)
+    (next_stays : (g : Half) → nat_eq g.string s ≡ true → nat_eq (next old g).string s ≡ true)
+    (prev_stays : (g : Half) → nat_eq g.string s ≡ true → nat_eq (prev old g).string s ≡ true) where
+  away_next : (g : Half) → nat_eq g.string s ≡ false → nat_eq (next old g).string s ≡ false
+  away_next g e = by (nat_eq (next old g).string s) refl
+    where
+      by : (b : Bool) → nat_eq (next old g).string s ≡ b → nat_eq (next old g).string s ≡ false
+      by false p = p
+      by true p = absurd (true≢false (sym (sym (ap (λ (h : Half). nat_eq h.string s) (linked.prev_next g)) ∙ prev_stays (next old g) p) ∙ e))
+
+  away_prev : (g : Half) → nat_eq g.string s ≡ false → nat_eq (prev old g).string s ≡ false
+  away_prev g e = by (nat_eq (prev old g).string s) refl
+    where
+      by : (b : Bool) → nat_eq (prev old g).string s ≡ b → nat_eq (prev old g).string s ≡ false
+      by false p = p
+      by true p = absurd (true≢false (sym (sym (ap (λ (h : Half). nat_eq h.string s) (linked.next_prev g)) ∙ next_stays (prev old g) p) ∙ e))
+
+  pub patched-linked : IsLinked new
+  patched-linked = record { distinct = unique; prev_next = λ h. pn h (nat_eq h.string s) refl; next_prev = λ h. np h (nat_eq h.string s) refl; inside = λ h. ins h (nat_eq h.string s) refl }
+    where
+      pn : (h : Half) (b : Bool) → nat_eq h.string s ≡ b → prev new (next new h) ≡ h
+      pn h true e = ap (prev new) (next_is h ∙ ap (λ b. if b then m h else next old h) e) ∙ prev_is (m h)
+        ∙ ap (λ b. if b then m (m h) else prev old (m h)) (ap (λ t. nat_eq t s) (m_string h) ∙ e) ∙ m_twice h
+      pn h false e = ap (prev new) (next_is h ∙ ap (λ b. if b then m h else next old h) e) ∙ prev_is (next old h)
+        ∙ ap (λ b. if b then m (next old h) else prev old (next old h)) (away_next h e) ∙ linked.prev_next h
+
+      np : (h : Half) (b : Bool) → nat_eq h.string s ≡ b → next new (prev new h) ≡ h
+      np h true e = ap (next new) (prev_is h ∙ ap (λ b. if b then m h else prev old h) e) ∙ next_is (m h)
+        ∙ ap (λ b. if b then m (m h) else next old (m h)) (ap (λ t. nat_eq t s) (m_string h) ∙ e) ∙ m_twice h
+      np h false e = ap (next new) (prev_is h ∙ ap (λ b. if b then m h else prev old h) e) ∙ next_is (prev old h)
+        ∙ ap (λ b. if b then m (prev old h) else next old (prev old h)) (away_prev h e) ∙ linked.next_prev h
+
+      ins : (h : Half) (b : Bool) → nat_eq h.string s ≡ b → has new (next new h) ≡ has new h
+      ins h true e = ap (has new) (next_is h ∙ ap (λ b. if b then m h else next old h) e) ∙ has_is (m h)
+        ∙ ap (λ b. if b then k else has old (m h)) (ap (λ t. nat_eq t s) (m_string h) ∙ e) ∙ ap (λ b. if b then k else has old h) (sym e) ∙ sym (has_is h)
+      ins h false e = ap (has new) (next_is h ∙ ap (λ b. if b then m h else next old h) e) ∙ has_is (next old h)
+        ∙ ap (λ b. if b then k else has old (next old h)) (away_next h e) ∙ linked.inside h ∙ ap (λ b. if b then k else has old h) (sym e) ∙ sym (has_is h)
+
+-- a number under which a look-up finds nothing
+pub none-found : {V : Type 0} (o : Option V) → is_some o ≡ false → o ≡ None
+none-found None e = refl
+none-found (Some v) e = absurd (true≢false e)
+
+-- an entry under a new number goes last
+pub keys-insert_entry : {V : Type 0} (es : List (ℕ × V)) (s : ℕ) (v : V) → lookup (nat_eq s) es ≡ None → keys_of (insert_entry nat_eq es s v) ≡ keys_of es ++ s ∷ []
+keys-insert_entry [] s v none = refl
+keys-insert_entry (e ∷ es) s v none = by (keys-insert_entry es s v) (nat_eq s e.0) refl
+  where
+    by : (lookup (nat_eq s) es ≡ None → keys_of (insert_entry nat_eq es s v) ≡ keys_of es ++ s ∷ []) → (b : Bool) → nat_eq s e.0 ≡ b
+        → keys_of (insert_entry nat_eq (e ∷ es) s v) ≡ e.0 ∷ (keys_of es ++ s ∷ [])
+    by ih true p = let found : Some e.1 ≡ None = sym (ap (λ b. cond b (Some e.1) (lookup (nat_eq s) es)) p) ∙ none in cc
+    by ih false p =
+        let later : lookup (nat_eq s) es ≡ None = sym (ap (λ b. cond b (Some e.1) (lookup (nat_eq s) es)) p) ∙ none in
+        ap (λ b. keys_of (if b then (e.0, v) ∷ es else e ∷ insert_entry nat_eq es s v)) p ∙ ap (λ ks. e.0 ∷ ks) (ih later)
+
+-- a half is there where its string is
+pub has-string : (rows : Rows) (h : Half) → has rows h ≡ has_string rows h.string
+has-string rows h = by (lookup (nat_eq h.string) rows)
+  where
+    by : (o : Option Ends) → is_some (option_map (links_at h.forward) o) ≡ is_some o
+    by None = refl
+    by (Some e) = refl
+
+-- of a string that isn't there each half is its own next and prev
+pub absent : (rows : Rows) (s : ℕ) → lookup (nat_eq s) rows ≡ None → (g : Half) → nat_eq g.string s ≡ true → links_of rows g ≡ None
+absent rows s none g e = ap (λ t. option_map (links_at g.forward) (lookup (nat_eq t) rows)) ((Decides-eqb g.string s).0 e) ∙ ap (option_map (links_at g.forward)) none
+
+loose_next : (s from to t : ℕ) (f : Bool) → s ≡ t → (links_at f (loose_ends s from to)).next ≡ record { string = t; forward = not f }
+loose_next s from to t true p = λ i. record { string = p i; forward = false }
+loose_next s from to t false p = λ i. record { string = p i; forward = true }
+
+loose_prev : (s from to t : ℕ) (f : Bool) → s ≡ t → (links_at f (loose_ends s from to)).prev ≡ record { string = t; forward = not f }
+loose_prev s from to t true p = λ i. record { string = p i; forward = false }
+loose_prev s from to t false p = λ i. record { string = p i; forward = true }
+
+loose_origin : (s from to : ℕ) (f : Bool) → (links_at f (loose_ends s from to)).origin ≡ (if f then from else to)
+loose_origin s from to true = refl
+loose_origin s from to false = refl
+
+loose_face : (s from to : ℕ) (f : Bool) → (links_at f (loose_ends s from to)).face ≡ Outside
+loose_face s from to true = refl
+loose_face s from to false = refl
+
+pub added : (old new : Rows) (s from to : ℕ) → strings new ≡ strings old ++ s ∷ [] → ((q : ℕ) → lookup (nat_eq q) new ≡ cond (nat_eq s q) (Some (loose_ends s from to)) (lookup (nat_eq q) old)) → AddsLoose s from to old new
+added old new s from to held put = record {
+  strings = held;
+  next = λ g. read old new s (Some (loose_ends s from to)) put (λ o. option_map_or (λ (l : Links). l.next) o g) g
+    ∙ if-agree (nat_eq g.string s) _ (twin g) (next old g) (λ e. loose_next s from to g.string g.forward (sym ((Decides-eqb g.string s).0 e)));
+  prev = λ g. read old new s (Some (loose_ends s from to)) put (λ o. option_map_or (λ (l : Links). l.prev) o g) g
+    ∙ if-agree (nat_eq g.string s) _ (twin g) (prev old g) (λ e. loose_prev s from to g.string g.forward (sym ((Decides-eqb g.string s).0 e)));
+  origin = λ g. read old new s (Some (loose_ends s from to)) put (λ o. option_map_or (λ (l : Links). l.origin) o 0) g
+    ∙ if-agree (nat_eq g.string s) _ (if g.forward then from else to) (origin old g) (λ e. loose_origin s from to g.forward);
+  face = λ g. read old new s (Some (loose_ends s from to)) put (λ o. option_map_or (λ (l : Links). l.face) o Outside) g
+    ∙ if-agree (nat_eq g.string s) _ Outside (face old g) (λ e. loose_face s from to g.forward);
+  has = λ g. read old new s (Some (loose_ends s from to)) put is_some g;
+}
+
+pub added-linked : (old new : Rows) (s from to : ℕ) → IsLinked old → IsDistinct nat_eq (strings new) → lookup (nat_eq s) old ≡ None → AddsLoose s from to old new → IsLinked new
+added-linked old new s from to linked unique none a =
+    patched-linked old new s twin true linked unique a.next a.prev a.has (λ g. refl) twin-twin
+      (λ g e. ap (λ o. nat_eq (option_map_or (λ (l : Links). l.next) o g).string s) (absent old s none g e) ∙ e)
+      (λ g e. ap (λ o. nat_eq (option_map_or (λ (l : Links). l.prev) o g).string s) (absent old s none g e) ∙ e)
+
+pub removed : (old new : Rows) (s : ℕ) → ((q : ℕ) → lookup (nat_eq q) new ≡ cond (nat_eq s q) None (lookup (nat_eq q) old)) → RemovesLoose s old new
+removed old new s put = record {
+  next = λ g. read old new s None put (λ o. option_map_or (λ (l : Links). l.next) o g) g;
+  prev = λ g. read old new s None put (λ o. option_map_or (λ (l : Links). l.prev) o g) g;
+  origin = λ g. read old new s None put (λ o. option_map_or (λ (l : Links). l.origin) o 0) g;
+  face = λ g. read old new s None put (λ o. option_map_or (λ (l : Links). l.face) o Outside) g;
+  has = λ g. read old new s None put is_some g;
+}
+
+-- what follows a half of a loose string
+pub loose-follows : (rows : Rows) (s : ℕ) → IsLoose s rows → (g : Half) → nat_eq g.string s ≡ true → (f : Bool) → g.forward ≡ f → next rows g ≡ record { string = s; forward = not f }
+loose-follows rows s loose g e true d = ap (next rows) (λ i. record { string = (Decides-eqb g.string s).0 e i; forward = d i }) ∙ loose.forward
+loose-follows rows s loose g e false d = ap (next rows) (λ i. record { string = (Decides-eqb g.string s).0 e i; forward = d i }) ∙ loose.backward
+
+loose-before : (rows : Rows) (s : ℕ) → IsLinked rows → IsLoose s rows → (g : Half) → nat_eq g.string s ≡ true → (f : Bool) → g.forward ≡ f → prev rows g ≡ record { string = s; forward = not f }
+loose-before rows s linked loose g e true d = ap (prev rows) ((λ i. record { string = (Decides-eqb g.string s).0 e i; forward = d i }) ∙ sym loose.backward) ∙ linked.prev_next (backward_of s)
+loose-before rows s linked loose g e false d = ap (prev rows) ((λ i. record { string = (Decides-eqb g.string s).0 e i; forward = d i }) ∙ sym loose.forward) ∙ linked.prev_next (forward_of s)
+
+pub removed-linked : (old new : Rows) (s : ℕ) → IsLinked old → IsDistinct nat_eq (strings new) → IsLoose s old → RemovesLoose s old new → IsLinked new
+removed-linked old new s linked unique loose r =
+    patched-linked old new s (λ g. g) false linked unique r.next r.prev r.has (λ g. refl) (λ g. refl)
+      (λ g e. ap (λ (h : Half). nat_eq h.string s) (loose-follows old s loose g e g.forward refl) ∙ (Decides-eqb s s).1 refl)
+      (λ g e. ap (λ (h : Half). nat_eq h.string s) (loose-before old s linked loose g e g.forward refl) ∙ (Decides-eqb s s).1 refl)

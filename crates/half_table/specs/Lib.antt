@@ -1,0 +1,7 @@
+pub mod Count
+pub mod Half
+pub mod Cycle
+pub mod Rows
+pub mod Writes
+pub mod Surgery
+pub mod Ahead

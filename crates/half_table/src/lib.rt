@@ -1,0 +1,22 @@
+//! The doubly connected edge list of de Berg, Cheong, van Kreveld and Overmars, Computational Geometry, chapter 2, as a table of half-edges by the numbers of their strings.
+#![tactic(auto)]
+
+mod changes;
+mod half;
+mod links;
+mod rows;
+mod table;
+mod tally;
+mod walk;
+
+pub use half::Half;
+pub use links::{Ends, Links};
+pub use table::HalfTable;
+pub use tally::{Tally, Ticks};
+pub use walk::Walk;
+
+
+
+
+#[cfg(test)]
+mod tests;

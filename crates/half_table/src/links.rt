@@ -1,0 +1,84 @@
+//! What half-edges are linked to.
+ghost use Rattle.std.specs.Prelude.{◌≡◌};
+ghost use Rattle.half_table.specs.Rows.{links_at};
+ghost use Rattle.half_table.specs.Writes.{with_links_at};
+
+use crate::half::Half;
+use cad_rows::{Face, PointNo};
+
+/// The record of a half-edge: where it begins, what follows it, what it follows, and the face to its left.
+#[derive(Clone, Copy, Drop)]
+pub struct Links {
+    pub origin: PointNo,
+    pub next: Half,
+    pub prev: Half,
+    pub face: Face,
+}
+
+impl Links {
+    pub(crate) fn with_next(self, to: Half) -> Links
+        ensures { result ≡ record self { next = to } }
+    {
+        Links {
+            origin: self.origin,
+            next: to,
+            prev: self.prev,
+            face: self.face,
+        }
+    }
+
+    pub(crate) fn with_prev(self, to: Half) -> Links
+        ensures { result ≡ record self { prev = to } }
+    {
+        Links {
+            origin: self.origin,
+            next: self.next,
+            prev: to,
+            face: self.face,
+        }
+    }
+
+    pub(crate) fn with_face(self, to: Face) -> Links
+        ensures { result ≡ record self { face = to } }
+    {
+        Links {
+            origin: self.origin,
+            next: self.next,
+            prev: self.prev,
+            face: to,
+        }
+    }
+}
+
+/// The links of both halves of a string.
+#[derive(Clone, Copy, Drop)]
+pub struct Ends {
+    pub forward: Links,
+    pub backward: Links,
+}
+
+impl Ends {
+    /// The links of one half.
+    pub(crate) fn at(&self, forward: bool) -> Links
+        ensures { result ≡ links_at forward self.now }
+    {
+        if forward { self.forward } else { self.backward }
+    }
+
+    /// The same ends with other links at one half.
+    pub(crate) fn with(self, forward: bool, to: Links) -> Ends
+        ensures { result ≡ with_links_at forward to self }
+    {
+        if forward {
+            Ends {
+                forward: to,
+                backward: self.backward,
+            }
+        } else {
+            Ends {
+                forward: self.forward,
+                backward: to,
+            }
+        }
+    }
+}

@@ -1,0 +1,83 @@
+//! The rows of a table: under the number of each string the links of its two halves.
+ghost use Rattle.std.specs.Prelude.{◌≡◌, true, Some, nat_eq};
+ghost use Rattle.indexmap.specs.IndexMap.{ContainsKey, Updates};
+ghost use Rattle.half_table.specs.Rows.{strings, links_of, has, next, prev};
+ghost use Rattle.half_table.specs.Writes.{ChangesNext, ChangesPrev, ChangesFace};
+
+use crate::half::Half;
+use crate::links::{Ends, Links};
+use cad_rows::{Face, StringNo};
+use indexmap::IndexMap;
+
+pub(crate) type Rows = IndexMap<StringNo, Ends>;
+
+/// The links of a half.
+pub(crate) fn find_links(rows: &Rows, h: &Half) -> Option<Links>
+    ensures { result ≡ links_of rows.now.entries h.now }
+{
+    let ends = rows.get(&h.string)?;
+    Some(ends.at(h.forward))
+}
+
+/// The half that follows, and of a half that isn't there itself.
+pub(crate) fn next_half(rows: &Rows, h: &Half) -> Half
+    ensures { result ≡ next rows.now.entries h.now }
+{
+    match find_links(rows, h) {
+        Some(links) => links.next,
+        None => *h,
+    }
+}
+
+/// The half that is followed, and of a half that isn't there itself.
+pub(crate) fn prev_half(rows: &Rows, h: &Half) -> Half
+    ensures { result ≡ prev rows.now.entries h.now }
+{
+    match find_links(rows, h) {
+        Some(links) => links.prev,
+        None => *h,
+    }
+}
+
+fn put_ends(rows: &mut Rows, string: StringNo, to: Ends)
+    requires { ContainsKey nat_eq rows.old string }
+    ensures put { Updates nat_eq rows.old rows.new string (Some to) }
+    ensures strings { strings rows.new.entries ≡ strings rows.old.entries }
+{
+    if let Some(ends) = rows.get_mut(&string) {
+        *ends = to;
+    }
+}
+
+/// Links a half to another next.
+pub(crate) fn set_next(rows: &mut Rows, h: &Half, to: &Half)
+    requires { has rows.old.entries h.now ≡ true }
+    ensures { ChangesNext h.now to.now rows.old.entries rows.new.entries }
+{
+    if let Some(ends) = rows.get(&h.string).copied() {
+        let links = ends.at(h.forward);
+        put_ends(rows, h.string, ends.with(h.forward, links.with_next(*to)));
+    }
+}
+
+/// Links a half to another prev.
+pub(crate) fn set_prev(rows: &mut Rows, h: &Half, to: &Half)
+    requires { has rows.old.entries h.now ≡ true }
+    ensures { ChangesPrev h.now to.now rows.old.entries rows.new.entries }
+{
+    if let Some(ends) = rows.get(&h.string).copied() {
+        let links = ends.at(h.forward);
+        put_ends(rows, h.string, ends.with(h.forward, links.with_prev(*to)));
+    }
+}
+
+/// Puts another face to the left of a half.
+pub(crate) fn set_face(rows: &mut Rows, h: &Half, to: &Face)
+    requires { has rows.old.entries h.now ≡ true }
+    ensures { ChangesFace h.now to.now rows.old.entries rows.new.entries }
+{
+    if let Some(ends) = rows.get(&h.string).copied() {
+        let links = ends.at(h.forward);
+        put_ends(rows, h.string, ends.with(h.forward, links.with_face(*to)));
+    }
+}

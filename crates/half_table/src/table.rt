@@ -1,0 +1,189 @@
+//! The table of half-edges.
+ghost use Rattle.std.specs.Prelude.{◌≡◌, ◌≤◌, [], ◌∷◌, true, false, List, Some, length, OnOk, OnErr};
+ghost use Rattle.half_table.specs.Count.{one_more, ticked};
+ghost use Rattle.half_table.specs.Half.{twin, forward_of, backward_of};
+ghost use Rattle.half_table.specs.Rows.{has_string, links_of, has, next, prev, origin, face, IsLinked, cycle, HasCycle};
+ghost use Rattle.half_table.specs.Surgery.{IsUnchanged, IsSpliced, SplicesBack, SplicesCycles, Relabels, AddsLoose, AddsCycle, IsLoose, RemovesLoose, RemovesCycle};
+
+use crate::changes::{exchange, put_loose, relabel_cycle, take_loose};
+use crate::half::Half;
+use crate::links::Links;
+use crate::rows::{Rows, find_links};
+use crate::tally::Tally;
+use crate::walk::{Walk, walk_rows};
+use cad_rows::{Face, Memory, PointNo, StringNo};
+use indexmap::IndexMap;
+use std::alloc::Global;
+use std::marker::Model;
+
+/// A doubly connected edge list: for each string the records of its two half-edges. A tally counts the work on it.
+#[derive(Drop)]
+pub struct HalfTable<T: Tally> {
+    rows: Rows,
+    tally: T,
+}
+
+impl<T: Tally> Model for HalfTable<T> {
+    ghost use Rattle.half_table.specs.Rows.{Table, IsLinked};
+
+    ghost Value = { Table };
+
+    ghost view = { λ t. record { rows = t.rows.entries; work = T.counted t.tally } };
+
+    ghost invariant = { λ t. IsLinked t.rows.entries };
+}
+
+impl<T: Tally> HalfTable<T> {
+    /// A table without strings.
+    pub fn new(alloc: Global, tally: T) -> HalfTable<T>
+        ensures rows { result.rows ≡ [] }
+        ensures linked { IsLinked result.rows }
+        ensures work { result.work ≡ T.counted tally }
+    {
+        HalfTable {
+            rows: IndexMap::new(alloc),
+            tally,
+        }
+    }
+
+    /// The other half of the same string.
+    pub fn twin(&self, h: Half) -> Half
+        ensures is { result ≡ twin h }
+        ensures inside { has self.now.rows result ≡ has self.now.rows h }
+    {
+        Half {
+            string: h.string,
+            forward: !h.forward,
+        }
+    }
+
+    fn links(&self, h: &Half) -> Links
+        requires { has self.now.rows h.now ≡ true }
+        ensures is { links_of self.now.rows h.now ≡ Some result }
+        ensures linked { IsLinked self.now.rows }
+    {
+        find_links(&self.rows, h).unwrap()
+    }
+
+    /// The point where a half begins.
+    pub fn origin(&self, h: Half) -> PointNo
+        requires { has self.now.rows h ≡ true }
+        ensures { result ≡ origin self.now.rows h }
+    {
+        self.links(&h).origin
+    }
+
+    /// The half that follows `h` along the boundary of its face.
+    pub fn next(&self, h: Half) -> Half
+        requires { has self.now.rows h ≡ true }
+        ensures is { result ≡ next self.now.rows h }
+        ensures inside { has self.now.rows result ≡ true }
+        ensures linked { IsLinked self.now.rows }
+    {
+        self.links(&h).next
+    }
+
+    /// The half that `h` follows.
+    pub fn prev(&self, h: Half) -> Half
+        requires { has self.now.rows h ≡ true }
+        ensures is { result ≡ prev self.now.rows h }
+        ensures inside { has self.now.rows result ≡ true }
+        ensures linked { IsLinked self.now.rows }
+    {
+        self.links(&h).prev
+    }
+
+    /// The face to the left of a half.
+    pub fn face(&self, h: Half) -> Face
+        requires { has self.now.rows h ≡ true }
+        ensures { result ≡ face self.now.rows h }
+    {
+        self.links(&h).face
+    }
+
+    /// Counts one step of work.
+    fn tick(&mut self)
+        ensures rows { self.new.rows ≡ self.old.rows }
+        ensures linked { IsLinked self.new.rows }
+        ensures work { self.new.work ≡ one_more self.old.work }
+        ensures grows { self.old.work ≤ self.new.work }
+    {
+        self.tally.tick();
+    }
+
+    /// A new string from one point to another: each of its halves is the other's next and prev, and its face is the outside.
+    pub fn add_loose(&mut self, string: StringNo, from: PointNo, to: PointNo) -> Result<(), Memory>
+        requires { has_string self.old.rows string ≡ false }
+        ensures adds { OnOk result (AddsLoose string from to self.old.rows self.new.rows) }
+        ensures cycle { OnOk result (AddsCycle (forward_of string) (backward_of string) self.old.rows self.new.rows) }
+        ensures linked { IsLinked self.new.rows }
+        ensures work { OnOk result (self.new.work ≡ one_more self.old.work) }
+        ensures grows { self.old.work ≤ self.new.work }
+        ensures err { OnErr result (self.new ≡ self.old) }
+    {
+        put_loose(&mut self.rows, &string, &from, &to)?;
+        self.tick();
+        Ok(())
+    }
+
+    /// Takes out a string whose halves are each other's next.
+    pub fn remove_loose(&mut self, string: StringNo)
+        requires { IsLoose string self.old.rows }
+        ensures removes { RemovesLoose string self.old.rows self.new.rows }
+        ensures cycle { RemovesCycle (forward_of string) (backward_of string) self.old.rows self.new.rows }
+        ensures linked { IsLinked self.new.rows }
+        ensures work { self.new.work ≡ one_more self.old.work }
+        ensures grows { self.old.work ≤ self.new.work }
+    {
+        take_loose(&mut self.rows, &string);
+        self.tick();
+    }
+
+    /// The nexts of a and b change places, and the prevs of what followed them.
+    pub fn splice(&mut self, a: Half, b: Half)
+        requires a_in { has self.old.rows a ≡ true }
+        requires b_in { has self.old.rows b ≡ true }
+        ensures spliced { IsSpliced a b self.old.rows self.new.rows }
+        ensures cycles { SplicesCycles a b self.old.rows self.new.rows }
+        ensures linked { IsLinked self.new.rows }
+
+        // The same splice again restores the table, and a splice of a half with itself changes nothing.
+        ensures back { SplicesBack a b self.old.rows self.new.rows }
+        ensures unchanged { a ≡ b → IsUnchanged self.old.rows self.new.rows }
+
+        ensures work { self.new.work ≡ one_more self.old.work }
+        ensures grows { self.old.work ≤ self.new.work }
+    {
+        exchange(&mut self.rows, &a, &b);
+        self.tick();
+    }
+
+    /// Every half of the cycle of `h` gets the face.
+    pub fn relabel(&mut self, h: Half, face: Face)
+        requires { has self.old.rows h ≡ true }
+        ensures relabels { Relabels (cycle self.old.rows h) face self.old.rows self.new.rows }
+        ensures linked { IsLinked self.new.rows }
+        ensures work { self.new.work ≡ ticked (length (cycle self.old.rows h)) self.old.work }
+        ensures grows { self.old.work ≤ self.new.work }
+    {
+        relabel_cycle(&mut self.rows, &mut self.tally, &h, &face);
+    }
+
+    /// The cycle of `h`, from `h` on.
+    pub fn walk(&self, h: Half) -> Walk<'_>
+        requires { has self.now.rows h ≡ true }
+        ensures halves { result ≡ cycle self.now.rows h }
+        ensures cycle { HasCycle self.now.rows (cycle self.now.rows h) }
+        ensures only { (halves : List Half) → HasCycle self.now.rows (h ∷ halves) → cycle self.now.rows h ≡ h ∷ halves }
+        ensures linked { IsLinked self.now.rows }
+    {
+        walk_rows(&self.rows, &h)
+    }
+
+    /// How much has been done.
+    pub fn work(&self) -> u64
+        ensures { result ≡ self.now.work }
+    {
+        self.tally.count()
+    }
+}
