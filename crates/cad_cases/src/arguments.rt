@@ -3,6 +3,7 @@ use crate::cases::lines;
 use cad_files::MemSink;
 use cad_history::Depth;
 use cad_job::{JobFault, args_status, read_args, run_path};
+use std::fs;
 use std::test::Fail;
 
 #[test]
@@ -13,9 +14,8 @@ fn depth_and_file(rt: HostRuntime) -> Result<(), Fail> {
         (["cadedit", "F"].as_slice(), 100, Some("F")),
         (["cadedit", "--depth", "1000"].as_slice(), 1000, None),
     ] {
-        let args = match read_args(rt.alloc(), words) {
-            Ok(args) => args,
-            Err(_) => return Err(Fail),
+        let Ok(args) = read_args(rt.alloc(), words) else {
+            panic!(rt; "arguments were not read")
         };
         assert_eq!(rt; args.depth.get(), depth);
         assert!(rt; args.file == file);
@@ -33,7 +33,7 @@ fn arguments_that_are_none(rt: HostRuntime) -> Result<(), Fail> {
         (["cadedit", "--help"].as_slice(), 0),
     ] {
         match read_args(rt.alloc(), words) {
-            Ok(_) => return Err(Fail),
+            Ok(_) => panic!(rt; "arguments were read"),
             Err(error) => assert_eq!(rt; args_status(&error), status),
         }
     }
@@ -42,16 +42,30 @@ fn arguments_that_are_none(rt: HostRuntime) -> Result<(), Fail> {
 
 #[test]
 fn a_job_in_a_file(rt: HostRuntime) -> Result<(), Fail> {
-    let answers = lines(
+    let job = lines(
         rt.alloc(),
-        &["ok", "ok", "ok", "ok", "ok", "ok", "ok", "ok", "nothing", "plan,2", "open"],
+        &[
+            "plan,1",
+            "open",
+            "add-source,1,Plan 7",
+            "undo",
+            "undo",
+            "print",
+        ],
     )?;
+    let answers = lines(rt.alloc(), &["ok", "ok", "nothing", "plan,2", "open"])?;
     let depth = Depth::new(100).expect(&rt, "a depth");
+    fs::write(&rt, "job_in_a_file.csv", job.as_slice())?;
     let mut sink = MemSink::new(rt.alloc(), u64::MAX);
-    assert_eq!(rt; run_path(&rt, "first.csv", &mut sink, depth), Ok(()));
+    let end = run_path(&rt, "job_in_a_file.csv", &mut sink, depth);
+    fs::remove_file(&rt, "job_in_a_file.csv")?;
+    assert_eq!(rt; end, Ok(()));
     assert!(rt; sink.bytes() == answers.as_slice());
     let mut none = MemSink::new(rt.alloc(), u64::MAX);
-    assert_eq!(rt; run_path(&rt, "not-there.csv", &mut none, depth), Err(JobFault::Read));
+    assert_eq!(rt;
+        run_path(&rt, "not_there.csv", &mut none, depth),
+        Err(JobFault::Read)
+    );
     assert!(rt; none.bytes().is_empty());
     Ok(())
 }

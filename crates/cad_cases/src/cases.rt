@@ -3,9 +3,11 @@ use cad_files::MemSink;
 use cad_history::Depth;
 use cad_job::{JobFault, run_job};
 use std::alloc::Global;
+use std::process::Abort;
 use std::test::Fail;
 
 /// A worked job. Records are written without the commas that fill them up to seven fields.
+#[derive(Drop)]
 pub(crate) struct Case {
     pub name: &'static str,
     pub depth: usize,
@@ -42,7 +44,7 @@ pub(crate) fn lines(alloc: Global, records: &[&str]) -> Result<Vec<u8>, Fail> {
 }
 
 /// Runs each job, and compares what it wrote and how it ended.
-pub(crate) fn check(rt: &HostRuntime, cases: &[Case]) -> Result<(), Fail> {
+pub(crate) fn check<R: Abort + AllocGlobal>(rt: &R, cases: &[Case]) -> Result<(), Fail> {
     for case in cases {
         let job = lines(rt.alloc(), case.job)?;
         let answers = lines(rt.alloc(), case.answers)?;
@@ -50,7 +52,11 @@ pub(crate) fn check(rt: &HostRuntime, cases: &[Case]) -> Result<(), Fail> {
         let mut sink = MemSink::new(rt.alloc(), u64::MAX);
         let end = run_job(rt.alloc(), job.as_slice(), &mut sink, depth);
         assert_eq!(rt; end, case.end, "how {} ends", case.name);
-        assert!(rt; sink.bytes() == answers.as_slice(), "what {} writes", case.name);
+        assert!(rt;
+            sink.bytes() == answers.as_slice(),
+            "what {} writes",
+            case.name
+        );
     }
     Ok(())
 }

@@ -6,13 +6,26 @@ use cad_job::{JobFault, run_job, status};
 use cad_rows::{Name, PointNo};
 use std::alloc::Global;
 use std::io::{self, Read};
+use std::process::Abort;
 use std::test::Fail;
 
 const JOB: &[&str] = &[
-    "plan,1", "source,1,Plan 7", "open", "add-point,1,0,0", "attach,point,1,1", "print",
+    "plan,1",
+    "source,1,Plan 7",
+    "open",
+    "add-point,1,0,0",
+    "attach,point,1,1",
+    "print",
 ];
 
-const ANSWERS: &[&str] = &["ok", "ok", "plan,2", "source,1,Plan 7", "point,1,0,0,1", "open"];
+const ANSWERS: &[&str] = &[
+    "ok",
+    "ok",
+    "plan,2",
+    "source,1,Plan 7",
+    "point,1,0,0,1",
+    "open",
+];
 
 /// A reader that gives so many bytes in each read, and fails at one of them.
 #[derive(Drop)]
@@ -54,7 +67,7 @@ impl Sink for ByteByByte {
     }
 }
 
-fn deep(rt: &HostRuntime) -> Depth {
+fn deep<R: Abort>(rt: &R) -> Depth {
     Depth::new(100).expect(rt, "a depth")
 }
 
@@ -71,7 +84,10 @@ fn a_read_that_fails(rt: HostRuntime) -> Result<(), Fail> {
         let mut sink = MemSink::new(rt.alloc(), u64::MAX);
         let end = run_job(rt.alloc(), reader, &mut sink, deep(&rt));
         assert_eq!(rt; end, Err(JobFault::Read), "at read {fails_at}");
-        assert!(rt; answers.as_slice().starts_with(sink.bytes()), "at read {fails_at}");
+        assert!(rt;
+            answers.as_slice().starts_with(sink.bytes()),
+            "at read {fails_at}"
+        );
     }
     Ok(())
 }
@@ -84,7 +100,10 @@ fn a_sink_that_fails(rt: HostRuntime) -> Result<(), Fail> {
         let mut sink = MemSink::new(rt.alloc(), fails_from);
         let end = run_job(rt.alloc(), job.as_slice(), &mut sink, deep(&rt));
         assert_eq!(rt; end, Err(JobFault::Write), "from call {fails_from}");
-        assert!(rt; answers.as_slice().starts_with(sink.bytes()), "from call {fails_from}");
+        assert!(rt;
+            answers.as_slice().starts_with(sink.bytes()),
+            "from call {fails_from}"
+        );
     }
     Ok(())
 }
@@ -111,15 +130,31 @@ fn tells(alloc: Global, fault: JobFault, number: u8, line: &str) -> Result<bool,
 fn statuses_and_lines(rt: HostRuntime) -> Result<(), Fail> {
     let point = PointNo::new(4).expect(&rt, "a number");
     for (fault, number, line) in [
-        (JobFault::Plan(PlanFault::Version), 2, "cadedit: plan fault 2 version"),
-        (JobFault::Plan(PlanFault::Syntax(4)), 2, "cadedit: plan fault 3 syntax record 4"),
-        (JobFault::Plan(PlanFault::Range(4)), 2, "cadedit: plan fault 4 range record 4"),
+        (
+            JobFault::Plan(PlanFault::Version),
+            2,
+            "cadedit: plan fault 2 version",
+        ),
+        (
+            JobFault::Plan(PlanFault::Syntax(4)),
+            2,
+            "cadedit: plan fault 3 syntax record 4",
+        ),
+        (
+            JobFault::Plan(PlanFault::Range(4)),
+            2,
+            "cadedit: plan fault 4 range record 4",
+        ),
         (
             JobFault::Plan(PlanFault::Taken(Name::Point(point))),
             2,
             "cadedit: plan fault 5 taken point 4",
         ),
-        (JobFault::Plan(PlanFault::NoOpen), 2, "cadedit: plan fault 12 no-open"),
+        (
+            JobFault::Plan(PlanFault::NoOpen),
+            2,
+            "cadedit: plan fault 12 no-open",
+        ),
         (JobFault::Read, 3, "cadedit: read fault"),
         (JobFault::Write, 3, "cadedit: write fault"),
         (JobFault::Long, 4, "cadedit: too many records"),

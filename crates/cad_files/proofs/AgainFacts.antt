@@ -1,7 +1,7 @@
 -- The records of a valid map's plan give the map again.
-use Rattle.std.proofs.Common.{◌≡◌, ◌≢◌, ◌∙◌, sym, ap, refl, ℕ, ◌+◌, ◌<◌, ◌≤◌, ◌==◌, List, [], ◌∷◌, ◌++◌, map, length, length-append, Bool, true, false, not, Option, Some, None, is_some, arith, inl, inr, ◌||◌, nat_lt, nat_le, add_assoc, append_assoc, append-nil}
-use Rattle.std.specs.Prelude.{find, fold, ℤ, IsTrue, int_le}
-use Rattle.std.specs.List.{list_any, flat_map, AllByRecursion}
+use Rattle.std.proofs.Common.{◌≡◌, ◌≢◌, ◌∙◌, sym, ap, refl, ℕ, ◌+◌, ◌<◌, ◌≤◌, ◌==◌, List, [], ◌∷◌, ◌++◌, map, length, length-append, true, false, not, None, is_some, arith, inl, inr, nat_lt, nat_le, append_assoc, append-nil}
+use Rattle.std.specs.Prelude.{fold, ℤ, IsTrue}
+use Rattle.std.specs.List.{list_any, AllByRecursion}
 use Rattle.std.proofs.lemmas.Bool.{cases_Bool, ne_eqb, eqb-true}
 use Rattle.std.proofs.lemmas.Bool.Decides.{nat_tests}
 use Rattle.std.proofs.lemmas.Int.{ints}
@@ -17,10 +17,10 @@ use Rattle.cad_map.specs.Table.{row_with}
 use Rattle.cad_map.specs.Valid.{EachPair, AreSources, IsValid}
 use Rattle.cad_files.specs.Fields.{repeated}
 use Rattle.cad_files.specs.Rows.{Rows, no_rows}
-use Rattle.cad_files.specs.Plan.{Plan, plan_of, plan_step, plan_meant, source_meant, point_meant, open_meant, version_of, beginning, reading, opened}
+use Rattle.cad_files.specs.Plan.{plan_of, plan_step, plan_meant, source_meant, point_meant, open_meant, version_of, beginning, reading, opened}
 use Rattle.cad_files.specs.Texts.{Record, first_record, source_record, point_record, open_record, plan_records, text_of, record_text}
 use Rattle.cad_files.specs.Building.{rows_of, IsBuilt, missing, sources_named, points_name, source_taken, point_taken}
-use Rattle.cad_files.specs.declared.plan.Version.TheVariants.{One, Two}
+use Rattle.cad_files.specs.declared.plan.Version.TheVariants.{Two}
 use Rattle.cad_files.specs.Input.{IsWhole}
 use Rattle.csv.specs.Machine.{next_record}
 use Rattle.csv.specs.Reading.{Reached, default_config}
@@ -92,8 +92,17 @@ point_step n rows p number position sources once few room =
     let short : nat_le (length p.sources) source_limit ≡ true = grind (arith, nat_tests) in
     let x_in = within p.position.x position.x_in_range in
     let y_in = within p.position.y position.y_in_range in
-    rw (number_again p.number number.some (omega (arith, number.within)), coordinate_again p.position.x position.x_in_range, coordinate_again p.position.y position.y_in_range,
-    list_again p.sources sources, once, x_in, y_in, short, fits) refl
+    rw (
+      number_again p.number number.some (omega (arith, number.within)),
+      coordinate_again p.position.x position.x_in_range,
+      coordinate_again p.position.y position.y_in_range,
+      list_again p.sources sources,
+      once,
+      x_in,
+      y_in,
+      short,
+      fits,
+    ) refl
 
 -- ---- All the records
 
@@ -151,9 +160,9 @@ plan_again m valid =
     ap (λ p. fold plan_step p ((ss ++ ps) ++ open_record ∷ [])) first_is
     ∙ fold-append plan_step (reading Two 1 no_rows) (ss ++ ps) (open_record ∷ [])
     ∙ ap (λ p. plan_step p open_record) (
-      fold-append plan_step (reading Two 1 no_rows) ss ps
-      ∙ ap (λ p. fold plan_step p ps) (sources_fold 1 no_rows m.sources v.sources.in_range v.texts (let few = v.few_sources in omega arith))
-      ∙ points_fold (1 + length m.sources) (record no_rows { sources = m.sources }) m.points (writable m.sources m.points v.sources.in_range v.points.in_range v.positions v.point_sources) (let few = v.few_points in omega arith)
+    fold-append plan_step (reading Two 1 no_rows) ss ps
+    ∙ ap (λ p. fold plan_step p ps) (sources_fold 1 no_rows m.sources v.sources.in_range v.texts (let few = v.few_sources in omega arith))
+    ∙ points_fold (1 + length m.sources) (record no_rows { sources = m.sources }) m.points (writable m.sources m.points v.sources.in_range v.points.in_range v.positions v.point_sources) (let few = v.few_points in omega arith)
     )
     ∙ open_is _ _
 

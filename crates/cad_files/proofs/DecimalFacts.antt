@@ -1,9 +1,8 @@
 -- What is written as a field reads as what it was.
-use Rattle.std.proofs.Common.{◌≡◌, ◌≢◌, ◌∙◌, sym, ap, refl, ℕ, zero, suc, ◌+◌, ◌-◌, ◌*◌, ◌/◌, ◌%◌, ◌^◌, ◌<◌, ◌≤◌, ◌==◌, List, [], ◌∷◌, ◌++◌, map, length, length-append, get_or, Some, None, All, arith, true, false, inl, inr, ◌&&◌, ◌||◌, nat_le, decimal, ℤ, pos, negsuc}
-use Rattle.std.specs.Prelude.{option_map}
+use Rattle.std.proofs.Common.{◌≡◌, ◌∙◌, sym, ap, refl, ℕ, zero, suc, ◌+◌, ◌-◌, ◌*◌, ◌/◌, ◌%◌, ◌^◌, ◌<◌, ◌≤◌, ◌==◌, List, [], ◌∷◌, ◌++◌, map, length, length-append, get_or, Some, None, All, arith, true, false, inl, inr, ◌&&◌, nat_le, decimal, ℤ, pos, negsuc}
 use Rattle.std.specs.Fmt.{signed_decimal}
-use Rattle.std.specs.List.{AllByRecursion, join_with_byte, list_any, slice_split}
-use Rattle.std.specs.Str.{is_utf8, bytes_eq}
+use Rattle.std.specs.List.{AllByRecursion, join_with_byte, slice_split}
+use Rattle.std.specs.Str.{bytes_eq}
 use Rattle.std.proofs.lemmas.Str.{is_utf8-from_IsUtf8}
 use Rattle.std.proofs.lemmas.Bool.Decides.{nat_tests}
 use Rattle.std.proofs.lemmas.Bool.{cases_Bool, ne_eqb}

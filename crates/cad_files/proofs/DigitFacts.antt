@@ -1,5 +1,5 @@
 -- Reading digits from the left.
-use Rattle.std.proofs.Common.{◌≡◌, sym, refl, ℕ, suc, ◌+◌, ◌-◌, ◌*◌, ◌^◌, ◌<◌, ◌≤◌, ◌⊎◌, List, ◌∷◌, length, drop, get_or, Option, Some, None, IfSome, arith, add-one, drop-cons, true, false, inl, inr, [], nat_le, ◌&&◌}
+use Rattle.std.proofs.Common.{◌≡◌, sym, refl, ℕ, suc, ◌+◌, ◌-◌, ◌*◌, ◌^◌, ◌<◌, ◌≤◌, ◌⊎◌, List, ◌∷◌, length, drop, get_or, Option, Some, None, IfSome, arith, add-one, drop-cons, true, inl, inr, [], nat_le, ◌&&◌}
 use Rattle.std.proofs.lemmas.List.{drop_all}
 use Rattle.std.proofs.Math.Nat.{pow-suc, pow-le-pow_right}
 use Rattle.std.proofs.lemmas.Bool.{cases_Bool}

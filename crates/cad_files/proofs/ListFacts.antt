@@ -1,5 +1,5 @@
 -- Numbers that are read one after another.
-use Rattle.std.proofs.Common.{◌≡◌, ◌∙◌, sym, ap, refl, ℕ, suc, ◌+◌, ◌<◌, List, [], ◌∷◌, ◌++◌, length, take, drop, get_or, Option, Some, None, append_assoc, add-one, drop-cons, true, false, ◌==◌, ◌≤◌, All, take-append-drop, Bor, MatchOption}
+use Rattle.std.proofs.Common.{◌≡◌, ◌∙◌, sym, ap, refl, ℕ, ◌+◌, ◌<◌, List, [], ◌∷◌, ◌++◌, length, take, drop, get_or, Option, Some, None, append_assoc, add-one, drop-cons, true, false, ◌==◌, ◌≤◌, All, take-append-drop, Bor, MatchOption}
 use Rattle.std.specs.Prelude.{option_map}
 use Rattle.std.specs.List.{list_any, slice_split}
 use Rattle.std.proofs.Math.Seq.{take-suc}

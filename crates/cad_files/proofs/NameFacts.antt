@@ -1,13 +1,11 @@
 -- Names that are looked up one after another.
-use Rattle.std.proofs.Common.{◌≡◌, ◌∙◌, sym, ap, refl, ℕ, ◌+◌, ◌<◌, List, [], ◌∷◌, ◌++◌, length, map, take, drop, get_or, Bool, true, false, not, Option, Some, None, is_some, take-append-drop, drop-cons, add-one}
+use Rattle.std.proofs.Common.{◌≡◌, ◌∙◌, sym, ap, refl, ℕ, ◌+◌, ◌<◌, List, [], ◌∷◌, ◌++◌, length, take, drop, get_or, Bool, true, false, not, Option, Some, None, is_some, take-append-drop, drop-cons, add-one}
 use Rattle.std.specs.Prelude.{find}
-use Rattle.std.specs.List.{flat_map}
 use Rattle.std.specs.Option.{option_or}
 use Rattle.std.proofs.lemmas.List.{take_more, map-append}
 use Rattle.std.proofs.lemmas.List.Folds.{find-append}
 use Rattle.std.proofs.lemmas.Grind.{flat_map-append}
 use Rattle.cad_rows.specs.declared.rows.PointRow.{PointRow}
-use Rattle.cad_rows.specs.declared.names.Name.{Name}
 use Rattle.cad_rows.specs.declared.names.Name.TheVariants as name
 use Rattle.cad_map.specs.Map.{Map, has_source}
 use Rattle.cad_map.specs.Refusals.{is_there}

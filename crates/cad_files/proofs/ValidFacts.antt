@@ -1,7 +1,7 @@
 -- Rows without a fault are the rows of a sound map.
-use Rattle.std.proofs.Common.{◌≡◌, ◌≢◌, ◌∙◌, sym, ap, refl, ℕ, ◌==◌, List, [], ◌∷◌, ◌++◌, map, Bool, true, false, not, Option, Some, None, is_some, inl, inr, ◌||◌, All}
-use Rattle.std.specs.Prelude.{find, option_map, IsTrue}
-use Rattle.std.specs.List.{flat_map, list_any, AllByRecursion}
+use Rattle.std.proofs.Common.{◌≡◌, ◌≢◌, ◌∙◌, sym, refl, ℕ, ◌==◌, List, [], ◌∷◌, ◌++◌, map, Bool, true, false, not, Option, Some, None, inl, inr, ◌||◌}
+use Rattle.std.specs.Prelude.{option_map, IsTrue}
+use Rattle.std.specs.List.{list_any, AllByRecursion}
 use Rattle.std.specs.Option.{option_or}
 use Rattle.std.proofs.lemmas.Bool.{cases_Bool, eqb-false}
 use Rattle.std.proofs.lemmas.List.Elements.{recursion_from_All}
@@ -14,10 +14,10 @@ use Rattle.cad_rows.specs.declared.names.Name.TheVariants as name
 use Rattle.geo_exact.specs.Position.{OnTheMap}
 use Rattle.cad_map.specs.Map.{Map, has_source}
 use Rattle.cad_map.specs.Refusals.{is_there}
-use Rattle.cad_map.specs.Valid.{EachPair, AreSources, IsValid, IsSound, KeepsAll}
+use Rattle.cad_map.specs.Valid.{EachPair, AreSources, IsValid, KeepsAll}
 use Rattle.cad_map.proofs.Lists.{All-follows, All-map}
 use Rattle.cad_files.specs.Fields.{repeated}
-use Rattle.cad_files.specs.Rows.{Rows, AreInRange, IsSourceRow, IsPointRow, IsSourceList}
+use Rattle.cad_files.specs.Rows.{Rows, AreInRange, IsSourceRow, IsPointRow}
 use Rattle.cad_files.specs.Building.{map_of, first_some, first_fault, source_taken, point_taken, unknown, missing, sources_named, points_name}
 use Rattle.cad_files.specs.declared.faults.PlanFault.{PlanFault}
 use Rattle.cad_files.specs.declared.faults.PlanFault.TheVariants as faults

@@ -1,5 +1,5 @@
 -- The map of a plan's rows, and the first fault in them.
-use Rattle.std.specs.Prelude.{◌≡◌, ℕ, Bool, not, List, [], ◌∷◌, map, find, Option, Some, None, option_map}
+use Rattle.std.specs.Prelude.{◌≡◌, ℕ, not, List, [], ◌∷◌, map, find, Option, Some, None, option_map}
 use Rattle.std.specs.List.{flat_map}
 use Rattle.cad_rows.specs.declared.rows.PointRow.{PointRow}
 use Rattle.cad_rows.specs.declared.rows.SourceRow.{SourceRow}

@@ -17,10 +17,7 @@ pub enum InputFault {
 }
 
 /// The next record into `row`, and whether there was one. After a fault the reader is not used again.
-pub fn next_row<R: Read>(
-    reader: &mut Reader<R>,
-    row: &mut ByteRecord,
-) -> Result<bool, InputFault>
+pub fn next_row<R: Read>(reader: &mut Reader<R>, row: &mut ByteRecord) -> Result<bool, InputFault>
     ensures more { IfOk result (λ found. found ≡ true → (text : List ℕ) (rows : List (List (List ℕ))) →
         HasRead R.remaining text rows reader.old → HasRead R.remaining text (rows ++ fields_of row.new ∷ []) reader.new) }
     ensures ends { IfOk result (λ found. found ≡ false → (text : List ℕ) (rows : List (List (List ℕ))) →

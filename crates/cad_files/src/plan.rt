@@ -1,7 +1,7 @@
 //! Reading a plan.
 ghost use Rattle.std.specs.Prelude.{◌≡◌, ◌≢◌, ◌+◌, ◌<◌, ◌^◌, [], ℕ, List, true, IfOk, IfErr, OnOk, if◌then◌else◌};
 ghost use Rattle.csv.specs.Records.{fields_of};
-ghost use Rattle.cad_files.specs.Input.{HasRead, IsWhole};
+ghost use Rattle.cad_files.specs.Input.{HasRead};
 ghost use Rattle.cad_files.specs.Rows.{no_rows, HasOneMore};
 ghost use Rattle.cad_files.specs.Plan.{beginning, reading, opened, faulty, version_of, source_meant, point_meant, open_meant, plan_meant, is_within as is_within_of, with_point, record_step, plan_step, plan_of, IsPlanFault};
 ghost use Rattle.cad_files.specs.declared.faults.PlanFault.TheVariants as faults;

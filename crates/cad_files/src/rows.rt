@@ -1,6 +1,6 @@
 //! The rows of a plan.
-ghost use Rattle.std.specs.Prelude.{◌≡◌, ◌∷◌, ◌++◌, ◌<◌, ◌≤◌, length, None, OnOk, OnErr, [], is_some, false};
-ghost use Rattle.cad_rows.specs.Limits.{row_limit, source_limit};
+ghost use Rattle.std.specs.Prelude.{◌≡◌, ◌∷◌, ◌++◌, ◌<◌, length, OnOk, OnErr, []};
+ghost use Rattle.cad_rows.specs.Limits.{row_limit};
 ghost use Rattle.cad_files.specs.Rows.{no_rows, IsSourceList, HasOneMore};
 
 use cad_rows::{Memory, PointRow, SourceRow};

@@ -1,6 +1,6 @@
 //! Where a job's answers go.
 
-ghost use Rattle.std.specs.Prelude.{◌≡◌, ◌≤◌, ◌<◌, ◌+◌, ◌-◌, ◌^◌, ◌==◌, ◌&&◌, ◌++◌, ℕ, List, Option, Some, None, length, take, min, not, MatchResult, OnOk, OnErr, IfOk, is_err, IsErr, ◌↔◌, [], if◌then◌else◌};
+ghost use Rattle.std.specs.Prelude.{◌≡◌, ◌≤◌, ◌<◌, ◌-◌, ◌==◌, ℕ, List, Option, Some, length, take, MatchResult, OnOk, OnErr, IfOk, is_err, IsErr, ◌↔◌, [], if◌then◌else◌};
 ghost use Rattle.std.specs.Io.KnownBytes.{Appends, Keeps};
 ghost use Rattle.cad_files.specs.Sinks.{IsFront, fails_with, counted};
 

@@ -50,9 +50,15 @@ fn plans(rt: HostRuntime) -> Result<(), Fail> {
         ("plan,1,,,,,\nplan,1,,,,,\n", "3 syntax record 2"),
         ("plan,1,,,,,\npoint,05,5,5,,,\n", "3 syntax record 2"),
         ("plan,1,,,,,\npoint,5,-0,5,,,\n", "3 syntax record 2"),
-        ("plan,1,,,,,\npoint,5,1000000001,5,1 1,,\n", "3 syntax record 2"),
+        (
+            "plan,1,,,,,\npoint,5,1000000001,5,1 1,,\n",
+            "3 syntax record 2",
+        ),
         ("plan,1,,,,,\npoint,5,1000000001,5,,,\n", "4 range record 2"),
-        ("plan,2,,,,,\npoint,5,5,10000000001,,,\n", "4 range record 2"),
+        (
+            "plan,2,,,,,\npoint,5,5,10000000001,,,\n",
+            "4 range record 2",
+        ),
         (
             "plan,1,,,,,\npoint,5,5,5,1 2 3 4 5 6 7 8 9 10 11 12 13 14 15 16 17,,\n",
             "7 full",
@@ -90,7 +96,10 @@ fn fault_texts(rt: HostRuntime) -> Result<(), Fail> {
     };
     for (fault, want) in [
         (PlanFault::Taken(Name::String(string)), "5 taken string 4"),
-        (PlanFault::Unknown(Name::Parcel(parcel)), "6 unknown parcel 4"),
+        (
+            PlanFault::Unknown(Name::Parcel(parcel)),
+            "6 unknown parcel 4",
+        ),
         (PlanFault::Breaks(Rule::V4), "11 breaks V4"),
         (PlanFault::Breaks(Rule::V6), "11 breaks V6"),
         (PlanFault::Breaks(Rule::V7), "11 breaks V7"),

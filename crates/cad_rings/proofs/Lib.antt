@@ -5,3 +5,7 @@ pub mod OneForm
 pub mod Permuted
 pub mod Sides
 pub mod Corners
+pub mod Parts
+pub mod Cut
+pub mod Join
+pub mod Anchor

@@ -1,5 +1,5 @@
 -- Cutting a ring by a chain, joining two rings along one, and points put in and taken out.
-use Rattle.std.specs.Prelude.{◌≡◌, ℕ, ◌+◌, ◌<◌, not, ◌==◌, nat_lt, List, [], ◌∷◌, ◌++◌, length, take, drop, reverse, filter, slice_range, slice_index, flat_map, if◌then◌else◌}
+use Rattle.std.specs.Prelude.{◌≡◌, ◌≢◌, ℕ, ◌+◌, ◌<◌, not, ◌==◌, nat_lt, List, [], ◌∷◌, ◌++◌, length, take, drop, reverse, filter, slice_range, slice_index, flat_map, if◌then◌else◌}
 use Rattle.cad_rings.specs.Cycle.{Ring, Side, is_side, opposite, sides_of, turned}
 
 -- the ring in the other direction
@@ -25,6 +25,12 @@ stretch i j ring = if nat_lt i j then slice_range ring i j else drop i ring ++ t
 -- a chain from the point at place i through inner points to the point at place j
 abbrev pub chain_across : ℕ → ℕ → List ℕ → Ring → List ℕ
 chain_across i j inner ring = slice_index ring i ∷ inner ++ slice_index ring j ∷ []
+
+-- two places of a ring
+pub record AreTwoPlaces (i j : ℕ) (ring : Ring) : Type 0 where
+  pub first : i < length ring
+  pub second : j < length ring
+  pub apart : i ≢ j
 
 -- what is left of that chain: the chain, and the ring from the chain's end back to its beginning
 abbrev pub left_ring : ℕ → ℕ → List ℕ → Ring → Ring

@@ -1,10 +1,10 @@
 -- The cycles of a table to which a loose string comes, or from which it goes.
-use Rattle.std.proofs.Common.{◌≡◌, ℕ, Bool, true, false, not, ◌||◌, List, [], ◌∷◌, refl, sym, ap, ◌∙◌, ◌⊎◌, inl, inr, true≢false, nat_eq, if◌then◌else◌, is_some}
+use Rattle.std.proofs.Common.{◌≡◌, ℕ, Bool, true, false, not, ◌||◌, List, [], ◌∷◌, refl, sym, ap, ◌∙◌, ◌⊎◌, inl, inr, true≢false, nat_eq, if◌then◌else◌}
 use Rattle.std.proofs.lemmas.Bool.Decides.{Decides-eqb}
 use Rattle.half_table.specs.declared.half.Half.{Half}
 use Rattle.half_table.specs.Half.{is_half, twin, forward_of, backward_of}
 use Rattle.half_table.specs.Cycle.{holds, IsCycle}
-use Rattle.half_table.specs.Rows.{Rows, has_string, has, next, prev, cycle, IsLinked, HasCycle}
+use Rattle.half_table.specs.Rows.{Rows, has_string, has, next, prev, IsLinked, HasCycle}
 use Rattle.half_table.specs.Surgery.{AddsLoose, AddsCycle, IsLoose, RemovesLoose, RemovesCycle}
 use Rattle.half_table.proofs.Halves.{is_half-self, is_half-same, is_half-twin, twin-twin}
 use Rattle.half_table.proofs.Cycles.{walked-so, walk-passes, or_true, or_right}

@@ -1,5 +1,5 @@
 -- What each call that changes a table makes of its rows and of its cycles.
-use Rattle.std.specs.Prelude.{◌≡◌, ℕ, Bool, true, false, List, [], ◌∷◌, ◌++◌, nat_eq, if◌then◌else◌, ◌↔◌, ◌⊎◌}
+use Rattle.std.specs.Prelude.{◌≡◌, ℕ, true, false, List, [], ◌∷◌, ◌++◌, nat_eq, if◌then◌else◌, ◌↔◌, ◌⊎◌}
 use Rattle.cad_rows.specs.declared.names.Face.{Face}
 use Rattle.cad_rows.specs.declared.names.Face.TheVariants.{Outside}
 use Rattle.half_table.specs.declared.half.Half.{Half}

@@ -1,7 +1,7 @@
 //! The table of half-edges.
-ghost use Rattle.std.specs.Prelude.{◌≡◌, ◌≤◌, [], ◌∷◌, true, false, List, Some, length, OnOk, OnErr};
+ghost use Rattle.std.specs.Prelude.{◌≡◌, ◌≤◌, Bool, [], ◌∷◌, true, false, List, Some, length, OnOk, OnErr};
 ghost use Rattle.half_table.specs.Count.{one_more, ticked};
-ghost use Rattle.half_table.specs.Half.{twin, forward_of, backward_of};
+ghost use Rattle.half_table.specs.Half.{half_of, twin, forward_of, backward_of};
 ghost use Rattle.half_table.specs.Rows.{has_string, links_of, has, next, prev, origin, face, IsLinked, cycle, HasCycle};
 ghost use Rattle.half_table.specs.Surgery.{IsUnchanged, IsSpliced, SplicesBack, SplicesCycles, Relabels, AddsLoose, AddsCycle, IsLoose, RemovesLoose, RemovesCycle};
 
@@ -44,6 +44,14 @@ impl<T: Tally> HalfTable<T> {
             rows: IndexMap::new(alloc),
             tally,
         }
+    }
+
+    /// Whether the table holds the halves of a string.
+    pub fn has_string(&self, string: StringNo) -> bool
+        ensures is { result ≡ has_string self.now.rows string }
+        ensures halves { (forward : Bool) → has self.now.rows (half_of string forward) ≡ result }
+    {
+        self.rows.contains_key(&string)
     }
 
     /// The other half of the same string.

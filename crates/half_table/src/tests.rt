@@ -1,47 +1,71 @@
+ghost use Rattle.std.specs.Prelude.{◌≡◌, true};
+ghost use Rattle.half_table.specs.Rows.{has};
+
+use crate::half::is_same;
 use crate::{Half, HalfTable, Ticks};
 use cad_rows::{Face, ParcelNo, PointNo, StringNo};
 use std::alloc::Global;
+use std::process::Abort;
 use std::test::Fail;
 
-fn string(number: u32) -> Result<StringNo, Fail> {
-    Ok(StringNo::new(number).ok_or("number")?)
-}
-
-fn forward(number: u32) -> Result<Half, Fail> {
-    let string = string(number)?;
-    Ok(Half {
-        string,
-        forward: true,
-    })
-}
-
-fn backward(number: u32) -> Result<Half, Fail> {
-    let string = string(number)?;
-    Ok(Half {
-        string,
-        forward: false,
-    })
+fn half(rt: &impl Abort, table: &HalfTable<Ticks>, number: u32, forward: bool) -> Half
+    ensures { has table.now.rows result ≡ true }
+{
+    let string = StringNo::new(number).expect(rt, "number");
+    assert!(rt; table.has_string(string));
+    Half { string, forward }
 }
 
 fn add(
+    rt: &impl Abort,
     table: &mut HalfTable<Ticks>,
     number: u32,
     from: u32,
     to: u32,
 ) -> Result<(), Fail> {
-    let from = PointNo::new(from).ok_or("number")?;
-    let to = PointNo::new(to).ok_or("number")?;
-    table.add_loose(string(number)?, from, to)?;
+    let string = StringNo::new(number).expect(rt, "number");
+    let from = PointNo::new(from).expect(rt, "number");
+    let to = PointNo::new(to).expect(rt, "number");
+    assert!(rt; !table.has_string(string));
+    table.add_loose(string, from, to)?;
     Ok(())
 }
 
+fn remove(rt: &impl Abort, table: &mut HalfTable<Ticks>, number: u32) {
+    let string = StringNo::new(number).expect(rt, "number");
+    let forward = Half {
+        string,
+        forward: true,
+    };
+    let backward = Half {
+        string,
+        forward: false,
+    };
+    assert!(rt; table.has_string(string));
+    let after = table.next(Half { string, forward: true });
+    let before = table.next(Half { string, forward: false });
+    assert!(rt; is_same(&after, &backward));
+    assert!(rt; is_same(&before, &forward));
+    table.remove_loose(string);
+}
+
+/// Splices after two halves, named by their strings and directions.
+fn splice(rt: &impl Abort, table: &mut HalfTable<Ticks>, a: (u32, bool), b: (u32, bool)) {
+    let a = half(rt, table, a.0, a.1);
+    let b = half(rt, table, b.0, b.1);
+    table.splice(a, b);
+}
+
+/// The numbers and directions of the halves from one on.
 fn walked(
+    rt: &impl Abort,
     alloc: Global,
     table: &HalfTable<Ticks>,
-    h: Half,
+    number: u32,
+    forward: bool,
 ) -> Result<Vec<(u32, bool)>, Fail> {
     let mut halves = Vec::new(alloc);
-    for half in table.walk(h) {
+    for half in table.walk(half(rt, table, number, forward)) {
         halves.push((half.string.get(), half.forward))?;
     }
     Ok(halves)
@@ -51,19 +75,19 @@ fn walked(
 fn splices_two_loose_strings(rt: HostRuntime) -> Result<(), Fail> {
     let alloc = rt.alloc();
     let mut table = HalfTable::new(alloc, Ticks::new());
-    add(&mut table, 11, 1, 2)?;
-    add(&mut table, 12, 2, 3)?;
+    add(&rt, &mut table, 11, 1, 2)?;
+    add(&rt, &mut table, 12, 2, 3)?;
     assert_eq!(rt; table.work(), 2);
-    table.splice(forward(11)?, backward(12)?);
-    let around = walked(alloc, &table, forward(11)?)?;
+    splice(&rt, &mut table, (11, true), (12, false));
+    let around = walked(&rt, alloc, &table, 11, true)?;
     let wanted = [(11, true), (12, true), (12, false), (11, false)];
     assert_eq!(rt; around.as_slice(), wanted.as_slice());
-    table.splice(forward(11)?, backward(12)?);
-    let apart = walked(alloc, &table, forward(11)?)?;
+    splice(&rt, &mut table, (11, true), (12, false));
+    let apart = walked(&rt, alloc, &table, 11, true)?;
     assert_eq!(rt; apart.as_slice(), [(11, true), (11, false)].as_slice());
-    table.splice(forward(11)?, forward(11)?);
+    splice(&rt, &mut table, (11, true), (11, true));
     assert_eq!(rt; table.work(), 5);
-    table.remove_loose(string(12)?);
+    remove(&rt, &mut table, 12);
     assert_eq!(rt; table.work(), 6);
     Ok(())
 }
@@ -72,33 +96,42 @@ fn splices_two_loose_strings(rt: HostRuntime) -> Result<(), Fail> {
 fn builds_a_triangular_island(rt: HostRuntime) -> Result<(), Fail> {
     let alloc = rt.alloc();
     let mut table = HalfTable::new(alloc, Ticks::new());
-    add(&mut table, 31, 6, 7)?;
-    add(&mut table, 32, 7, 8)?;
-    add(&mut table, 33, 8, 6)?;
-    table.splice(forward(31)?, backward(32)?);
-    table.splice(forward(32)?, backward(33)?);
-    table.splice(forward(33)?, backward(31)?);
+    add(&rt, &mut table, 31, 6, 7)?;
+    add(&rt, &mut table, 32, 7, 8)?;
+    add(&rt, &mut table, 33, 8, 6)?;
+    splice(&rt, &mut table, (31, true), (32, false));
+    splice(&rt, &mut table, (32, true), (33, false));
+    splice(&rt, &mut table, (33, true), (31, false));
+    let inside = walked(&rt, alloc, &table, 31, true)?;
+    let wanted = [(31, true), (32, true), (33, true)];
+    assert_eq!(rt; inside.as_slice(), wanted.as_slice());
+    let outside = walked(&rt, alloc, &table, 31, false)?;
+    let wanted = [(31, false), (33, false), (32, false)];
+    assert_eq!(rt; outside.as_slice(), wanted.as_slice());
     assert_eq!(rt; table.work(), 6);
 
     let inner = Face::Parcel(ParcelNo::new(2).ok_or("number")?);
     let outer = Face::Parcel(ParcelNo::new(1).ok_or("number")?);
-    table.relabel(forward(31)?, inner);
-    table.relabel(backward(32)?, outer);
+    let at = half(&rt, &table, 31, true);
+    table.relabel(at, inner);
+    let at = half(&rt, &table, 32, false);
+    table.relabel(at, outer);
     assert_eq!(rt; table.work(), 12);
+    assert!(rt; table.face(half(&rt, &table, 33, true)) == inner);
+    assert!(rt; table.face(half(&rt, &table, 33, false)) == outer);
+    Ok(())
+}
 
-    let inside = walked(alloc, &table, forward(31)?)?;
-    let wanted = [(31, true), (32, true), (33, true)];
-    assert_eq!(rt; inside.as_slice(), wanted.as_slice());
-    let outside = walked(alloc, &table, backward(31)?)?;
-    let wanted = [(31, false), (33, false), (32, false)];
-    assert_eq!(rt; outside.as_slice(), wanted.as_slice());
-    for half in table.walk(forward(33)?) {
-        assert_eq!(rt; table.face(half), inner);
-        assert_eq!(rt; table.face(table.twin(half)), outer);
-    }
-    assert_eq!(rt; table.origin(forward(33)?).get(), 8);
-    assert_eq!(rt; table.origin(backward(33)?).get(), 6);
-    assert!(rt; table.next(backward(31)?) == backward(33)?);
-    assert!(rt; table.prev(backward(31)?) == backward(32)?);
+#[test]
+fn reads_a_loose_string(rt: HostRuntime) -> Result<(), Fail> {
+    let mut table = HalfTable::new(rt.alloc(), Ticks::new());
+    add(&rt, &mut table, 33, 8, 6)?;
+    let back = table.twin(half(&rt, &table, 33, true));
+    assert!(rt; !back.forward);
+    assert_eq!(rt; table.origin(half(&rt, &table, 33, true)).get(), 8);
+    assert_eq!(rt; table.origin(half(&rt, &table, 33, false)).get(), 6);
+    assert!(rt; table.next(half(&rt, &table, 33, true)).string.get() == 33);
+    assert!(rt; table.prev(half(&rt, &table, 33, true)).string.get() == 33);
+    assert!(rt; table.face(half(&rt, &table, 33, true)) == Face::Outside);
     Ok(())
 }

@@ -1,10 +1,6 @@
-use Rattle.std.proofs.Common.{◌≡◌, ◌∙◌, sym, ap, Some, None, rules, List}
-use Rattle.std.specs.Prelude.{option_map}
-use Rattle.cad_rows.specs.declared.rows.PointRow.{PointRow}
-use Rattle.cad_rows.specs.declared.rows.SourceRow.{SourceRow}
+use Rattle.std.proofs.Common.{◌≡◌, ◌∙◌, sym, ap}
 use Rattle.cad_files.specs.Rows.{Rows, AreInRange}
-use Rattle.cad_files.specs.Building.{IsBuildFault, at_once, breaking, source_taken, point_taken, unknown, first_fault, map_of, points_name, missing}
-use Rattle.cad_files.specs.declared.faults.PlanFault.TheVariants as faults
+use Rattle.cad_files.specs.Building.{at_once, breaking, map_of}
 use Rattle.cad_files.proofs.ValidFacts.{valid, fault-source, fault-point, fault-unknown, fault-none}
 use Rattle.cad_files.proofs.building.build.Goals as goal
 

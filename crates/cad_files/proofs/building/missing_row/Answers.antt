@@ -1,4 +1,4 @@
-use Rattle.std.proofs.Common.{◌≡◌, ◌∙◌, sym, ap, is_some, true, false, None, rules}
+use Rattle.std.proofs.Common.{◌≡◌, ◌∙◌, sym, ap, is_some, rules}
 use Rattle.cad_map.proofs.Kept.{none-from_some}
 use Rattle.cad_files.specs.Building.{missing, sources_named}
 use Rattle.cad_files.proofs.NameFacts.{missing_row-none, missing_row-found, missing_row-more}

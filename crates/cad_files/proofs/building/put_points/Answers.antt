@@ -1,6 +1,5 @@
-use Rattle.std.proofs.Common.{◌≡◌, ◌∙◌, sym, ap, true, false, arith, is_some, take}
+use Rattle.std.proofs.Common.{◌∙◌, sym, ap, arith, is_some}
 use Rattle.std.specs.Prelude.{option_map}
-use Rattle.cad_map.specs.Table.{row_with}
 use Rattle.cad_rows.specs.declared.names.Name.TheVariants as name
 use Rattle.cad_files.specs.Building.{point_taken}
 use Rattle.cad_files.specs.declared.faults.PlanFault.TheVariants as faults

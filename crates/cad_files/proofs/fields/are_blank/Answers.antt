@@ -1,4 +1,4 @@
-use Rattle.std.proofs.Common.{sym, arith, ◌∙◌, rules, map, get_or}
+use Rattle.std.proofs.Common.{sym, ◌∙◌}
 use Rattle.std.proofs.lemmas.List.Folds.{list_all-map, list_all_at}
 use Rattle.cad_files.specs.Fields.{is_blank}
 use Rattle.cad_files.proofs.fields.are_blank.Goals as goal

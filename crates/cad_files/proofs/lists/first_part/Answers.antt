@@ -1,4 +1,4 @@
-use Rattle.std.proofs.Common.{arith, sym}
+use Rattle.std.proofs.Common.{arith}
 use Rattle.std.proofs.lemmas.Bool.{ne_eqb}
 use Rattle.cad_files.proofs.ListFacts.{no_space-more, first_part-at, first_part-whole}
 use Rattle.cad_files.proofs.lists.first_part.Goals as goal

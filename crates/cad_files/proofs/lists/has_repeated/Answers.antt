@@ -1,4 +1,4 @@
-use Rattle.std.proofs.Common.{◌∙◌, sym, arith}
+use Rattle.std.proofs.Common.{◌∙◌, sym}
 use Rattle.cad_files.proofs.ListFacts.{repeated-more}
 use Rattle.cad_files.proofs.lists.has_repeated.Goals as goal
 

@@ -1,4 +1,4 @@
-use Rattle.std.proofs.Common.{◌≡◌, ◌++◌, ◌∷◌, sym, arith, ◌∙◌, ap, List, ℕ, Some}
+use Rattle.std.proofs.Common.{◌++◌, sym, ◌∙◌, ap}
 use Rattle.std.specs.Prelude.{option_map}
 use Rattle.cad_files.specs.Fields.{all_numbers}
 use Rattle.cad_files.proofs.ListFacts.{numbers_of-some, some_parts, all_numbers-none, all_numbers-last, all_numbers-more}
@@ -17,8 +17,8 @@ loop-source-preserved c =
     let before = c.loop-source.sources in
     let split = rw c.in-Some-more.is at c.first_part.ensures.parts in
     rw c.in_ok-push.ensures.ok (
-      c.loop-source.invariant ∙ ap (λ ps. option_map (λ ns. before ++ ns) (all_numbers ps)) split
-      ∙ all_numbers-more _ _ before c.in-Some.source (sym c.source_no.ensures ∙ c.in-Some.is)
+    c.loop-source.invariant ∙ ap (λ ps. option_map (λ ns. before ++ ns) (all_numbers ps)) split
+    ∙ all_numbers-more _ _ before c.in-Some.source (sym c.source_no.ensures ∙ c.in-Some.is)
     )
 
 pub returns-in-None : goal.returns-in-None
@@ -26,7 +26,7 @@ returns-in-None c =
     let before = c.loop-source.sources in
     let split = rw c.in-None.is at c.first_part.ensures.parts in
     rw c.in_ok-push.ensures.ok (
-      sym (numbers_of-some c.args.text.now (sym c.is_empty.ensures ∙ c.if-is_empty.false) ∙ c.loop-source.invariant
-      ∙ ap (λ ps. option_map (λ ns. before ++ ns) (all_numbers ps)) split
-      ∙ ap (option_map (λ ns. before ++ ns)) (all_numbers-last _ c.in-Some.source (sym c.source_no.ensures ∙ c.in-Some.is)))
+    sym (numbers_of-some c.args.text.now (sym c.is_empty.ensures ∙ c.if-is_empty.false) ∙ c.loop-source.invariant
+    ∙ ap (λ ps. option_map (λ ns. before ++ ns) (all_numbers ps)) split
+    ∙ ap (option_map (λ ns. before ++ ns)) (all_numbers-last _ c.in-Some.source (sym c.source_no.ensures ∙ c.in-Some.is)))
     )

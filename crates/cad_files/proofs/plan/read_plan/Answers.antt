@@ -1,4 +1,4 @@
-use Rattle.std.proofs.Common.{◌++◌, ◌∷◌, [], refl, ap, ◌∙◌, inl, inr, arith}
+use Rattle.std.proofs.Common.{◌++◌, ◌∷◌, [], refl, ap, inl, inr, arith}
 use Rattle.csv.specs.Records.{fields_of}
 use Rattle.cad_files.specs.Plan.{beginning, is_unfinished}
 use Rattle.cad_files.proofs.InputFacts.{begins}

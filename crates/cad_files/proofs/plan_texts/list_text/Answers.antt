@@ -1,5 +1,4 @@
-use Rattle.std.proofs.Common.{◌≡◌, ◌∙◌, ◌++◌, ◌∷◌, [], sym, ap, List, ℕ, arith, decimal, take}
-use Rattle.cad_files.specs.Texts.{list_field}
+use Rattle.std.proofs.Common.{◌≡◌, ◌∙◌, ◌++◌, sym, ap, List, ℕ, decimal}
 use Rattle.cad_files.proofs.TextFacts.{list_field-none, list_field-first, list_field-more}
 use Rattle.cad_files.proofs.plan_texts.list_text.Goals.{then-i-gt0+in_ok-push, else-i-gt0}
 use Rattle.cad_files.proofs.plan_texts.list_text.Goals as goal

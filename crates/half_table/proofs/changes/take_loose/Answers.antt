@@ -1,4 +1,3 @@
-use Rattle.half_table.specs.Surgery.{RemovesLoose}
 use Rattle.half_table.proofs.Loose.{removed, removed-linked}
 use Rattle.half_table.proofs.LooseCycles.{removed-cycle}
 use Rattle.half_table.proofs.changes.take_loose.Goals as goal
