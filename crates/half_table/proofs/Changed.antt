@@ -49,9 +49,10 @@ module _ (old new : Rows) (h : Half) (l to : Links) (there : links_of old h ≡ 
   left : {V : Type 0} (F : Option Links → V) (g : Half) → F (Some to) ≡ F (Some l) → F (links_of new g) ≡ F (links_of old g)
   left F g same =
       elim (cases_half g h) [
-        inl e ↦ ap F (put g) ∙ ap (λ b. F (if b then Some to else links_of old g)) (subst (λ x. is_half g x ≡ true) e (is_half-self g)) ∙ same
-          ∙ ap F (sym there) ∙ ap (λ x. F (links_of old x)) (sym e)
-      | inr ne ↦ ap F (put g) ∙ ap (λ b. F (if b then Some to else links_of old g)) ne ]
+        | inl e ↦ ap F (put g) ∙ ap (λ b. F (if b then Some to else links_of old g)) (subst (λ x. is_half g x ≡ true) e (is_half-self g)) ∙ same
+            ∙ ap F (sym there) ∙ ap (λ x. F (links_of old x)) (sym e)
+        | inr ne ↦ ap F (put g) ∙ ap (λ b. F (if b then Some to else links_of old g)) ne
+      ]
 
   push : {V : Type 0} (F : Option Links → V) (b : Bool) (x : Option Links) → F (if b then Some to else x) ≡ (if b then F (Some to) else F x)
   push F true x = refl

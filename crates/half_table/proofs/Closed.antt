@@ -41,7 +41,7 @@ in_halves (e ∷ es) q h = by (in_halves es q) (nat_eq q.string e.0) refl q.forw
     by ih true p true d = ap (λ v. v || (is_half q (backward_of e.0) || holds (halves es) q)) (λ i. p i && beq (d i) true)
     by ih true p false d = or_right (is_half q (forward_of e.0)) (is_half q (backward_of e.0) || holds (halves es) q) (ap (λ v. v || holds (halves es) q) (λ i. p i && beq (d i) false))
     by ih false p f d = or_right (is_half q (forward_of e.0)) (is_half q (backward_of e.0) || holds (halves es) q)
-      (or_right (is_half q (backward_of e.0)) (holds (halves es) q)
+        (or_right (is_half q (backward_of e.0)) (holds (halves es) q)
         (ih (sym (ap (λ b. is_some (option_map (links_at q.forward) (cond b (Some e.1) (lookup (nat_eq q.string) es)))) p) ∙ h)))
 
 module _ (nx : Half → Half) (h : Half) where
@@ -80,8 +80,9 @@ module _ (nx : Half → Half) (h : Half) where
             → holds (if v then [] else nx b ∷ orbit nx n h (nx (nx b))) (nx x) ≡ true → holds (b ∷ (if v then [] else nx b ∷ orbit nx n h (nx (nx b)))) x ≡ true
         by true ih e = absurd (true≢false (sym e))
         by false ih e = elim (or_true (is_half (nx x) (nx b)) (holds (orbit nx n h (nx (nx b))) (nx x)) e) [
-            inl s ↦ ap (λ w. w || holds (nx b ∷ orbit nx n h (nx (nx b))) x) (subst (λ z. is_half x z ≡ true) (injective x b (is_half-same (nx x) (nx b) s)) (is_half-self x))
-          | inr t ↦ or_right (is_half x b) (holds (nx b ∷ orbit nx n h (nx (nx b))) x) (ih t) ]
+          | inl s ↦ ap (λ w. w || holds (nx b ∷ orbit nx n h (nx (nx b))) x) (subst (λ z. is_half x z ≡ true) (injective x b (is_half-same (nx x) (nx b) s)) (is_half-self x))
+          | inr t ↦ or_right (is_half x b) (holds (nx b ∷ orbit nx n h (nx (nx b))) x) (ih t)
+        ]
 
     once : (n : ℕ) (p : Half) → holds (orbit nx n h (nx p)) p ≡ false → IsOnce (orbit nx n h (nx p))
     once zero p e = tt
@@ -108,8 +109,9 @@ module _ (rows : Rows) (linked : IsLinked rows) where
           → holds (if v then [] else at ∷ orbit (next rows) n h (next rows at)) q ≡ true → has rows q ≡ true
       by true ih s = absurd (true≢false (sym s))
       by false ih s = elim (or_true (is_half q at) (holds (orbit (next rows) n h (next rows at)) q) s) [
-          inl t ↦ ap (has rows) (is_half-same q at t) ∙ e
-        | inr t ↦ ih t ]
+        | inl t ↦ ap (has rows) (is_half-same q at t) ∙ e
+        | inr t ↦ ih t
+      ]
 
   -- halves of the table, none twice, are at most all of them
   pub few : (xs : List Half) → IsOnce xs → ((q : Half) → holds xs q ≡ true → has rows q ≡ true) → length xs ≤ length (halves rows)
@@ -123,15 +125,17 @@ module _ (rows : Rows) (linked : IsLinked rows) where
 
   pub cycle-inside : (h q : Half) → has rows h ≡ true → holds (cycle rows h) q ≡ true → has rows q ≡ true
   cycle-inside h q e s = elim (or_true (is_half q h) (holds (orbit (next rows) (length (halves rows)) h (next rows h)) q) s) [
-      inl t ↦ ap (has rows) (is_half-same q h t) ∙ e
-    | inr t ↦ all_in h (length (halves rows)) (next rows h) q (linked.inside h ∙ e) t ]
+    | inl t ↦ ap (has rows) (is_half-same q h t) ∙ e
+    | inr t ↦ all_in h (length (halves rows)) (next rows h) q (linked.inside h ∙ e) t
+  ]
 
   -- the cycle of h closes
   pub cycle-closes : (h : Half) → has rows h ≡ true → IsRun (next rows) h (next rows h) (orbit (next rows) (length (halves rows)) h (next rows h))
   cycle-closes h e =
       elim (run_or_full (next rows) h (length (halves rows)) (next rows h)) [
-        inl r ↦ r
-      | inr full ↦ absurd (too_many full) ]
+        | inl r ↦ r
+        | inr full ↦ absurd (too_many full)
+      ]
     where
       too_many : length (orbit (next rows) (length (halves rows)) h (next rows h)) ≡ length (halves rows) → ⊥
       too_many full =
@@ -158,8 +162,9 @@ pub has-cycle : (rows : Rows) → IsLinked rows → (h : Half) (xs : List Half) 
 has-cycle rows linked h xs e c = record {
   closes = c;
   inside = λ q s. elim (or_true (is_half q h) (holds xs q) s) [
-      inl t ↦ ap (has rows) (is_half-same q h t) ∙ e
-    | inr t ↦ (walk-passes (next rows) (has rows) (λ x x_in. linked.inside x ∙ x_in) h h xs e c.0).0 q t ];
+    | inl t ↦ ap (has rows) (is_half-same q h t) ∙ e
+    | inr t ↦ (walk-passes (next rows) (has rows) (λ x x_in. linked.inside x ∙ x_in) h h xs e c.0).0 q t
+  ];
 }
 
 pub has-cycle-of : (rows : Rows) → IsLinked rows → (h : Half) → has rows h ≡ true → HasCycle rows (cycle rows h)

@@ -53,14 +53,16 @@ walk-passes f p on a z (x ∷ xs) e w =
 walk-reaches : (f : Half → Half) (p : Half → Bool) → ((x : Half) → p x ≡ true → p (f x) ≡ true) → (a z q : Half) (xs : List Half) → holds (a ∷ xs) q ≡ true → p q ≡ true → IsWalk f a xs z → p z ≡ true
 walk-reaches f p on a z q [] e e_q w =
     elim (or_true (is_half q a) false e) [
-      inl t ↦ (walk-passes f p on a z [] (ap p (sym (is_half-same q a t)) ∙ e_q) w).1
-    | inr t ↦ absurd (true≢false (sym t)) ]
+      | inl t ↦ (walk-passes f p on a z [] (ap p (sym (is_half-same q a t)) ∙ e_q) w).1
+      | inr t ↦ absurd (true≢false (sym t))
+    ]
 walk-reaches f p on a z q (x ∷ xs) e e_q w = by (walk-reaches f p on x z q xs)
   where
     by : (holds (x ∷ xs) q ≡ true → p q ≡ true → IsWalk f x xs z → p z ≡ true) → p z ≡ true
     by later = elim (or_true (is_half q a) (holds (x ∷ xs) q) e) [
-        inl t ↦ (walk-passes f p on a z (x ∷ xs) (ap p (sym (is_half-same q a t)) ∙ e_q) w).1
-      | inr t ↦ later t e_q w.1 ]
+      | inl t ↦ (walk-passes f p on a z (x ∷ xs) (ap p (sym (is_half-same q a t)) ∙ e_q) w).1
+      | inr t ↦ later t e_q w.1
+    ]
 
 -- what follows a half of a walk is in it or is its end
 walk-next : (f : Half → Half) (a z x : Half) (xs : List Half) → IsWalk f a xs z → holds (a ∷ xs) x ≡ true → (holds xs (f x) ≡ true) ⊎ (f x ≡ z)
@@ -70,15 +72,17 @@ walk-next f a z x (b ∷ xs) w e = by (walk-next f b z x xs w.1)
   where
     by : (holds (b ∷ xs) x ≡ true → (holds xs (f x) ≡ true) ⊎ (f x ≡ z)) → (holds (b ∷ xs) (f x) ≡ true) ⊎ (f x ≡ z)
     by later = elim (or_true (is_half x a) (holds (b ∷ xs) x) e) [
-        inl t ↦ inl (ap (λ g. holds (b ∷ xs) g) (ap f (is_half-same x a t) ∙ w.0) ∙ ap (λ v. v || holds xs b) (is_half-self b))
-      | inr t ↦ elim (later t) [ inl s ↦ inl (or_right (is_half (f x) b) (holds xs (f x)) s) | inr s ↦ inr s ] ]
+      | inl t ↦ inl (ap (λ g. holds (b ∷ xs) g) (ap f (is_half-same x a t) ∙ w.0) ∙ ap (λ v. v || holds xs b) (is_half-self b))
+      | inr t ↦ elim (later t) [ inl s ↦ inl (or_right (is_half (f x) b) (holds xs (f x)) s) | inr s ↦ inr s ]
+    ]
 
 -- what follows a half of a cycle is in the cycle
 cycle-next : (f : Half → Half) (a x : Half) (xs : List Half) → IsWalk f a xs a → holds (a ∷ xs) x ≡ true → holds (a ∷ xs) (f x) ≡ true
 cycle-next f a x xs w e =
     elim (walk-next f a a x xs w e) [
-      inl t ↦ or_right (is_half (f x) a) (holds xs (f x)) t
-    | inr t ↦ ap (λ g. holds (a ∷ xs) g) t ∙ ap (λ v. v || holds xs a) (is_half-self a) ]
+      | inl t ↦ or_right (is_half (f x) a) (holds xs (f x)) t
+      | inr t ↦ ap (λ g. holds (a ∷ xs) g) t ∙ ap (λ v. v || holds xs a) (is_half-self a)
+    ]
 
 -- where b is not on the cycle of a, no half is on both cycles
 pub cycles-apart : (f : Half → Half) (a b : Half) (xs ys : List Half) → IsWalk f a xs a → IsWalk f b ys b → holds (a ∷ xs) b ≡ false
@@ -99,9 +103,10 @@ once-parts (x ∷ xs) ys o =
 
 pub once-joined : (xs ys : List Half) → IsOnce xs → IsOnce ys → ((h : Half) → holds xs h ≡ true → holds ys h ≡ false) → IsOnce (xs ++ ys)
 once-joined [] ys o p apart = p
-once-joined (x ∷ xs) ys o p apart =
-    (holds-append xs ys x ∙ ap (λ b. b || holds ys x) o.0 ∙ apart x (ap (λ b. b || holds xs x) (is_half-self x)),
-     once-joined xs ys o.1 p (λ h e. apart h (or_right (is_half h x) (holds xs h) e)))
+once-joined (x ∷ xs) ys o p apart = (
+  holds-append xs ys x ∙ ap (λ b. b || holds ys x) o.0 ∙ apart x (ap (λ b. b || holds xs x) (is_half-self x)),
+  once-joined xs ys o.1 p (λ h e. apart h (or_right (is_half h x) (holds xs h) e)),
+)
 
 -- where a and b aren't in the list, the exchange changes nothing on it
 stays-on : (f : Half → Half) (a b : Half) (xs : List Half) → holds xs a ≡ false → holds xs b ≡ false → (x : Half) → holds xs x ≡ true → exchanged a b f x ≡ f x
@@ -117,9 +122,10 @@ cycle-parted f a b xs ys c =
     let o = once-parts xs (b ∷ ys) c.1.1 in
     let na = or_false (holds xs a) (holds (b ∷ ys) a) (sym (holds-append xs (b ∷ ys) a) ∙ c.1.0) in
     let nab = or_false (is_half a b) (holds ys a) na.1 in
-    let nbx : holds xs b ≡ false = not_both (holds xs b) refl o.2 in
-    ((walked-so f (exchanged a b f) b a a ys (exchanged-first f a b) (stays-on f a b ys nab.1 o.1.0) w.1, (nab.1, o.1.1)),
-     (walked-so f (exchanged a b f) a b b xs (exchanged-second f a b) (stays-on f a b xs na.0 nbx) w.0, (nbx, o.0)))
+    let nbx : holds xs b ≡ false = not_both (holds xs b) refl o.2 in (
+      (walked-so f (exchanged a b f) b a a ys (exchanged-first f a b) (stays-on f a b ys nab.1 o.1.0) w.1, (nab.1, o.1.1)),
+      (walked-so f (exchanged a b f) a b b xs (exchanged-second f a b) (stays-on f a b xs na.0 nbx) w.0, (nbx, o.0)),
+    )
   where
     not_both : (v : Bool) → holds xs b ≡ v → ((h : Half) → holds xs h ≡ true → holds (b ∷ ys) h ≡ false) → holds xs b ≡ false
     not_both true e apart = absurd (true≢false (sym (ap (λ v. v || holds ys b) (is_half-self b)) ∙ apart b e))
@@ -132,9 +138,10 @@ cycles-joined f a b xs ys c d apart =
     let nbx : holds xs b ≡ false = not_both (holds xs b) refl in
     let v = walked-so f (exchanged a b f) b a b ys (exchanged-first f a b) (stays-on f a b ys nb.1 d.1.0) d.0 in
     let w = walked-so f (exchanged a b f) a b a xs (exchanged-second f a b) (stays-on f a b xs c.1.0 nbx) c.0 in
-    let apart_back = λ (h : Half) (e : holds ys h ≡ true). no_both h e in
-    (walk-joined (exchanged a b f) a b a ys xs v w,
-     (holds-append ys (b ∷ xs) a ∙ (λ i. nb.1 i || (nb.0 i || c.1.0 i)), once-joined ys (b ∷ xs) d.1.1 (nbx, c.1.1) apart_back))
+    let apart_back = λ (h : Half) (e : holds ys h ≡ true). no_both h e in (
+      walk-joined (exchanged a b f) a b a ys xs v w,
+      (holds-append ys (b ∷ xs) a ∙ (λ i. nb.1 i || (nb.0 i || c.1.0 i)), once-joined ys (b ∷ xs) d.1.1 (nbx, c.1.1) apart_back),
+    )
   where
     not_both : (v : Bool) → holds xs b ≡ v → holds xs b ≡ false
     not_both true e = absurd (true≢false (sym (ap (λ v. v || holds ys b) (is_half-self b)) ∙ apart b (or_right (is_half b a) (holds xs b) e)))
@@ -146,8 +153,9 @@ cycles-joined f a b xs ys c d apart =
         by : (v : Bool) → holds (b ∷ xs) h ≡ v → holds (b ∷ xs) h ≡ false
         by false p = p
         by true p = elim (or_true (is_half h b) (holds xs h) p) [
-            inl s ↦ absurd (true≢false (sym e ∙ ap (holds ys) (is_half-same h b s) ∙ d.1.0))
-          | inr t ↦ absurd (true≢false (sym (or_right (is_half h b) (holds ys h) e) ∙ apart h (or_right (is_half h a) (holds xs h) t))) ]
+          | inl s ↦ absurd (true≢false (sym e ∙ ap (holds ys) (is_half-same h b s) ∙ d.1.0))
+          | inr t ↦ absurd (true≢false (sym (or_right (is_half h b) (holds ys h) e) ∙ apart h (or_right (is_half h a) (holds xs h) t)))
+        ]
 
 -- every other cycle stays
 pub cycle-kept : (f : Half → Half) (a b : Half) (c : List Half) → holds c a ≡ false → holds c b ≡ false → IsCycle f c → IsCycle (exchanged a b f) c

@@ -55,8 +55,10 @@ exchanged-first f a b = rw (is_half-self a) refl
 
 pub exchanged-second : (f : Half → Half) (a b : Half) → exchanged a b f b ≡ f a
 exchanged-second f a b =
-    elim (cases_half b a) [ inl e ↦ subst (λ x. exchanged a x f x ≡ f a) (sym e) (exchanged-first f a a)
-    | inr e ↦ rw (e, is_half-self b) refl ]
+    elim (cases_half b a) [
+      | inl e ↦ subst (λ x. exchanged a x f x ≡ f a) (sym e) (exchanged-first f a a)
+      | inr e ↦ rw (e, is_half-self b) refl
+    ]
 
 pub exchanged-other : (f : Half → Half) (a b h : Half) → is_half h a ≡ false → is_half h b ≡ false → exchanged a b f h ≡ f h
 exchanged-other f a b h p q = rw (p, q) refl
@@ -65,41 +67,48 @@ exchanged-other f a b h p q = rw (p, q) refl
 pub exchanged-undone : (f g : Half → Half) → ((h : Half) → g (f h) ≡ h) → (a b h : Half) → exchanged (f a) (f b) g (exchanged a b f h) ≡ h
 exchanged-undone f g undoes a b h =
     elim (cases_half h a) [
-      inl e ↦ subst (λ x. exchanged (f a) (f b) g (exchanged a b f x) ≡ x) (sym e)
-        (ap (exchanged (f a) (f b) g) (exchanged-first f a b) ∙ exchanged-second g (f a) (f b) ∙ undoes a)
-    | inr ne ↦ elim (cases_half h b) [
-        inl e ↦ subst (λ x. exchanged (f a) (f b) g (exchanged a b f x) ≡ x) (sym e)
-          (ap (exchanged (f a) (f b) g) (exchanged-second f a b) ∙ exchanged-first g (f a) (f b) ∙ undoes b)
-      | inr nf ↦ ap (exchanged (f a) (f b) g) (exchanged-other f a b h ne nf)
-          ∙ exchanged-other g (f a) (f b) (f h)
-              (is_half-other (f h) (f a) (λ e. other-is_half h a ne (sym (undoes h) ∙ ap g e ∙ undoes a)))
-              (is_half-other (f h) (f b) (λ e. other-is_half h b nf (sym (undoes h) ∙ ap g e ∙ undoes b)))
-          ∙ undoes h ] ]
+      | inl e ↦ subst (λ x. exchanged (f a) (f b) g (exchanged a b f x) ≡ x) (sym e)
+          (ap (exchanged (f a) (f b) g) (exchanged-first f a b) ∙ exchanged-second g (f a) (f b) ∙ undoes a)
+      | inr ne ↦ elim (cases_half h b) [
+        | inl e ↦ subst (λ x. exchanged (f a) (f b) g (exchanged a b f x) ≡ x) (sym e)
+            (ap (exchanged (f a) (f b) g) (exchanged-second f a b) ∙ exchanged-first g (f a) (f b) ∙ undoes b)
+        | inr nf ↦ ap (exchanged (f a) (f b) g) (exchanged-other f a b h ne nf)
+            ∙ exchanged-other g (f a) (f b) (f h)
+            (is_half-other (f h) (f a) (λ e. other-is_half h a ne (sym (undoes h) ∙ ap g e ∙ undoes a)))
+            (is_half-other (f h) (f b) (λ e. other-is_half h b nf (sym (undoes h) ∙ ap g e ∙ undoes b)))
+            ∙ undoes h
+      ]
+    ]
 
 -- the same exchange again restores
 pub exchanged-twice : (f : Half → Half) (a b h : Half) → exchanged a b (exchanged a b f) h ≡ f h
 exchanged-twice f a b h =
     elim (cases_half h a) [
-      inl e ↦ subst (λ x. exchanged a b (exchanged a b f) x ≡ f x) (sym e) (exchanged-first (exchanged a b f) a b ∙ exchanged-second f a b)
-    | inr ne ↦ elim (cases_half h b) [
-        inl e ↦ subst (λ x. exchanged a b (exchanged a b f) x ≡ f x) (sym e) (exchanged-second (exchanged a b f) a b ∙ exchanged-first f a b)
-      | inr nf ↦ exchanged-other (exchanged a b f) a b h ne nf ∙ exchanged-other f a b h ne nf ] ]
+      | inl e ↦ subst (λ x. exchanged a b (exchanged a b f) x ≡ f x) (sym e) (exchanged-first (exchanged a b f) a b ∙ exchanged-second f a b)
+      | inr ne ↦ elim (cases_half h b) [
+        | inl e ↦ subst (λ x. exchanged a b (exchanged a b f) x ≡ f x) (sym e) (exchanged-second (exchanged a b f) a b ∙ exchanged-first f a b)
+        | inr nf ↦ exchanged-other (exchanged a b f) a b h ne nf ∙ exchanged-other f a b h ne nf
+      ]
+    ]
 
 -- it does not matter which half is named first
 pub exchanged-turned : (f : Half → Half) (a b h : Half) → exchanged a b f h ≡ exchanged b a f h
 exchanged-turned f a b h =
     elim (cases_half h a) [
-      inl e ↦ subst (λ x. exchanged a b f x ≡ exchanged b a f x) (sym e) (exchanged-first f a b ∙ sym (exchanged-second f b a))
-    | inr ne ↦ elim (cases_half h b) [
-        inl e ↦ subst (λ x. exchanged a b f x ≡ exchanged b a f x) (sym e) (exchanged-second f a b ∙ sym (exchanged-first f b a))
-      | inr nf ↦ exchanged-other f a b h ne nf ∙ sym (exchanged-other f b a h nf ne) ] ]
+      | inl e ↦ subst (λ x. exchanged a b f x ≡ exchanged b a f x) (sym e) (exchanged-first f a b ∙ sym (exchanged-second f b a))
+      | inr ne ↦ elim (cases_half h b) [
+        | inl e ↦ subst (λ x. exchanged a b f x ≡ exchanged b a f x) (sym e) (exchanged-second f a b ∙ sym (exchanged-first f b a))
+        | inr nf ↦ exchanged-other f a b h ne nf ∙ sym (exchanged-other f b a h nf ne)
+      ]
+    ]
 
 -- a half exchanged with itself
 pub exchanged-same : (f : Half → Half) (a h : Half) → exchanged a a f h ≡ f h
 exchanged-same f a h =
     elim (cases_half h a) [
-      inl e ↦ subst (λ x. exchanged a a f x ≡ f x) (sym e) (exchanged-first f a a)
-    | inr ne ↦ exchanged-other f a a h ne ne ]
+      | inl e ↦ subst (λ x. exchanged a a f x ≡ f x) (sym e) (exchanged-first f a a)
+      | inr ne ↦ exchanged-other f a a h ne ne
+    ]
 
 -- ---- Twins
 

@@ -28,13 +28,13 @@ module _ (a b : Half) (old new : Rows) (s : IsSpliced a b old new) where
       let b_in' : has new b ≡ true = s.halves.has b ∙ b_in in
       record {
         parted = λ xs ys c.
-          let r = cycle-parted (next old) a b xs ys c.closes in
-          (has-cycle new linked a ys a_in' (subst (λ f. IsCycle f (a ∷ ys)) forth r.0), has-cycle new linked b xs b_in' (subst (λ f. IsCycle f (b ∷ xs)) forth r.1));
+            let r = cycle-parted (next old) a b xs ys c.closes in
+            (has-cycle new linked a ys a_in' (subst (λ f. IsCycle f (a ∷ ys)) forth r.0), has-cycle new linked b xs b_in' (subst (λ f. IsCycle f (b ∷ xs)) forth r.1));
         joined = λ xs ys c d apart.
-          has-cycle new linked a (ys ++ b ∷ xs) a_in' (subst (λ f. IsCycle f (a ∷ ys ++ b ∷ xs)) forth
+            has-cycle new linked a (ys ++ b ∷ xs) a_in' (subst (λ f. IsCycle f (a ∷ ys ++ b ∷ xs)) forth
             (cycles-joined (next old) a b xs ys c.closes d.closes (cycles-apart (next old) a b xs ys c.closes.0 d.closes.0 apart)));
         others = λ ring no_a no_b.
-          (others old new forth s.halves.has ring no_a no_b, others new old back (λ h. sym (s.halves.has h)) ring no_a no_b);
+            (others old new forth s.halves.has ring no_a no_b, others new old back (λ h. sym (s.halves.has h)) ring no_a no_b);
       }
 
   both : (again : Rows) → KeepsHalves new again → KeepsHalves old again
@@ -54,8 +54,8 @@ module _ (a b : Half) (old new : Rows) (s : IsSpliced a b old new) where
         halves = both again t.halves;
         next = λ g. t.next g ∙ (λ i. back i g);
         prev = λ g. t.prev g ∙ (λ i. exchanged (A i) (B i) (λ h. s.prev h i) g)
-          ∙ exchanged-turned (exchanged (next old a) (next old b) (prev old)) (next old b) (next old a) g
-          ∙ exchanged-twice (prev old) (next old a) (next old b) g;
+            ∙ exchanged-turned (exchanged (next old a) (next old b) (prev old)) (next old b) (next old a) g
+            ∙ exchanged-twice (prev old) (next old a) (next old b) g;
       }
 
   -- a splice of a half with itself changes nothing

@@ -63,21 +63,21 @@ module _ (old new : Rows) (s : ℕ) (m : Half → Half) (k : Bool) (linked : IsL
     where
       pn : (h : Half) (b : Bool) → nat_eq h.string s ≡ b → prev new (next new h) ≡ h
       pn h true e = ap (prev new) (next_is h ∙ ap (λ b. if b then m h else next old h) e) ∙ prev_is (m h)
-        ∙ ap (λ b. if b then m (m h) else prev old (m h)) (ap (λ t. nat_eq t s) (m_string h) ∙ e) ∙ m_twice h
+          ∙ ap (λ b. if b then m (m h) else prev old (m h)) (ap (λ t. nat_eq t s) (m_string h) ∙ e) ∙ m_twice h
       pn h false e = ap (prev new) (next_is h ∙ ap (λ b. if b then m h else next old h) e) ∙ prev_is (next old h)
-        ∙ ap (λ b. if b then m (next old h) else prev old (next old h)) (away_next h e) ∙ linked.prev_next h
+          ∙ ap (λ b. if b then m (next old h) else prev old (next old h)) (away_next h e) ∙ linked.prev_next h
 
       np : (h : Half) (b : Bool) → nat_eq h.string s ≡ b → next new (prev new h) ≡ h
       np h true e = ap (next new) (prev_is h ∙ ap (λ b. if b then m h else prev old h) e) ∙ next_is (m h)
-        ∙ ap (λ b. if b then m (m h) else next old (m h)) (ap (λ t. nat_eq t s) (m_string h) ∙ e) ∙ m_twice h
+          ∙ ap (λ b. if b then m (m h) else next old (m h)) (ap (λ t. nat_eq t s) (m_string h) ∙ e) ∙ m_twice h
       np h false e = ap (next new) (prev_is h ∙ ap (λ b. if b then m h else prev old h) e) ∙ next_is (prev old h)
-        ∙ ap (λ b. if b then m (prev old h) else next old (prev old h)) (away_prev h e) ∙ linked.next_prev h
+          ∙ ap (λ b. if b then m (prev old h) else next old (prev old h)) (away_prev h e) ∙ linked.next_prev h
 
       ins : (h : Half) (b : Bool) → nat_eq h.string s ≡ b → has new (next new h) ≡ has new h
       ins h true e = ap (has new) (next_is h ∙ ap (λ b. if b then m h else next old h) e) ∙ has_is (m h)
-        ∙ ap (λ b. if b then k else has old (m h)) (ap (λ t. nat_eq t s) (m_string h) ∙ e) ∙ ap (λ b. if b then k else has old h) (sym e) ∙ sym (has_is h)
+          ∙ ap (λ b. if b then k else has old (m h)) (ap (λ t. nat_eq t s) (m_string h) ∙ e) ∙ ap (λ b. if b then k else has old h) (sym e) ∙ sym (has_is h)
       ins h false e = ap (has new) (next_is h ∙ ap (λ b. if b then m h else next old h) e) ∙ has_is (next old h)
-        ∙ ap (λ b. if b then k else has old (next old h)) (away_next h e) ∙ linked.inside h ∙ ap (λ b. if b then k else has old h) (sym e) ∙ sym (has_is h)
+          ∙ ap (λ b. if b then k else has old (next old h)) (away_next h e) ∙ linked.inside h ∙ ap (λ b. if b then k else has old h) (sym e) ∙ sym (has_is h)
 
 -- a number under which a look-up finds nothing
 pub none-found : {V : Type 0} (o : Option V) → is_some o ≡ false → o ≡ None
@@ -128,21 +128,21 @@ pub added : (old new : Rows) (s from to : ℕ) → strings new ≡ strings old +
 added old new s from to held put = record {
   strings = held;
   next = λ g. read old new s (Some (loose_ends s from to)) put (λ o. option_map_or (λ (l : Links). l.next) o g) g
-    ∙ if-agree (nat_eq g.string s) _ (twin g) (next old g) (λ e. loose_next s from to g.string g.forward (sym ((Decides-eqb g.string s).0 e)));
+      ∙ if-agree (nat_eq g.string s) _ (twin g) (next old g) (λ e. loose_next s from to g.string g.forward (sym ((Decides-eqb g.string s).0 e)));
   prev = λ g. read old new s (Some (loose_ends s from to)) put (λ o. option_map_or (λ (l : Links). l.prev) o g) g
-    ∙ if-agree (nat_eq g.string s) _ (twin g) (prev old g) (λ e. loose_prev s from to g.string g.forward (sym ((Decides-eqb g.string s).0 e)));
+      ∙ if-agree (nat_eq g.string s) _ (twin g) (prev old g) (λ e. loose_prev s from to g.string g.forward (sym ((Decides-eqb g.string s).0 e)));
   origin = λ g. read old new s (Some (loose_ends s from to)) put (λ o. option_map_or (λ (l : Links). l.origin) o 0) g
-    ∙ if-agree (nat_eq g.string s) _ (if g.forward then from else to) (origin old g) (λ e. loose_origin s from to g.forward);
+      ∙ if-agree (nat_eq g.string s) _ (if g.forward then from else to) (origin old g) (λ e. loose_origin s from to g.forward);
   face = λ g. read old new s (Some (loose_ends s from to)) put (λ o. option_map_or (λ (l : Links). l.face) o Outside) g
-    ∙ if-agree (nat_eq g.string s) _ Outside (face old g) (λ e. loose_face s from to g.forward);
+      ∙ if-agree (nat_eq g.string s) _ Outside (face old g) (λ e. loose_face s from to g.forward);
   has = λ g. read old new s (Some (loose_ends s from to)) put is_some g;
 }
 
 pub added-linked : (old new : Rows) (s from to : ℕ) → IsLinked old → IsDistinct nat_eq (strings new) → lookup (nat_eq s) old ≡ None → AddsLoose s from to old new → IsLinked new
 added-linked old new s from to linked unique none a =
     patched-linked old new s twin true linked unique a.next a.prev a.has (λ g. refl) twin-twin
-      (λ g e. ap (λ o. nat_eq (option_map_or (λ (l : Links). l.next) o g).string s) (absent old s none g e) ∙ e)
-      (λ g e. ap (λ o. nat_eq (option_map_or (λ (l : Links). l.prev) o g).string s) (absent old s none g e) ∙ e)
+    (λ g e. ap (λ o. nat_eq (option_map_or (λ (l : Links). l.next) o g).string s) (absent old s none g e) ∙ e)
+    (λ g e. ap (λ o. nat_eq (option_map_or (λ (l : Links). l.prev) o g).string s) (absent old s none g e) ∙ e)
 
 pub removed : (old new : Rows) (s : ℕ) → ((q : ℕ) → lookup (nat_eq q) new ≡ cond (nat_eq s q) None (lookup (nat_eq q) old)) → RemovesLoose s old new
 removed old new s put = record {
@@ -165,5 +165,5 @@ loose-before rows s linked loose g e false d = ap (prev rows) ((λ i. record { s
 pub removed-linked : (old new : Rows) (s : ℕ) → IsLinked old → IsDistinct nat_eq (strings new) → IsLoose s old → RemovesLoose s old new → IsLinked new
 removed-linked old new s linked unique loose r =
     patched-linked old new s (λ g. g) false linked unique r.next r.prev r.has (λ g. refl) (λ g. refl)
-      (λ g e. ap (λ (h : Half). nat_eq h.string s) (loose-follows old s loose g e g.forward refl) ∙ (Decides-eqb s s).1 refl)
-      (λ g e. ap (λ (h : Half). nat_eq h.string s) (loose-before old s linked loose g e g.forward refl) ∙ (Decides-eqb s s).1 refl)
+    (λ g e. ap (λ (h : Half). nat_eq h.string s) (loose-follows old s loose g e g.forward refl) ∙ (Decides-eqb s s).1 refl)
+    (λ g e. ap (λ (h : Half). nat_eq h.string s) (loose-before old s linked loose g e g.forward refl) ∙ (Decides-eqb s s).1 refl)

@@ -60,8 +60,11 @@ module _ (small big : Rows) (s : ℕ) (linked : IsLinked big)
   kept (h ∷ xs) c =
       let first : holds (h ∷ xs) h ≡ true = ap (λ v. v || holds xs h) (is_half-self h) in
       record {
-        closes = (walked-so (next small) (next big) h h h xs (next_is h (small-off (h ∷ xs) c h first))
-          (λ x e. next_is x (small-off (h ∷ xs) c x (or_right (is_half x h) (holds xs x) e))) c.closes.0, c.closes.1);
+        closes = (
+          walked-so (next small) (next big) h h h xs (next_is h (small-off (h ∷ xs) c h first))
+              (λ x e. next_is x (small-off (h ∷ xs) c x (or_right (is_half x h) (holds xs x) e))) c.closes.0,
+          c.closes.1,
+        );
         inside = λ q e. has_is q (small-off (h ∷ xs) c q e) ∙ c.inside q e;
       }
 
@@ -83,14 +86,15 @@ module _ (small big : Rows) (s : ℕ) (linked : IsLinked big)
       by : (b : Bool) → nat_eq h.string s ≡ b → HasCycle small (h ∷ xs) ⊎ ((h ∷ xs ≡ forward_of s ∷ backward_of s ∷ []) ⊎ (h ∷ xs ≡ backward_of s ∷ forward_of s ∷ []))
       by true e = inr (round e h.forward refl)
       by false e = inl (record {
-          closes = (walked-so (next big) (next small) h h h xs (sym (next_is h e)) (λ x x_in. sym (next_is x (all-off h xs e c x x_in))) c.closes.0, c.closes.1);
-          inside = λ q q_in. sym (has_is q (each q q_in)) ∙ c.inside q q_in;
-        })
+        closes = (walked-so (next big) (next small) h h h xs (sym (next_is h e)) (λ x x_in. sym (next_is x (all-off h xs e c x x_in))) c.closes.0, c.closes.1);
+        inside = λ q q_in. sym (has_is q (each q q_in)) ∙ c.inside q q_in;
+      })
         where
           each : (q : Half) → holds (h ∷ xs) q ≡ true → nat_eq q.string s ≡ false
           each q q_in = elim (or_true (is_half q h) (holds xs q) q_in) [
-              inl t ↦ ap (λ (g : Half). nat_eq g.string s) (is_half-same q h t) ∙ e
-            | inr t ↦ all-off h xs e c q t ]
+            | inl t ↦ ap (λ (g : Half). nat_eq g.string s) (is_half-same q h t) ∙ e
+            | inr t ↦ all-off h xs e c q t
+          ]
 
   adds : AddsCycle (forward_of s) (backward_of s) small big
   adds =
@@ -105,17 +109,17 @@ module _ (small big : Rows) (s : ℕ) (linked : IsLinked big)
 pub added-cycle : (old new : Rows) (s from to : ℕ) → IsLinked new → has_string old s ≡ false → AddsLoose s from to old new → AddsCycle (forward_of s) (backward_of s) old new
 added-cycle old new s from to linked fresh a =
     adds old new s linked
-      (λ g e. a.next g ∙ ap (λ b. if b then twin g else next old g) e)
-      (λ g e. a.has g ∙ ap (λ b. if b then true else has old g) e)
-      (λ g e. a.next g ∙ ap (λ b. if b then twin g else next old g) e)
-      (λ g e. a.has g ∙ ap (λ b. if b then true else has old g) e)
-      (λ g e. has-string old g ∙ ap (has_string old) ((Decides-eqb g.string s).0 e) ∙ fresh)
+    (λ g e. a.next g ∙ ap (λ b. if b then twin g else next old g) e)
+    (λ g e. a.has g ∙ ap (λ b. if b then true else has old g) e)
+    (λ g e. a.next g ∙ ap (λ b. if b then twin g else next old g) e)
+    (λ g e. a.has g ∙ ap (λ b. if b then true else has old g) e)
+    (λ g e. has-string old g ∙ ap (has_string old) ((Decides-eqb g.string s).0 e) ∙ fresh)
 
 pub removed-cycle : (old new : Rows) (s : ℕ) → IsLinked old → IsLoose s old → RemovesLoose s old new → RemovesCycle (forward_of s) (backward_of s) old new
 removed-cycle old new s linked loose r =
     adds new old s linked
-      (λ g e. sym (r.next g ∙ ap (λ b. if b then g else next old g) e))
-      (λ g e. sym (r.has g ∙ ap (λ b. if b then false else has old g) e))
-      (λ g e. loose-follows old s loose g e g.forward refl ∙ (λ i. record { string = sym ((Decides-eqb g.string s).0 e) i; forward = not g.forward }))
-      (λ g e. has-string old g ∙ ap (has_string old) ((Decides-eqb g.string s).0 e) ∙ loose.there)
-      (λ g e. r.has g ∙ ap (λ b. if b then false else has old g) e)
+    (λ g e. sym (r.next g ∙ ap (λ b. if b then g else next old g) e))
+    (λ g e. sym (r.has g ∙ ap (λ b. if b then false else has old g) e))
+    (λ g e. loose-follows old s loose g e g.forward refl ∙ (λ i. record { string = sym ((Decides-eqb g.string s).0 e) i; forward = not g.forward }))
+    (λ g e. has-string old g ∙ ap (has_string old) ((Decides-eqb g.string s).0 e) ∙ loose.there)
+    (λ g e. r.has g ∙ ap (λ b. if b then false else has old g) e)

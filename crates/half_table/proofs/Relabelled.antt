@@ -31,7 +31,7 @@ halves_left old h at = length (orbit (next old) (length (halves old)) h at)
 one_step : (old mid new : Rows) (ring : List Half) (x : Half) (to : Face) → Relabels ring to old mid → ChangesFace x to mid new → Relabels (ring ++ x ∷ []) to old new
 one_step old mid new ring x to r c = record {
   face = λ g. c.face g ∙ ap (λ v. if is_half g x then to else v) (r.face g) ∙ both_ways (is_half g x) (holds ring g) (face old g)
-    ∙ ap (λ b. if b then to else face old g) (sym (holds-append ring (x ∷ []) g));
+      ∙ ap (λ b. if b then to else face old g) (sym (holds-append ring (x ∷ []) g));
   strings = c.strings ∙ r.strings;
   next = λ g. c.next g ∙ r.next g;
   prev = λ g. c.prev g ∙ r.prev g;

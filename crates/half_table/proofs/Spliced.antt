@@ -25,9 +25,9 @@ pub spliced : (o r1 r2 r3 r4 : Rows) (a b A B : Half) → A ≡ next o a → B �
     → ChangesNext b A o r1 → ChangesNext a B r1 r2 → ChangesPrev B a r2 r3 → ChangesPrev A b r3 r4 → IsSpliced a b o r4
 spliced o r1 r2 r3 r4 a b A B is_A is_B linked c1 c2 c3 c4 = record {
   next = λ g. c4.next g ∙ c3.next g ∙ c2.next g ∙ ap (λ v. if is_half g a then B else v) (c1.next g)
-    ∙ (λ i. if is_half g a then is_B i else (if is_half g b then is_A i else next o g));
+      ∙ (λ i. if is_half g a then is_B i else (if is_half g b then is_A i else next o g));
   prev = λ g. c4.prev g ∙ ap (λ v. if is_half g A then b else v) (c3.prev g ∙ ap (λ v. if is_half g B then a else v) (c2.prev g ∙ c1.prev g))
-    ∙ (λ i. if is_half g (is_A i) then sym (linked.prev_next b) i else (if is_half g (is_B i) then sym (linked.prev_next a) i else prev o g));
+      ∙ (λ i. if is_half g (is_A i) then sym (linked.prev_next b) i else (if is_half g (is_B i) then sym (linked.prev_next a) i else prev o g));
   halves = record {
     strings = c4.strings ∙ c3.strings ∙ c2.strings ∙ c1.strings;
     has = λ g. c4.has g ∙ c3.has g ∙ c2.has g ∙ c1.has g;
@@ -41,19 +41,21 @@ pub spliced-linked : (old new : Rows) (a b : Half) → IsLinked old → has old 
 spliced-linked old new a b linked a_in b_in s = record {
   distinct = subst (IsDistinct nat_eq) (sym s.halves.strings) linked.distinct;
   prev_next = λ h. s.prev (next new h) ∙ ap (exchanged (next old a) (next old b) (prev old)) (s.next h)
-    ∙ exchanged-undone (next old) (prev old) linked.prev_next a b h;
+      ∙ exchanged-undone (next old) (prev old) linked.prev_next a b h;
   next_prev = λ h. s.next (prev new h) ∙ ap (exchanged a b (next old)) (s.prev h)
-    ∙ (λ i. exchanged (sym (linked.prev_next a) i) (sym (linked.prev_next b) i) (next old) (exchanged (next old a) (next old b) (prev old) h))
-    ∙ exchanged-undone (prev old) (next old) linked.next_prev (next old a) (next old b) h;
+      ∙ (λ i. exchanged (sym (linked.prev_next a) i) (sym (linked.prev_next b) i) (next old) (exchanged (next old a) (next old b) (prev old) h))
+      ∙ exchanged-undone (prev old) (next old) linked.next_prev (next old a) (next old b) h;
   inside = λ h. s.halves.has (next new h) ∙ ap (has old) (s.next h) ∙ within h ∙ sym (s.halves.has h);
 }
   where
     within : (h : Half) → has old (exchanged a b (next old) h) ≡ has old h
     within h =
         elim (cases_half h a) [
-          inl e ↦ subst (λ x. has old (exchanged a b (next old) x) ≡ has old x) (sym e)
-            (ap (has old) (exchanged-first (next old) a b) ∙ linked.inside b ∙ b_in ∙ sym a_in)
-        | inr ne ↦ elim (cases_half h b) [
-            inl e ↦ subst (λ x. has old (exchanged a b (next old) x) ≡ has old x) (sym e)
-              (ap (has old) (exchanged-second (next old) a b) ∙ linked.inside a ∙ a_in ∙ sym b_in)
-          | inr nf ↦ ap (has old) (exchanged-other (next old) a b h ne nf) ∙ linked.inside h ] ]
+          | inl e ↦ subst (λ x. has old (exchanged a b (next old) x) ≡ has old x) (sym e)
+              (ap (has old) (exchanged-first (next old) a b) ∙ linked.inside b ∙ b_in ∙ sym a_in)
+          | inr ne ↦ elim (cases_half h b) [
+            | inl e ↦ subst (λ x. has old (exchanged a b (next old) x) ≡ has old x) (sym e)
+                (ap (has old) (exchanged-second (next old) a b) ∙ linked.inside a ∙ a_in ∙ sym b_in)
+            | inr nf ↦ ap (has old) (exchanged-other (next old) a b h ne nf) ∙ linked.inside h
+          ]
+        ]

@@ -51,7 +51,12 @@ pub(crate) fn relabel_cycle<T: Tally>(rows: &mut Rows, tally: &mut T, h: &Half, 
 }
 
 /// A new string, whose halves are each other's next and prev.
-pub(crate) fn put_loose(rows: &mut Rows, string: &StringNo, from: &PointNo, to: &PointNo) -> Result<(), Memory>
+pub(crate) fn put_loose(
+    rows: &mut Rows,
+    string: &StringNo,
+    from: &PointNo,
+    to: &PointNo,
+) -> Result<(), Memory>
     requires fresh { has_string rows.old.entries string.now ≡ false }
     requires linked { IsLinked rows.old.entries }
     ensures adds { OnOk result (AddsLoose string.now from.now to.now rows.old.entries rows.new.entries) }

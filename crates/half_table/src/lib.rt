@@ -15,8 +15,5 @@ pub use table::HalfTable;
 pub use tally::{Tally, Ticks};
 pub use walk::Walk;
 
-
-
-
 #[cfg(test)]
 mod tests;

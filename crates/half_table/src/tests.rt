@@ -42,8 +42,14 @@ fn remove(rt: &impl Abort, table: &mut HalfTable<Ticks>, number: u32) {
         forward: false,
     };
     assert!(rt; table.has_string(string));
-    let after = table.next(Half { string, forward: true });
-    let before = table.next(Half { string, forward: false });
+    let after = table.next(Half {
+        string,
+        forward: true,
+    });
+    let before = table.next(Half {
+        string,
+        forward: false,
+    });
     assert!(rt; is_same(&after, &backward));
     assert!(rt; is_same(&before, &forward));
     table.remove_loose(string);

@@ -17,8 +17,8 @@ set_prev-requires-2 c =
 pub returns : goal.returns
 returns c =
     let s = spliced c.args.rows.now.entries c.set_next.new.rows.entries c.set_next-2.new.rows.entries c.set_prev.new.rows.entries c.set_prev-2.new.rows.entries
-      c.args.a.now c.args.b.now c.next_half-after_a.result c.next_half-after_b.result c.next_half-after_a.ensures c.next_half-after_b.ensures c.requires.linked
-      c.set_next.ensures c.set_next-2.ensures c.set_prev.ensures c.set_prev-2.ensures in
+    c.args.a.now c.args.b.now c.next_half-after_a.result c.next_half-after_b.result c.next_half-after_a.ensures c.next_half-after_b.ensures c.requires.linked
+    c.set_next.ensures c.set_next-2.ensures c.set_prev.ensures c.set_prev-2.ensures in
     let linked = spliced-linked _ _ _ _ c.requires.linked c.requires.a_in c.requires.b_in s in
     record {
       spliced = s;

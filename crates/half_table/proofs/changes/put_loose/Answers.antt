@@ -11,16 +11,16 @@ adds : (c : goal.In_ok-insert) → AddsLoose c.args.string.now c.args.from.now c
 adds c =
     let none = none-found (lookup (nat_eq c.args.string.now) c.args.rows.now.entries) c.requires.fresh in
     let held : strings c.insert.new.self.entries ≡ strings c.args.rows.now.entries ++ c.args.string.now ∷ [] =
-      ap strings c.in_ok-insert.ensures.entries ∙ keys-insert_entry c.args.rows.now.entries c.args.string.now _ none in
+    ap strings c.in_ok-insert.ensures.entries ∙ keys-insert_entry c.args.rows.now.entries c.args.string.now _ none in
     let ends : record { forward = c.lone_links-forward.result; backward = c.lone_links-backward.result } ≡ loose_ends c.args.string.now c.args.from.now c.args.to.now =
-      (λ i. record { forward = c.lone_links-forward.ensures i; backward = c.lone_links-backward.ensures i }) in
+    (λ i. record { forward = c.lone_links-forward.ensures i; backward = c.lone_links-backward.ensures i }) in
     added c.args.rows.now.entries c.insert.new.self.entries c.args.string.now c.args.from.now c.args.to.now held
-      (λ q. c.in_ok-insert.ensures.updates.0 q ∙ ap (λ (e : Ends). cond (nat_eq c.args.string.now q) (Some e) (lookup (nat_eq q) c.args.rows.now.entries)) ends)
+    (λ q. c.in_ok-insert.ensures.updates.0 q ∙ ap (λ (e : Ends). cond (nat_eq c.args.string.now q) (Some e) (lookup (nat_eq q) c.args.rows.now.entries)) ends)
 
 linked : (c : goal.In_ok-insert) → IsLinked c.insert.new.self.entries
 linked c =
     added-linked c.args.rows.now.entries c.insert.new.self.entries c.args.string.now c.args.from.now c.args.to.now c.requires.linked c.in_ok-insert.ensures.unique
-      (none-found (lookup (nat_eq c.args.string.now) c.args.rows.now.entries) c.requires.fresh) (adds c)
+    (none-found (lookup (nat_eq c.args.string.now) c.args.rows.now.entries) c.requires.fresh) (adds c)
 
 pub returns-clause-adds : goal.returns-clause-adds
 returns-clause-adds c = adds c

@@ -12,4 +12,4 @@ returns-in-Some c =
     let links = c.with_face.ensures ∙ ap (λ (l : Links). record l { face = c.args.to.now }) c.at-links.ensures in
     let ends = c.with.ensures ∙ ap (λ (l : Links). with_links_at c.args.h.now.forward l c.in-Some.ends) links in
     face-put c.args.rows.now.entries c.put_ends.new.rows.entries c.args.h.now c.in-Some.ends there c.args.to.now c.put_ends.ensures.strings
-      (λ q. c.put_ends.ensures.put.0 q ∙ ap (λ (e : Ends). cond (nat_eq c.args.h.now.string q) (Some e) (lookup (nat_eq q) c.args.rows.now.entries)) ends)
+    (λ q. c.put_ends.ensures.put.0 q ∙ ap (λ (e : Ends). cond (nat_eq c.args.h.now.string q) (Some e) (lookup (nat_eq q) c.args.rows.now.entries)) ends)
