@@ -8,3 +8,4 @@ pub mod Line
 pub mod Texts
 pub mod Answers
 pub mod Sinks
+pub mod FaultTexts

@@ -1,5 +1,8 @@
 //! Why a plan is refused.
-ghost use Rattle.std.specs.Prelude.{◌≡◌};
+ghost use Rattle.std.specs.Prelude.{◌≡◌, Some};
+ghost use Rattle.std.specs.Fmt.{DisplaysOnOk};
+ghost use Rattle.cad_files.specs.Answers.{rule_name};
+ghost use Rattle.cad_files.specs.FaultTexts.{about};
 ghost use Rattle.cad_files.specs.declared.faults.PlanFault.TheVariants as faults;
 
 use cad_rows::{Memory, Name, Rule};
@@ -49,7 +52,9 @@ impl<T: Drop> From<AllocFailed<T>> for PlanFault {
 }
 
 // The name of the rule.
-fn rule_text(rule: Rule) -> &'static str {
+fn rule_text(rule: Rule) -> &'static str
+    ensures { result.now ≡ rule_name rule }
+{
     match rule {
         Rule::V3 => "V3",
         Rule::V4 => "V4",
@@ -59,7 +64,10 @@ fn rule_text(rule: Rule) -> &'static str {
     }
 }
 
-fn write_name<W: fmt::Write>(f: &mut fmt::Formatter<W>, fault: &str, name: Name) -> fmt::Result {
+// Writes what a fault says of a row.
+fn write_name<W: fmt::Write>(f: &mut fmt::Formatter<W>, fault: &str, name: Name) -> fmt::Result
+    ensures { DisplaysOnOk W.write_str_gives f.old result (Some (about fault.now name)) f.new }
+{
     match name {
         Name::Point(no) => write!(f, "{fault} point {}", no.get()),
         Name::String(no) => write!(f, "{fault} string {}", no.get()),
@@ -70,6 +78,11 @@ fn write_name<W: fmt::Write>(f: &mut fmt::Formatter<W>, fault: &str, name: Name)
 
 /// The number of the fault, its name, and what it is about.
 impl fmt::Display for PlanFault {
+    ghost use Rattle.std.specs.Prelude.{Some};
+    ghost use Rattle.cad_files.specs.FaultTexts.{fault_text};
+
+    ghost output = { λ f. Some (fault_text f) };
+
     fn fmt<W: fmt::Write>(&self, f: &mut fmt::Formatter<W>) -> fmt::Result {
         match self {
             PlanFault::Read => write!(f, "1 read"),

@@ -33,17 +33,15 @@ anchor_of-same r s h = ap anchor_of (sym (take-append-drop h.place r)) ∙ piece
 pub anchor_of-least_rotation : (ring : Ring) → anchor_of (least_rotation ring) ≡ anchor_of ring
 anchor_of-least_rotation ring = sym (anchor_of-same ring (least_rotation ring) (IsSameRing-least_rotation ring))
 
+backwards : (b : ℕ) (xs : List ℕ) → fold min b (reverse xs) ≡ fold min b xs
+backwards b [] = refl
+backwards b (x ∷ xs) =
+    ap (fold min b) (reverse-append (x ∷ []) xs) ∙ least-append b (reverse xs) (x ∷ []) ∙ ap (λ (n : ℕ). min n x) (backwards b xs)
+    ∙ (let e : min (fold min b xs) x ≡ min x (fold min b xs) = omega arith in e) ∙ sym (least-min x b xs) ∙ ap (λ (n : ℕ). fold min n xs) (let e : min x b ≡ min b x = omega arith in e)
+
 pub anchor_of-reversed : (ring : Ring) → anchor_of (reversed ring) ≡ anchor_of ring
 anchor_of-reversed [] = refl
-anchor_of-reversed (a ∷ points) = ap anchor_of (reverse-append (a ∷ []) points) ∙ pieces (reverse points) (a ∷ []) ∙ in_order a points
-  where
-    backwards : (b : ℕ) (xs : List ℕ) → fold min b (reverse xs) ≡ fold min b xs
-    backwards b [] = refl
-    backwards b (x ∷ xs) =
-        ap (fold min b) (reverse-append (x ∷ []) xs) ∙ least-append b (reverse xs) (x ∷ []) ∙ ap (λ (n : ℕ). min n x) (backwards b xs)
-        ∙ (let e : min (fold min b xs) x ≡ min x (fold min b xs) = omega arith in e) ∙ sym (least-min x b xs) ∙ ap (λ (n : ℕ). fold min n xs) (let e : min x b ≡ min b x = omega arith in e)
-    in_order : (b : ℕ) (xs : List ℕ) → fold min b (reverse xs) ≡ fold min b xs
-    in_order = backwards
+anchor_of-reversed (a ∷ points) = ap anchor_of (reverse-append (a ∷ []) points) ∙ pieces (reverse points) (a ∷ []) ∙ backwards a points
 
 -- ---- It is the least of the points
 

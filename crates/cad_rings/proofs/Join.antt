@@ -52,6 +52,13 @@ has_ends [] h = absurd (omega arith)
 has_ends (x ∷ []) h = absurd (omega arith)
 has_ends (x ∷ y ∷ ys) h = let e = has_last y ys in record { first = x; mid = e.front; last = e.last; is = ap (λ (l : List ℕ). x ∷ l) e.is }
 
+backwards : (c : ℕ) (mid : List ℕ) (d : ℕ) (there back : List ℕ) → there ≡ c ∷ mid ++ d ∷ [] → there ≡ reverse back → back ≡ d ∷ reverse mid ++ c ∷ []
+backwards c mid d there back e h =
+    sym (reverse-reverse back) ∙ ap reverse (sym h ∙ e) ∙ reverse-append (c ∷ mid) (d ∷ []) ∙ ap (λ (l : List ℕ). d ∷ l) (reverse-append (c ∷ []) mid)
+
+in_two : (n : ℕ) (points chain : List ℕ) → take n points ≡ chain → points ≡ chain ++ drop n points
+in_two n points chain e = sym (take-append-drop n points) ∙ ap (λ (l : List ℕ). l ++ drop n points) e
+
 pub is_joined : (i j m : ℕ) (kept ended : Ring) → HaveChainInCommon i j m kept ended → IsJoined i j m kept ended
 is_joined i j m kept ended h =
     let K = turned i kept in
@@ -69,10 +76,9 @@ is_joined i j m kept ended h =
     let r = drop (m + 1) K in
     let s = drop (m + 1) E in
     let long : suc (length mid) ≡ m = let e = ap length ends.is in let e' = length-append (c ∷ mid) (d ∷ []) in omega arith in
-    let chain_e : take (m + 1) E ≡ d ∷ reverse mid ++ c ∷ [] =
-    sym (reverse-reverse (take (m + 1) E)) ∙ ap reverse (sym h.common) ∙ ap reverse ends.is ∙ reverse-append (c ∷ mid) (d ∷ []) ∙ ap (λ (l : List ℕ). d ∷ l) (reverse-append (c ∷ []) mid) in
-    let k_is : K ≡ c ∷ mid ++ d ∷ r = sym (take-append-drop (m + 1) K) ∙ ap (λ (l : List ℕ). l ++ r) ends.is ∙ append_assoc (c ∷ mid) (d ∷ []) r in
-    let e_is : E ≡ d ∷ reverse mid ++ c ∷ s = sym (take-append-drop (m + 1) E) ∙ ap (λ (l : List ℕ). l ++ s) chain_e ∙ append_assoc (d ∷ reverse mid) (c ∷ []) s in
+    let chain_e : take (m + 1) E ≡ d ∷ reverse mid ++ c ∷ [] = backwards c mid d (take (m + 1) K) (take (m + 1) E) ends.is h.common in
+    let k_is : K ≡ c ∷ mid ++ d ∷ r = in_two (m + 1) K (c ∷ mid ++ d ∷ []) ends.is ∙ append_assoc (c ∷ mid) (d ∷ []) r in
+    let e_is : E ≡ d ∷ reverse mid ++ c ∷ s = in_two (m + 1) E (d ∷ reverse mid ++ c ∷ []) chain_e ∙ append_assoc (d ∷ reverse mid) (c ∷ []) s in
     let behind_k : drop m K ≡ d ∷ r = ap (drop m) k_is ∙ drop_at (c ∷ mid) (d ∷ r) m long in
     let behind_e : drop m E ≡ c ∷ s = ap (drop m) e_is ∙ drop_at (d ∷ reverse mid) (c ∷ s) m (let e = length-reverse mid in omega arith) in
     record { c = c; mid = mid; d = d; r = r; s = s; long = long; chain = ends.is; from_c = k_is; from_d = e_is; is = λ k. behind_k k ++ behind_e k }

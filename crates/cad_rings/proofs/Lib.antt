@@ -9,3 +9,6 @@ pub mod Parts
 pub mod Cut
 pub mod Join
 pub mod Anchor
+pub mod PutOn
+pub mod Without
+pub mod Placed
