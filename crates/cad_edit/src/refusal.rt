@@ -8,14 +8,8 @@ ghost use Rattle.cad_map.specs.Valid.{IsValid};
 ghost use Rattle.cad_map.specs.Refusals.{range, unknown, taken, already_attached, full, first_refusal as first_refusal_of, is_there, item_named, sources_at, is_attached};
 
 use cad_map::MapView;
-use cad_rows::{Edit, Item, Name, Numbers, Refusal, SourceNo};
-use geo_exact::LIMIT;
-
-/// The most points, parcels, sources and retired numbers that a map may have, each.
-const ROW_LIMIT: usize = 100_000;
-
-/// The most sources of one point, string or parcel.
-const SOURCE_LIMIT: usize = 16;
+use cad_rows::{Edit, Item, Name, Numbers, ROW_LIMIT, Refusal, SOURCE_LIMIT, SourceNo};
+use geo_exact::COORDINATE_LIMIT;
 
 /// The first reason to refuse an edit of a valid map before anything is tried, if there is one. Takes no memory.
 #[tactic(auto, unfolding(cad_map::specs::Refusals::first_refusal))]
@@ -41,7 +35,7 @@ pub fn first_refusal<M: MapView>(map: &M, edit: &Edit) -> Option<Refusal>
 fn is_in_range(coordinate: i64) -> bool
     ensures { result ≡ in_range coordinate }
 {
-    -LIMIT <= coordinate && coordinate <= LIMIT
+    -COORDINATE_LIMIT <= coordinate && coordinate <= COORDINATE_LIMIT
 }
 
 /// A coordinate is out of range.

@@ -10,10 +10,10 @@ use crate::faults::PlanFault;
 use crate::fields::{Fields, are_blank, coordinate, point_no, seven, source_no, text};
 use crate::input::{InputFault, next_row};
 use crate::lists::{DistinctSources, source_list};
-use crate::rows::{PlanRows, ROW_LIMIT, SOURCE_LIMIT};
-use cad_rows::{Memory, PointNo, PointRow, SourceRow};
+use crate::rows::PlanRows;
+use cad_rows::{Memory, PointNo, PointRow, ROW_LIMIT, SOURCE_LIMIT, SourceRow};
 use csv::{ByteRecord, Reader};
-use geo_exact::{LIMIT, Pt};
+use geo_exact::{COORDINATE_LIMIT, Pt};
 use std::alloc::Global;
 use std::io::Read;
 
@@ -143,7 +143,7 @@ fn is_within(version: Version, z: i64) -> bool
 {
     match version {
         Version::One => -FIRST_LIMIT <= z && z <= FIRST_LIMIT,
-        Version::Two => -LIMIT <= z && z <= LIMIT,
+        Version::Two => -COORDINATE_LIMIT <= z && z <= COORDINATE_LIMIT,
     }
 }
 

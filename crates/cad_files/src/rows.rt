@@ -7,12 +7,6 @@ use cad_rows::{Memory, PointRow, SourceRow};
 use std::alloc::Global;
 use std::marker::Model;
 
-/// The most rows of a kind but strings.
-pub(crate) const ROW_LIMIT: usize = 100_000;
-
-/// The most sources of one item.
-pub(crate) const SOURCE_LIMIT: usize = 16;
-
 /// The rows of a plan, in the order of its records: each in range, none of its lists of sources too
 /// long or with a number twice, and not too many rows of a kind.
 #[derive(Debug, Drop)]

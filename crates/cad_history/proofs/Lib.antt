@@ -1,5 +1,4 @@
 mod Cut
-mod Broken
 mod Moves
 mod Calls
 mod Sources

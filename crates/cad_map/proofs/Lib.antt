@@ -1,3 +1,4 @@
 mod Entries
 pub mod Lists
 pub mod Kept
+pub mod Broken

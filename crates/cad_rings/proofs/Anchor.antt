@@ -1,7 +1,8 @@
 -- The anchor of a ring is the least of its points, wherever the ring is written from.
-use Rattle.std.proofs.Common.{◌≡◌, ℕ, ◌≤◌, ◌<◌, min, refl, sym, ◌∙◌, ap, subst, List, [], ◌∷◌, ◌++◌, length, take, drop, reverse, arith}
+use Rattle.std.proofs.Common.{◌≡◌, ℕ, suc, ◌≤◌, ◌<◌, ◌⊎◌, inl, inr, min, refl, sym, ◌∙◌, ap, subst, List, [], ◌∷◌, ◌++◌, length, take, drop, reverse, arith}
 use Rattle.std.proofs.lemmas.List.{append-nil, take-append-drop, reverse-append}
-use Rattle.std.specs.Prelude.{fold}
+use Rattle.std.proofs.lemmas.Bool.{cases_lt}
+use Rattle.std.specs.Prelude.{fold, Contains}
 use Rattle.std.specs.List.{AllByRecursion}
 use Rattle.cad_rings.specs.Cycle.{Ring, turned, IsSameRing, anchor_of}
 use Rattle.cad_rings.specs.Shown.{least_rotation}
@@ -56,3 +57,26 @@ at_most_each a (x ∷ xs) = ((let h = at_most_first (min a x) xs in omega arith)
 pub anchor_of-at_most : (ring : Ring) → AllByRecursion (λ p. anchor_of ring ≤ p) ring
 anchor_of-at_most [] = tt
 anchor_of-at_most (a ∷ points) = (at_most_first a points, at_most_each a points)
+
+-- ---- It is one of the points
+
+here_or_there : (a x : ℕ) (xs : List ℕ) → (fold min a xs ≡ a) ⊎ Contains xs (fold min a xs) → Contains (x ∷ xs) (fold min a xs) ⊎ (fold min a xs ≡ a)
+here_or_there a x xs (inl h) = inr h
+here_or_there a x xs (inr (k, within, is)) = inl (suc k, omega arith, is)
+
+first_or_among : (a : ℕ) (xs : List ℕ) → (fold min a xs ≡ a) ⊎ Contains xs (fold min a xs)
+first_or_among a [] = inl refl
+first_or_among a (x ∷ xs) = elim (here_or_there (min a x) x xs (first_or_among (min a x) xs)) [
+  | inl h ↦ inr h
+  | inr h ↦ elim (cases_lt x a) [
+    | inl lower ↦ inr (0, omega arith, (let e : x ≡ fold min (min a x) xs = omega arith in e))
+    | inr not_lower ↦ inl (omega arith)
+  ]
+]
+
+pub anchor_of-Contains : (ring : Ring) → 1 ≤ length ring → Contains ring (anchor_of ring)
+anchor_of-Contains [] h = absurd (omega arith)
+anchor_of-Contains (a ∷ points) h = elim (first_or_among a points) [
+  | inl e ↦ (0, omega arith, sym e)
+  | inr (k, within, is) ↦ (suc k, omega arith, is)
+]

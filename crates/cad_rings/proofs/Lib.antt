@@ -12,3 +12,5 @@ pub mod Anchor
 pub mod PutOn
 pub mod Without
 pub mod Placed
+pub mod CallerLemmas
+mod Examples

@@ -3,6 +3,7 @@
 
 mod edits;
 mod label;
+mod limits;
 mod list;
 mod memory;
 mod names;
@@ -12,6 +13,7 @@ mod rows;
 
 pub use edits::Edit;
 pub use label::{LABEL_LIMIT, Label};
+pub use limits::{ROW_LIMIT, SOURCE_LIMIT, STRING_LIMIT};
 pub use list::Numbers;
 pub use memory::Memory;
 pub use names::{Face, Item, Name};

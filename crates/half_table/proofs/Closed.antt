@@ -1,15 +1,14 @@
 -- In a table each half lies on a cycle.
-use Rattle.std.proofs.Common.{◌≡◌, ℕ, ◌≤◌, zero, suc, Bool, true, false, cond, ◌&&◌, ◌||◌, List, [], ◌∷◌, length, refl, sym, ap, ◌∙◌, subst, ◌⊎◌, inl, inr, arith, true≢false, nat_eq, if◌then◌else◌, Some, is_some, option_map}
+use Rattle.std.proofs.Common.{◌≡◌, ℕ, ◌≤◌, zero, suc, Bool, true, false, ◌||◌, List, [], ◌∷◌, length, refl, sym, ap, ◌∙◌, subst, ◌⊎◌, inl, inr, arith, true≢false, if◌then◌else◌}
 use Rattle.std.proofs.lemmas.Map.Made.{length-le_from_is_member}
 use Rattle.std.specs.Cmp.{IsEquivalence}
 use Rattle.std.specs.List.{IsDistinct, AllByRecursion}
-use Rattle.std.specs.Map.{lookup}
-use Rattle.std.specs.Bool.{beq}
 use Rattle.half_table.specs.declared.half.Half.{Half}
-use Rattle.half_table.specs.Half.{is_half, forward_of, backward_of}
+use Rattle.half_table.specs.Half.{is_half}
 use Rattle.half_table.specs.Cycle.{holds, IsOnce, IsWalk, IsCycle, IsRun, orbit}
-use Rattle.half_table.specs.Rows.{Rows, has, links_at, next, prev, halves, cycle, IsLinked, HasCycle}
+use Rattle.half_table.specs.Rows.{Rows, has, next, prev, halves, cycle, IsLinked, HasCycle}
 use Rattle.half_table.proofs.Halves.{is_half-self, is_half-same, is_half-turned}
+use Rattle.half_table.proofs.Strings.{in_halves}
 use Rattle.half_table.proofs.Cycles.{or_true, or_right, or_false, walk-passes}
 
 same_tests : (a b : Bool) → (a ≡ true → b ≡ true) → (b ≡ true → a ≡ true) → a ≡ b
@@ -31,18 +30,6 @@ distinct : (xs : List Half) → IsOnce xs → IsDistinct is_half xs
 unfolding IsDistinct
 distinct [] o = tt
 distinct (x ∷ xs) o = (none_there xs x o.0, distinct xs o.1)
-
--- a half of the table is in the list of all
-pub in_halves : (rows : Rows) (q : Half) → has rows q ≡ true → holds (halves rows) q ≡ true
-in_halves [] q h = absurd (true≢false (sym h))
-in_halves (e ∷ es) q h = by (in_halves es q) (nat_eq q.string e.0) refl q.forward refl
-  where
-    by : (has es q ≡ true → holds (halves es) q ≡ true) → (b : Bool) → nat_eq q.string e.0 ≡ b → (f : Bool) → q.forward ≡ f → holds (halves (e ∷ es)) q ≡ true
-    by ih true p true d = ap (λ v. v || (is_half q (backward_of e.0) || holds (halves es) q)) (λ i. p i && beq (d i) true)
-    by ih true p false d = or_right (is_half q (forward_of e.0)) (is_half q (backward_of e.0) || holds (halves es) q) (ap (λ v. v || holds (halves es) q) (λ i. p i && beq (d i) false))
-    by ih false p f d = or_right (is_half q (forward_of e.0)) (is_half q (backward_of e.0) || holds (halves es) q)
-        (or_right (is_half q (backward_of e.0)) (holds (halves es) q)
-        (ih (sym (ap (λ b. is_some (option_map (links_at q.forward) (cond b (Some e.1) (lookup (nat_eq q.string) es)))) p) ∙ h)))
 
 module _ (nx : Half → Half) (h : Half) where
   run_or_full : (n : ℕ) (at : Half) → IsRun nx h at (orbit nx n h at) ⊎ (length (orbit nx n h at) ≡ n)
@@ -98,8 +85,9 @@ module _ (nx : Half → Half) (h : Half) where
             absent true s = absurd (true≢false (sym (not_later n (nx p) p s) ∙ e))
 
 module _ (rows : Rows) (linked : IsLinked rows) where
-  injective : (x y : Half) → next rows x ≡ next rows y → x ≡ y
-  injective x y e = sym (linked.prev_next x) ∙ ap (prev rows) e ∙ linked.prev_next y
+  -- no two halves have the same next
+  pub next-injective : (x y : Half) → next rows x ≡ next rows y → x ≡ y
+  next-injective x y e = sym (linked.prev_next x) ∙ ap (prev rows) e ∙ linked.prev_next y
 
   all_in : (h : Half) (n : ℕ) (at q : Half) → has rows at ≡ true → holds (orbit (next rows) n h at) q ≡ true → has rows q ≡ true
   all_in h zero at q e s = absurd (true≢false (sym s))
@@ -121,7 +109,7 @@ module _ (rows : Rows) (linked : IsLinked rows) where
   cycle-once h =
       let n = length (halves rows) in
       let out = no_stop (next rows) h n (next rows h) in
-      (out, once (next rows) h injective n h out)
+      (out, once (next rows) h next-injective n h out)
 
   pub cycle-inside : (h q : Half) → has rows h ≡ true → holds (cycle rows h) q ≡ true → has rows q ≡ true
   cycle-inside h q e s = elim (or_true (is_half q h) (holds (orbit (next rows) (length (halves rows)) h (next rows h)) q) s) [

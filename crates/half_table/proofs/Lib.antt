@@ -1,4 +1,5 @@
 pub mod Halves
+pub mod Strings
 pub mod Cycles
 pub mod Changed
 pub mod Closed

@@ -1,16 +1,15 @@
 -- A string that comes or goes.
-use Rattle.std.proofs.Common.{◌≡◌, ℕ, List, [], ◌∷◌, ◌++◌, Bool, true, false, not, cond, refl, sym, ap, ◌∙◌, Option, Some, None, is_some, option_map, true≢false, nat_eq, if◌then◌else◌}
+use Rattle.std.proofs.Common.{◌≡◌, ℕ, [], ◌∷◌, ◌++◌, Bool, true, false, not, cond, refl, sym, ap, ◌∙◌, Option, Some, None, is_some, option_map, true≢false, nat_eq, if◌then◌else◌}
 use Rattle.std.proofs.lemmas.Bool.Decides.{Decides-eqb}
 use Rattle.std.specs.List.{IsDistinct}
-use Rattle.std.specs.Map.{lookup, keys_of}
-use Rattle.indexmap.specs.IndexMap.{insert_entry}
+use Rattle.std.specs.Map.{lookup}
 use Rattle.std.specs.Option.{option_map_or}
 use Rattle.cad_rows.specs.declared.names.Face.TheVariants.{Outside}
 use Rattle.half_table.specs.declared.half.Half.{Half}
 use Rattle.half_table.specs.declared.links.Links.{Links}
 use Rattle.half_table.specs.declared.links.Ends.{Ends}
 use Rattle.half_table.specs.Half.{twin, forward_of, backward_of}
-use Rattle.half_table.specs.Rows.{Rows, strings, has_string, links_at, links_of, has, next, prev, origin, face, IsLinked}
+use Rattle.half_table.specs.Rows.{Rows, strings, links_at, links_of, has, next, prev, origin, face, IsLinked}
 use Rattle.half_table.specs.Surgery.{AddsLoose, RemovesLoose, IsLoose, loose_ends}
 use Rattle.half_table.proofs.Halves.{twin-twin}
 
@@ -78,31 +77,6 @@ module _ (old new : Rows) (s : ℕ) (m : Half → Half) (k : Bool) (linked : IsL
           ∙ ap (λ b. if b then k else has old (m h)) (ap (λ t. nat_eq t s) (m_string h) ∙ e) ∙ ap (λ b. if b then k else has old h) (sym e) ∙ sym (has_is h)
       ins h false e = ap (has new) (next_is h ∙ ap (λ b. if b then m h else next old h) e) ∙ has_is (next old h)
           ∙ ap (λ b. if b then k else has old (next old h)) (away_next h e) ∙ linked.inside h ∙ ap (λ b. if b then k else has old h) (sym e) ∙ sym (has_is h)
-
--- a number under which a look-up finds nothing
-pub none-found : {V : Type 0} (o : Option V) → is_some o ≡ false → o ≡ None
-none-found None e = refl
-none-found (Some v) e = absurd (true≢false e)
-
--- an entry under a new number goes last
-pub keys-insert_entry : {V : Type 0} (es : List (ℕ × V)) (s : ℕ) (v : V) → lookup (nat_eq s) es ≡ None → keys_of (insert_entry nat_eq es s v) ≡ keys_of es ++ s ∷ []
-keys-insert_entry [] s v none = refl
-keys-insert_entry (e ∷ es) s v none = by (keys-insert_entry es s v) (nat_eq s e.0) refl
-  where
-    by : (lookup (nat_eq s) es ≡ None → keys_of (insert_entry nat_eq es s v) ≡ keys_of es ++ s ∷ []) → (b : Bool) → nat_eq s e.0 ≡ b
-        → keys_of (insert_entry nat_eq (e ∷ es) s v) ≡ e.0 ∷ (keys_of es ++ s ∷ [])
-    by ih true p = let found : Some e.1 ≡ None = sym (ap (λ b. cond b (Some e.1) (lookup (nat_eq s) es)) p) ∙ none in cc
-    by ih false p =
-        let later : lookup (nat_eq s) es ≡ None = sym (ap (λ b. cond b (Some e.1) (lookup (nat_eq s) es)) p) ∙ none in
-        ap (λ b. keys_of (if b then (e.0, v) ∷ es else e ∷ insert_entry nat_eq es s v)) p ∙ ap (λ ks. e.0 ∷ ks) (ih later)
-
--- a half is there where its string is
-pub has-string : (rows : Rows) (h : Half) → has rows h ≡ has_string rows h.string
-has-string rows h = by (lookup (nat_eq h.string) rows)
-  where
-    by : (o : Option Ends) → is_some (option_map (links_at h.forward) o) ≡ is_some o
-    by None = refl
-    by (Some e) = refl
 
 -- of a string that isn't there each half is its own next and prev
 pub absent : (rows : Rows) (s : ℕ) → lookup (nat_eq s) rows ≡ None → (g : Half) → nat_eq g.string s ≡ true → links_of rows g ≡ None

@@ -9,7 +9,8 @@ use Rattle.half_table.specs.Surgery.{AddsLoose, AddsCycle, IsLoose, RemovesLoose
 use Rattle.half_table.proofs.Halves.{is_half-self, is_half-same, is_half-twin, twin-twin}
 use Rattle.half_table.proofs.Cycles.{walked-so, walk-passes, or_true, or_right}
 use Rattle.half_table.proofs.Closed.{has-cycle, cycle-only}
-use Rattle.half_table.proofs.Loose.{has-string, loose-follows}
+use Rattle.half_table.proofs.Strings.{has-string}
+use Rattle.half_table.proofs.Loose.{loose-follows}
 
 -- the big table has the halves of the string s, each the next of the other, and the small one has not; otherwise they are the same
 module _ (small big : Rows) (s : ℕ) (linked : IsLinked big)

@@ -1,4 +1,5 @@
-//! The doubly connected edge list of de Berg, Cheong, van Kreveld and Overmars, Computational Geometry, chapter 2, as a table of half-edges by the numbers of their strings.
+//! The doubly connected edge list of de Berg, Cheong, van Kreveld and Overmars, Computational
+//! Geometry, chapter 2, as a table of half-edges by the numbers of their strings.
 #![tactic(auto)]
 
 mod changes;
@@ -10,7 +11,6 @@ mod tally;
 mod walk;
 
 pub use half::Half;
-pub use links::{Ends, Links};
 pub use table::HalfTable;
 pub use tally::{Tally, Ticks};
 pub use walk::Walk;

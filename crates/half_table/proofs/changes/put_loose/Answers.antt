@@ -3,7 +3,8 @@ use Rattle.std.specs.Map.{lookup}
 use Rattle.half_table.specs.declared.links.Ends.{Ends}
 use Rattle.half_table.specs.Rows.{strings, IsLinked}
 use Rattle.half_table.specs.Surgery.{AddsLoose, loose_ends}
-use Rattle.half_table.proofs.Loose.{none-found, keys-insert_entry, added, added-linked}
+use Rattle.half_table.proofs.Strings.{none-found, keys-insert_entry}
+use Rattle.half_table.proofs.Loose.{added, added-linked}
 use Rattle.half_table.proofs.LooseCycles.{added-cycle}
 use Rattle.half_table.proofs.changes.put_loose.Goals as goal
 

@@ -1,7 +1,7 @@
 use Rattle.std.proofs.Common.{rules, ◌≡◌, ◌∙◌, sym}
 use Rattle.half_table.specs.Half.{half_of}
 use Rattle.half_table.specs.Rows.{has_string}
-use Rattle.half_table.proofs.Loose.{has-string}
+use Rattle.half_table.proofs.Strings.{has-string}
 use Rattle.half_table.proofs.table.HalfTable.has_string.Goals as goal
 
 pub returns-clause-halves : goal.returns-clause-halves

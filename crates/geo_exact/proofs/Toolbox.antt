@@ -1,0 +1,6 @@
+-- The toolbox for proofs of integer geometry, in one import for this crate and those above: identities of sums of products, signs of products,
+-- and that differences, products and sums of coordinates fit their types.
+pub use Rattle.geo_exact.proofs.Polynomial.{Polynomial, value, parts, by_parts}
+pub use Rattle.geo_exact.proofs.Polynomial.Polynomial.{var, num, ◌⊞◌, ◌⊟◌, ◌⊠◌}
+pub use Rattle.geo_exact.proofs.Signs.{positive-positive, positive-negative, negative-positive, negative-negative, zero-times, square, square_zero}
+pub use Rattle.geo_exact.proofs.Wide.{coordinate_small, coordinate_fits, coordinate_fits_wide, difference_fits, difference_fits_wide, difference_small, product_fits, product_small, small_fits, small_sum_fits, small_difference_fits, small_difference, orientation_fits, rectangle_small, rectangle_fits, rectangles_fit, rectangles_small, measure_fits}
