@@ -5,8 +5,10 @@ mod args;
 mod faults;
 mod job;
 mod path;
+mod program;
 
 pub use args::{Args, args_status, read_args};
 pub use faults::{JobFault, status};
 pub use job::run_job;
 pub use path::run_path;
+pub use program::run_args;

@@ -4,7 +4,7 @@ pub use Rattle.cad_rings.proofs.Turned.{round_permuted, IsSameRing-append, IsSam
 pub use Rattle.cad_rings.proofs.OneForm.{IsSameRing-least_rotation, IsSameRing-from_least_rotation, least_rotation-comes_first, least_rotation-same, least_rotation-turned, least_rotation-least_rotation}
 pub use Rattle.cad_rings.proofs.Permuted.{permuted_as, second_last, both_ways-apart, sum-permuted, sum-append, sum-opposite, sum-both_ways}
 pub use Rattle.cad_rings.proofs.Sides.{sides_along-append, sides_along-reverse, sides_of_chain-is, length-sides_along, length-sides_of, sides_of-turned, sides_of-same, sides_of-least_rotation, sides_of-reversed, ring_sum-same_ring, ring_sum-reversed}
-pub use Rattle.cad_rings.proofs.Corners.{corners_in, corners_in-append, corners_in-reverse, length-corners_of, corners_of-turned, corners_of-same, corners_of-reversed}
+pub use Rattle.cad_rings.proofs.Corners.{corners_of_chain-append, corners_of_chain-reverse, length-corners_of, corners_of-turned, corners_of-same, corners_of-reversed}
 pub use Rattle.cad_rings.proofs.Parts.{IsParted, parted}
 pub use Rattle.cad_rings.proofs.Cut.{IsCut, cut, sides_of-cut, ring_sum-cut, length-cut}
 pub use Rattle.cad_rings.proofs.Join.{IsJoined, is_joined, sides_of-joined, ring_sum-joined, length-joined, HaveChainInCommon-cut, joined-cut, IsCutBack, cut-joined}

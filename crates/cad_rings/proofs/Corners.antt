@@ -5,22 +5,16 @@ use Rattle.std.proofs.lemmas.List.Sorted.{IsPermutation-refl, IsPermutation-tran
 use Rattle.std.proofs.lemmas.Bool.{cases_lt}
 use Rattle.std.specs.Prelude.{IsPermutation}
 use Rattle.cad_rings.specs.Cycle.{Ring, Corner, corner_back, corners_along, corners_of, turned, IsSameRing}
-use Rattle.cad_rings.specs.Surgery.{reversed}
+use Rattle.cad_rings.specs.Surgery.{reversed, corners_of_chain}
 use Rattle.cad_rings.proofs.Permuted.{permuted_as}
 use Rattle.cad_rings.proofs.Turned.{round_at, round_past, round_permuted, IsSameRing-append}
 
--- the corners along a list of points, its two ends left out
-abbrev pub corners_in : List ℕ → List Corner
-corners_in [] = []
-corners_in (a ∷ []) = []
-corners_in (a ∷ b ∷ points) = corners_along a b points
-
 -- corners through c and d are those to c, which d follows, and those from c on
-pub corners_in-append : (xs : List ℕ) (c d : ℕ) (ys : List ℕ) → corners_in (xs ++ c ∷ d ∷ ys) ≡ corners_in (xs ++ c ∷ d ∷ []) ++ corners_in (c ∷ d ∷ ys)
-corners_in-append [] c d ys = refl
-corners_in-append (a ∷ []) c d ys = refl
-corners_in-append (a ∷ b ∷ []) c d ys = refl
-corners_in-append (a ∷ b ∷ x ∷ xs) c d ys = ap (λ (l : List Corner). record { before = a; at = b; after = x } ∷ l) (corners_in-append (b ∷ x ∷ xs) c d ys)
+pub corners_of_chain-append : (xs : List ℕ) (c d : ℕ) (ys : List ℕ) → corners_of_chain (xs ++ c ∷ d ∷ ys) ≡ corners_of_chain (xs ++ c ∷ d ∷ []) ++ corners_of_chain (c ∷ d ∷ ys)
+corners_of_chain-append [] c d ys = refl
+corners_of_chain-append (a ∷ []) c d ys = refl
+corners_of_chain-append (a ∷ b ∷ []) c d ys = refl
+corners_of_chain-append (a ∷ b ∷ x ∷ xs) c d ys = ap (λ (l : List Corner). record { before = a; at = b; after = x } ∷ l) (corners_of_chain-append (b ∷ x ∷ xs) c d ys)
 
 pub length-corners_along : (a b : ℕ) (xs : List ℕ) → length (corners_along a b xs) ≡ length xs
 length-corners_along a b [] = refl
@@ -36,8 +30,8 @@ step_on : (a : ℕ) (points : List ℕ) → corners_of (points ++ a ∷ []) ≡ 
 step_on a [] = refl
 step_on a (b ∷ []) = refl
 step_on a (b ∷ c ∷ points) =
-    let e : corners_along b c ((points ++ a ∷ []) ++ b ∷ c ∷ []) ≡ corners_in (b ∷ c ∷ points ++ a ∷ b ∷ c ∷ []) = ap (corners_along b c) (append_assoc points (a ∷ []) (b ∷ c ∷ [])) in
-    e ∙ corners_in-append (b ∷ c ∷ points) a b (c ∷ [])
+    let e : corners_along b c ((points ++ a ∷ []) ++ b ∷ c ∷ []) ≡ corners_of_chain (b ∷ c ∷ points ++ a ∷ b ∷ c ∷ []) = ap (corners_along b c) (append_assoc points (a ∷ []) (b ∷ c ∷ [])) in
+    e ∙ corners_of_chain-append (b ∷ c ∷ points) a b (c ∷ [])
 
 -- a list from one place further on
 next_place : (n : ℕ) (cs : List Corner) → suc n ≤ length cs → drop n (drop 1 cs ++ take 1 cs) ++ take n (drop 1 cs ++ take 1 cs) ≡ drop (suc n) cs ++ take (suc n) cs
@@ -87,20 +81,20 @@ corners_of-same r s h =
 -- ---- In the other direction
 
 -- the points backwards have the corners backwards, last first
-pub corners_in-reverse : (points : List ℕ) → corners_in (reverse points) ≡ reverse (map corner_back (corners_in points))
-corners_in-reverse [] = refl
-corners_in-reverse (a ∷ []) = refl
-corners_in-reverse (a ∷ b ∷ []) = refl
-corners_in-reverse (a ∷ b ∷ c ∷ points) =
-    let rest = corners_in-reverse (b ∷ c ∷ points) in
+pub corners_of_chain-reverse : (points : List ℕ) → corners_of_chain (reverse points) ≡ reverse (map corner_back (corners_of_chain points))
+corners_of_chain-reverse [] = refl
+corners_of_chain-reverse (a ∷ []) = refl
+corners_of_chain-reverse (a ∷ b ∷ []) = refl
+corners_of_chain-reverse (a ∷ b ∷ c ∷ points) =
+    let rest = corners_of_chain-reverse (b ∷ c ∷ points) in
     let e1 : reverse (a ∷ b ∷ c ∷ points) ≡ reverse points ++ c ∷ b ∷ a ∷ [] = reverse-append (a ∷ b ∷ c ∷ []) points in
     let e2 : reverse (b ∷ c ∷ points) ≡ reverse points ++ c ∷ b ∷ [] = reverse-append (b ∷ c ∷ []) points in
-    ap corners_in e1 ∙ corners_in-append (reverse points) c b (a ∷ []) ∙ ap (λ (l : List ℕ). corners_in l ++ record { before = c; at = b; after = a } ∷ []) (sym e2)
+    ap corners_of_chain e1 ∙ corners_of_chain-append (reverse points) c b (a ∷ []) ∙ ap (λ (l : List ℕ). corners_of_chain l ++ record { before = c; at = b; after = a } ∷ []) (sym e2)
     ∙ ap (λ (l : List Corner). l ++ record { before = c; at = b; after = a } ∷ []) rest
-    ∙ sym (reverse-append (record { before = c; at = b; after = a } ∷ []) (map corner_back (corners_in (b ∷ c ∷ points))))
+    ∙ sym (reverse-append (record { before = c; at = b; after = a } ∷ []) (map corner_back (corners_of_chain (b ∷ c ∷ points))))
 
 -- the corners of a ring are those along its points with the first two once more
-round_points : (a b : ℕ) (points : List ℕ) → corners_of (a ∷ b ∷ points) ≡ corners_in (a ∷ b ∷ points ++ a ∷ b ∷ [])
+round_points : (a b : ℕ) (points : List ℕ) → corners_of (a ∷ b ∷ points) ≡ corners_of_chain (a ∷ b ∷ points ++ a ∷ b ∷ [])
 round_points a b points = refl
 
 pub corners_of-reversed : (ring : Ring) → IsPermutation (map corner_back (corners_of ring)) (corners_of (reversed ring))
@@ -109,7 +103,7 @@ corners_of-reversed (a ∷ []) = IsPermutation-refl []
 corners_of-reversed (a ∷ b ∷ points) =
     let M = map corner_back (corners_of (a ∷ b ∷ points)) in
     let e1 : reverse (a ∷ b ∷ points ++ a ∷ b ∷ []) ≡ b ∷ a ∷ reverse points ++ b ∷ a ∷ [] = reverse-append (a ∷ b ∷ points) (a ∷ b ∷ []) ∙ ap (λ (l : List ℕ). b ∷ a ∷ l) (reverse-append (a ∷ b ∷ []) points) in
-    let e2 : corners_of (b ∷ a ∷ reverse points) ≡ reverse M = ap corners_in (sym e1) ∙ corners_in-reverse (a ∷ b ∷ points ++ a ∷ b ∷ []) in
+    let e2 : corners_of (b ∷ a ∷ reverse points) ≡ reverse M = ap corners_of_chain (sym e1) ∙ corners_of_chain-reverse (a ∷ b ∷ points ++ a ∷ b ∷ []) in
     IsPermutation-trans M (corners_of (b ∷ a ∷ reverse points)) (corners_of (reverse (a ∷ b ∷ points)))
     (permuted_as M M (corners_of (b ∷ a ∷ reverse points)) (reverse M) refl e2 (IsPermutation-reverse M))
     (permuted_as (corners_of (b ∷ a ∷ reverse points)) (corners_of (b ∷ a ∷ reverse points)) (corners_of (reverse (a ∷ b ∷ points))) (corners_of (reverse points ++ b ∷ a ∷ [])) refl

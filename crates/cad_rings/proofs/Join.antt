@@ -8,7 +8,7 @@ use Rattle.std.specs.Prelude.{IsPermutation, slice_index, slice_range}
 use Rattle.geo_exact.specs.Position.{Position}
 use Rattle.geo_exact.specs.Measure.{Measure, IsOdd, sum_over}
 use Rattle.cad_rings.specs.Cycle.{Ring, Side, sides_along, sides_of, placed, ring_sum, turned, IsSameRing}
-use Rattle.cad_rings.specs.Surgery.{stretch, left_ring, right_ring, AreTwoPlaces, chain_from, HaveChainInCommon, joined, sides_of_chain, both_ways}
+use Rattle.cad_rings.specs.Surgery.{stretch, left_ring, right_ring, chain_across, AreTwoPlaces, chain_from, HaveChainInCommon, joined, sides_of_chain, both_ways}
 use Rattle.cad_rings.proofs.Permuted.{permuted_as, sum-permuted, sum-append, sum-both_ways}
 use Rattle.cad_rings.proofs.Sides.{sides_of_chain-is, sides_of-same}
 use Rattle.cad_rings.proofs.Turned.{IsSameRing-turned, IsSameRing-append, length-turned}
@@ -176,6 +176,7 @@ pub record IsCutBack (i j m : ℕ) (kept ended : Ring) : Type 0 where
   pub two : AreTwoPlaces (length kept - m) 0 (joined i j m kept ended)
   pub left : left_ring (length kept - m) 0 (slice_range (turned i kept) 1 m) (joined i j m kept ended) ≡ turned i kept
   pub right : right_ring (length kept - m) 0 (slice_range (turned i kept) 1 m) (joined i j m kept ended) ≡ turned j ended
+  pub chain : chain_across (length kept - m) 0 (slice_range (turned i kept) 1 m) (joined i j m kept ended) ≡ chain_from i m kept
 
 pub cut-joined : (i j m : ℕ) (kept ended : Ring) → HaveChainInCommon i j m kept ended → IsCutBack i j m kept ended
 cut-joined i j m kept ended common =
@@ -204,4 +205,5 @@ cut-joined i j m kept ended common =
       two = record { first = omega arith; second = omega arith; apart = λ e. absurd (omega arith) };
       left = (λ k. c_at k ∷ inner_is k ++ to_p k) ∙ sym h.from_c;
       right = (λ k. d_at k ∷ reverse (inner_is k) ++ from_p k) ∙ sym h.from_d;
+      chain = (λ k. c_at k ∷ inner_is k ++ d_at k ∷ []) ∙ sym h.chain;
     }

@@ -87,19 +87,23 @@ without-put_on s p (a ∷ points) h = taken_back s p a points a h
 
 -- ---- The sides
 
--- how the points n, ys end: w is the last of them
-record EndsWith (n : ℕ) (ys : List ℕ) : Type 0 where
-  last : ℕ
-  sides : List Side
-  sides_to : (z : ℕ) → sides_along n ys z ≡ sides ++ (last, z) ∷ []
-  corners : (u : ℕ) (v v' : ℕ) → (cs : List Corner) × (corners_along u n (ys ++ v ∷ v' ∷ []) ≡ cs ++ record { before = last; at = v; after = v' } ∷ [])
+-- how the points n, ys end
+pub record EndsWith (n : ℕ) (ys : List ℕ) : Type 0 where
+  pub last : ℕ
+  pub points : List ℕ
+  pub is : n ∷ ys ≡ points ++ last ∷ []
+  pub sides : List Side
+  pub sides_to : (z : ℕ) → sides_along n ys z ≡ sides ++ (last, z) ∷ []
+  pub corners : (u : ℕ) (v v' : ℕ) → (cs : List Corner) × (corners_along u n (ys ++ v ∷ v' ∷ []) ≡ cs ++ record { before = last; at = v; after = v' } ∷ [])
 
-ends_with : (n : ℕ) (ys : List ℕ) → EndsWith n ys
-ends_with n [] = record { last = n; sides = []; sides_to = λ z. refl; corners = λ u v v'. (record { before = u; at = n; after = v } ∷ [], refl) }
+pub ends_with : (n : ℕ) (ys : List ℕ) → EndsWith n ys
+ends_with n [] = record { last = n; points = []; is = refl; sides = []; sides_to = λ z. refl; corners = λ u v v'. (record { before = u; at = n; after = v } ∷ [], refl) }
 ends_with n (y ∷ ys) =
     let h = ends_with y ys in
     record {
       last = h.last;
+      points = n ∷ h.points;
+      is = ap (λ (l : List ℕ). n ∷ l) h.is;
       sides = (n, y) ∷ h.sides;
       sides_to = λ z. ap (λ (l : List Side). (n, y) ∷ l) (h.sides_to z);
       corners = λ u v v'. let k = h.corners n v v' in (record { before = u; at = n; after = y } ∷ k.0, ap (λ (l : List Corner). record { before = u; at = n; after = y } ∷ l) k.1);
@@ -110,11 +114,13 @@ last_same xs ys a b h =
     let e : a ∷ reverse xs ≡ b ∷ reverse ys = sym (reverse-append xs (a ∷ [])) ∙ ap reverse h ∙ reverse-append ys (b ∷ []) in cc
 
 -- the ring from a corner's point on
-record FromCorner (ring : Ring) (c : Corner) : Type 0 where
-  rest : List ℕ
-  sides : List Side
-  same : IsSameRing ring (c.at ∷ c.after ∷ rest)
-  sides_to : (z : ℕ) → sides_along c.after rest z ≡ sides ++ (c.before, z) ∷ []
+pub record FromCorner (ring : Ring) (c : Corner) : Type 0 where
+  pub rest : List ℕ
+  pub points : List ℕ
+  pub is : c.after ∷ rest ≡ points ++ c.before ∷ []
+  pub sides : List Side
+  pub same : IsSameRing ring (c.at ∷ c.after ∷ rest)
+  pub sides_to : (z : ℕ) → sides_along c.after rest z ≡ sides ++ (c.before, z) ∷ []
 
 from_last : (ring : Ring) (c : Corner) (r : Ring) (cs : List Corner) → IsSameRing ring r → corners_of r ≡ cs ++ c ∷ [] → FromCorner ring c
 from_last ring c [] [] h e = cc
@@ -125,9 +131,9 @@ from_last ring c (v ∷ n ∷ ys) cs h e =
     let w = ends_with n ys in
     let k = w.corners v v n in
     let it : record { before = w.last; at = v; after = n } ≡ c = last_same k.0 cs (record { before = w.last; at = v; after = n }) c (sym k.1 ∙ e) in
-    subst (FromCorner ring) it (record { rest = ys; sides = w.sides; same = h; sides_to = w.sides_to })
+    subst (FromCorner ring) it (record { rest = ys; points = w.points; is = w.is; sides = w.sides; same = h; sides_to = w.sides_to })
 
-from_corner : (ring : Ring) (c : Corner) → Contains (corners_of ring) c → FromCorner ring c
+pub from_corner : (ring : Ring) (c : Corner) → Contains (corners_of ring) c → FromCorner ring c
 from_corner ring c (k, within, is) =
     let C = corners_of ring in
     let e : corners_of (turned (suc k) ring) ≡ (drop (suc k) C ++ take k C) ++ c ∷ [] =
@@ -141,6 +147,13 @@ ends_exchanged x y m sides =
     (IsPermutation-to_front (x ∷ m ∷ sides) y)
     (IsPermutation-cons y (x ∷ m ∷ sides) (m ∷ (sides ++ x ∷ [])) (IsPermutation-sym (m ∷ (sides ++ x ∷ [])) (x ∷ m ∷ sides) (IsPermutation-to_front (m ∷ sides) x)))
 
+-- without the corner's point the ring is the rest of it
+pub without-rest : (ring : Ring) (c : Corner) (h : FromCorner ring c) → times_through c.at ring ≡ 1 → IsSameRing (c.after ∷ h.rest) (without c.at ring)
+without-rest ring c h once =
+    let T = c.at ∷ c.after ∷ h.rest in
+    let once_T : times_through c.at T ≡ 1 = times_through-same c.at ring T h.same ∙ once in
+    subst (λ (l : List ℕ). IsSameRing l (without c.at ring)) (without-here c.at (c.after ∷ h.rest) once_T) (without-same c.at T ring (IsSameRing-sym ring T h.same))
+
 -- at a corner whose point the ring passes once the two sides give way to one
 pub sides_of-without : (ring : Ring) (c : Corner) → Contains (corners_of ring) c → times_through c.at ring ≡ 1
     → IsPermutation ((c.before, c.after) ∷ sides_of ring) ((c.before, c.at) ∷ (c.at, c.after) ∷ sides_of (without c.at ring))
@@ -148,9 +161,7 @@ sides_of-without ring c there once =
     let h = from_corner ring c there in
     let T = c.at ∷ c.after ∷ h.rest in
     let rest = c.after ∷ h.rest in
-    let once_T : times_through c.at T ≡ 1 = times_through-same c.at ring T h.same ∙ once in
-    let left : without c.at T ≡ rest = without-here c.at rest once_T in
-    let same : IsSameRing rest (without c.at ring) = subst (λ (l : List ℕ). IsSameRing l (without c.at ring)) left (without-same c.at T ring (IsSameRing-sym ring T h.same)) in
+    let same : IsSameRing rest (without c.at ring) = without-rest ring c h once in
     let x : Side = (c.before, c.after) in
     let y : Side = (c.before, c.at) in
     let m : Side = (c.at, c.after) in
@@ -187,6 +198,12 @@ put_last s p sides h =
     flat_map-append G sides (s ∷ []) ∙ (λ i. nothing_put s p sides none i ++ ((if is_itself s i then s.0 ∷ p ∷ [] else s.0 ∷ []) ++ []))
     ∙ sym (append_assoc (flat_map H sides) (s.0 ∷ []) (p ∷ [])) ∙ ap (λ (l : List ℕ). l ++ p ∷ []) (sym (flat_map-append H sides (s ∷ [])))
 
+-- the point put on the last side
+pub put_at_end : (s : Side) (p n : ℕ) (ys : List ℕ) (sides : List Side) → sides_of (n ∷ ys) ≡ sides ++ s ∷ [] → times_along s (n ∷ ys) ≡ 1 → put_on s p (n ∷ ys) ≡ n ∷ ys ++ p ∷ []
+put_at_end s p n ys sides e once =
+    ap (flat_map (point_or_two s p)) e ∙ put_last s p sides (ap (count_by (is_side s)) (sym e) ∙ once)
+    ∙ ap (λ (l : List Side). flat_map (λ t. t.0 ∷ []) l ++ p ∷ []) (sym e) ∙ ap (λ (l : List ℕ). l ++ p ∷ []) (starts n ys n)
+
 -- the point put on the one side again, where the ring has no other such side
 pub put_on-without : (ring : Ring) (c : Corner) → Contains (corners_of ring) c → times_through c.at ring ≡ 1 → times_along (c.before, c.after) (without c.at ring) ≡ 1
     → IsSameRing ring (put_on (c.before, c.after) c.at (without c.at ring))
@@ -195,15 +212,10 @@ put_on-without ring c there once one_side =
     let s : Side = (c.before, c.after) in
     let T = c.at ∷ c.after ∷ h.rest in
     let rest = c.after ∷ h.rest in
-    let once_T : times_through c.at T ≡ 1 = times_through-same c.at ring T h.same ∙ once in
-    let left : without c.at T ≡ rest = without-here c.at rest once_T in
-    let same : IsSameRing rest (without c.at ring) = subst (λ (l : List ℕ). IsSameRing l (without c.at ring)) left (without-same c.at T ring (IsSameRing-sym ring T h.same)) in
-    let sides_are : sides_of rest ≡ h.sides ++ s ∷ [] = h.sides_to c.after in
+    let same : IsSameRing rest (without c.at ring) = without-rest ring c h once in
     let count_e : times_along s (without c.at ring) ≡ times_along s rest =
     sum_by-IsPermutation (λ (t : Side). cond (is_side s t) 1 0) (sides_of rest) (sides_of (without c.at ring)) (sides_of-same rest (without c.at ring) same) in
-    let put_e : put_on s c.at rest ≡ rest ++ c.at ∷ [] =
-    ap (flat_map (point_or_two s c.at)) sides_are ∙ put_last s c.at h.sides (ap (count_by (is_side s)) (sym sides_are) ∙ sym count_e ∙ one_side)
-    ∙ ap (λ (l : List Side). flat_map (λ t. t.0 ∷ []) l ++ c.at ∷ []) (sym sides_are) ∙ ap (λ (l : List ℕ). l ++ c.at ∷ []) (starts c.after h.rest c.after) in
+    let put_e : put_on s c.at rest ≡ rest ++ c.at ∷ [] = put_at_end s c.at c.after h.rest h.sides (h.sides_to c.after) (sym count_e ∙ one_side) in
     IsSameRing-trans ring T (put_on s c.at (without c.at ring)) h.same
     (IsSameRing-trans T (rest ++ c.at ∷ []) (put_on s c.at (without c.at ring)) (IsSameRing-append (c.at ∷ []) rest)
     (subst (λ (l : List ℕ). IsSameRing l (put_on s c.at (without c.at ring))) put_e (put_on-same s c.at rest (without c.at ring) same)))

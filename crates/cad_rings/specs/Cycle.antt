@@ -1,5 +1,5 @@
 -- A ring is a cyclic list of point numbers, written from any of its points on.
-use Rattle.std.specs.Prelude.{◌≡◌, ℕ, ◌≤◌, min, Bool, ◌&&◌, ◌==◌, List, [], ◌∷◌, ◌++◌, take, drop, length, map, fold, count_by}
+use Rattle.std.specs.Prelude.{◌≡◌, ℕ, ◌≤◌, min, Bool, ◌&&◌, ◌==◌, List, [], ◌∷◌, ◌++◌, take, drop, length, map, fold, count_by, reverse, slice_index}
 use Rattle.std.specs.List.{list_any}
 use Rattle.geo_exact.specs.Position.{Position}
 use Rattle.geo_exact.specs.Measure.{Measure, sum_over}
@@ -73,6 +73,10 @@ corners_of (a ∷ b ∷ points) = corners_along a b (points ++ a ∷ b ∷ [])
 -- the ring from its place i on
 abbrev pub turned : ℕ → Ring → Ring
 turned i ring = drop i ring ++ take i ring
+
+-- the corner at place i of a ring of two points or more
+abbrev pub corner_at : ℕ → Ring → Corner
+corner_at i ring = record { before = slice_index (reverse (turned i ring)) 0; at = slice_index ring i; after = slice_index (turned i ring) 1 }
 
 -- the same cyclic list
 pub record IsSameRing (old new : Ring) : Type 0 where

@@ -1,6 +1,6 @@
 -- Cutting a ring by a chain, joining two rings along one, and points put in and taken out.
 use Rattle.std.specs.Prelude.{◌≡◌, ◌≢◌, ℕ, ◌+◌, ◌<◌, not, ◌==◌, nat_lt, List, [], ◌∷◌, ◌++◌, length, take, drop, reverse, filter, slice_range, slice_index, flat_map, if◌then◌else◌}
-use Rattle.cad_rings.specs.Cycle.{Ring, Side, is_side, opposite, sides_of, turned}
+use Rattle.cad_rings.specs.Cycle.{Ring, Side, is_side, opposite, sides_of, Corner, corner_back, corners_along, turned}
 
 -- the ring in the other direction
 abbrev pub reversed : Ring → Ring
@@ -15,6 +15,16 @@ sides_of_chain (a ∷ b ∷ points) = (a, b) ∷ sides_of_chain (b ∷ points)
 -- each side, and its opposite
 abbrev pub both_ways : List Side → List Side
 both_ways sides = flat_map (λ s. s ∷ opposite s ∷ []) sides
+
+-- the corners of a chain, at the points between its first and its last
+abbrev pub corners_of_chain : List ℕ → List Corner
+corners_of_chain [] = []
+corners_of_chain (a ∷ []) = []
+corners_of_chain (a ∷ b ∷ points) = corners_along a b points
+
+-- each corner, and the same one back
+abbrev pub corners_both_ways : List Corner → List Corner
+corners_both_ways corners = flat_map (λ c. c ∷ corner_back c ∷ []) corners
 
 -- ---- Cut by a chain
 
@@ -31,6 +41,10 @@ pub record AreTwoPlaces (i j : ℕ) (ring : Ring) : Type 0 where
   pub first : i < length ring
   pub second : j < length ring
   pub apart : i ≢ j
+
+-- the two corners that a side from a corner's point to w makes of the corner
+abbrev pub parted_by : ℕ → Corner → List Corner
+parted_by w c = record { before = c.before; at = c.at; after = w } ∷ record { before = w; at = c.at; after = c.after } ∷ []
 
 -- what is left of that chain: the chain, and the ring from the chain's end back to its beginning
 abbrev pub left_ring : ℕ → ℕ → List ℕ → Ring → Ring

@@ -97,17 +97,17 @@ module _ (small big : Rows) (s : ℕ) (linked : IsLinked big)
             | inr t ↦ all-off h xs e c q t
           ]
 
-  adds : AddsCycle (forward_of s) (backward_of s) small big
+  adds : AddsCycle s small big
   adds =
       let same : nat_eq s s ≡ true = (Decides-eqb s s).1 refl in
       record {
+        fresh = sym (has-string small (forward_of s)) ∙ gone (forward_of s) same;
         added = two-there (forward_of s) same;
-        fresh = (gone (forward_of s) same, gone (backward_of s) same);
         kept = kept;
         only = only;
       }
 
-pub added-cycle : (old new : Rows) (s from to : ℕ) → IsLinked new → has_string old s ≡ false → AddsLoose s from to old new → AddsCycle (forward_of s) (backward_of s) old new
+pub added-cycle : (old new : Rows) (s from to : ℕ) → IsLinked new → has_string old s ≡ false → AddsLoose s from to old new → AddsCycle s old new
 added-cycle old new s from to linked fresh a =
     adds old new s linked
     (λ g e. a.next g ∙ ap (λ b. if b then twin g else next old g) e)
@@ -116,7 +116,7 @@ added-cycle old new s from to linked fresh a =
     (λ g e. a.has g ∙ ap (λ b. if b then true else has old g) e)
     (λ g e. has-string old g ∙ ap (has_string old) ((Decides-eqb g.string s).0 e) ∙ fresh)
 
-pub removed-cycle : (old new : Rows) (s : ℕ) → IsLinked old → IsLoose s old → RemovesLoose s old new → RemovesCycle (forward_of s) (backward_of s) old new
+pub removed-cycle : (old new : Rows) (s : ℕ) → IsLinked old → IsLoose s old → RemovesLoose s old new → RemovesCycle s old new
 removed-cycle old new s linked loose r =
     adds new old s linked
     (λ g e. sym (r.next g ∙ ap (λ b. if b then g else next old g) e))

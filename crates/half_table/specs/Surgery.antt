@@ -76,16 +76,16 @@ pub record RemovesLoose (s : ℕ) (old new : Rows) : Type 0 where
   pub origin : (g : Half) → origin new g ≡ (if nat_eq g.string s then 0 else origin old g)
   pub face : (g : Half) → face new g ≡ (if nat_eq g.string s then Outside else face old g)
 
--- the new table has a cycle of a and b that the old one has not, and otherwise both have the same cycles
-pub record AddsCycle (a b : Half) (old new : Rows) : Type 0 where
-  pub added : HasCycle new (a ∷ b ∷ [])
-  pub fresh : (has old a ≡ false) × (has old b ≡ false)
+-- the two halves of a string, that were not there, are a cycle, and otherwise both tables have the same cycles
+pub record AddsCycle (s : ℕ) (old new : Rows) : Type 0 where
+  pub fresh : has_string old s ≡ false
+  pub added : HasCycle new (forward_of s ∷ backward_of s ∷ [])
   pub kept : (ring : List Half) → HasCycle old ring → HasCycle new ring
-  pub only : (ring : List Half) → HasCycle new ring → HasCycle old ring ⊎ ((ring ≡ a ∷ b ∷ []) ⊎ (ring ≡ b ∷ a ∷ []))
+  pub only : (ring : List Half) → HasCycle new ring → HasCycle old ring ⊎ ((ring ≡ forward_of s ∷ backward_of s ∷ []) ⊎ (ring ≡ backward_of s ∷ forward_of s ∷ []))
 
--- the old table has a cycle of a and b that the new one has not, and otherwise both have the same cycles
-abbrev pub RemovesCycle : (a b : Half) → (old new : Rows) → Type 0
-RemovesCycle a b old new = AddsCycle a b new old
+-- the two halves of a string, that are there no more, were a cycle, and otherwise both tables have the same cycles
+abbrev pub RemovesCycle : (s : ℕ) → (old new : Rows) → Type 0
+RemovesCycle s old new = AddsCycle s new old
 
 -- the links of a half that follows h and that h follows
 abbrev pub links_to : Half → ℕ → Face → Links

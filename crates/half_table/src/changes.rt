@@ -1,8 +1,7 @@
 //! Surgery on the rows of a table.
-ghost use Rattle.std.specs.Prelude.{◌≡◌, ◌≤◌, true, false, None, length, nat_eq, OnOk, OnErr};
-ghost use Rattle.std.specs.Map.{lookup};
+ghost use Rattle.std.specs.Prelude.{◌≡◌, ◌≤◌, true, false, length, OnOk, OnErr};
 ghost use Rattle.half_table.specs.Count.{ticked};
-ghost use Rattle.half_table.specs.Half.{half_of, forward_of, backward_of};
+ghost use Rattle.half_table.specs.Half.{half_of};
 ghost use Rattle.half_table.specs.Rows.{has_string, has, cycle, IsLinked};
 ghost use Rattle.half_table.specs.Surgery.{IsUnchanged, IsSpliced, SplicesBack, SplicesCycles, Relabels, AddsLoose, AddsCycle, IsLoose, links_to, RemovesLoose, RemovesCycle};
 
@@ -60,7 +59,7 @@ pub(crate) fn put_loose(
     requires fresh { has_string rows.old.entries string.now ≡ false }
     requires linked { IsLinked rows.old.entries }
     ensures adds { OnOk result (AddsLoose string.now from.now to.now rows.old.entries rows.new.entries) }
-    ensures cycle { OnOk result (AddsCycle (forward_of string.now) (backward_of string.now) rows.old.entries rows.new.entries) }
+    ensures cycle { OnOk result (AddsCycle string.now rows.old.entries rows.new.entries) }
     ensures linked { IsLinked rows.new.entries }
     ensures err { OnErr result (rows.new.entries ≡ rows.old.entries) }
 {
@@ -94,7 +93,7 @@ pub(crate) fn take_loose(rows: &mut Rows, string: &StringNo)
     requires loose { IsLoose string.now rows.old.entries }
     requires linked { IsLinked rows.old.entries }
     ensures removes { RemovesLoose string.now rows.old.entries rows.new.entries }
-    ensures cycle { RemovesCycle (forward_of string.now) (backward_of string.now) rows.old.entries rows.new.entries }
+    ensures cycle { RemovesCycle string.now rows.old.entries rows.new.entries }
     ensures linked { IsLinked rows.new.entries }
 {
     rows.swap_remove(string);

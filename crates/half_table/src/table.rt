@@ -1,7 +1,7 @@
 //! The table of half-edges.
 ghost use Rattle.std.specs.Prelude.{◌≡◌, ◌≤◌, Bool, [], ◌∷◌, true, false, List, Some, length, OnOk, OnErr};
 ghost use Rattle.half_table.specs.Count.{one_more, ticked};
-ghost use Rattle.half_table.specs.Half.{half_of, twin, forward_of, backward_of};
+ghost use Rattle.half_table.specs.Half.{half_of, twin};
 ghost use Rattle.half_table.specs.Rows.{has_string, links_of, has, next, prev, origin, face, IsLinked, cycle, HasCycle};
 ghost use Rattle.half_table.specs.Surgery.{IsUnchanged, IsSpliced, SplicesBack, SplicesCycles, Relabels, AddsLoose, AddsCycle, IsLoose, RemovesLoose, RemovesCycle};
 
@@ -16,7 +16,9 @@ use indexmap::IndexMap;
 use std::alloc::Global;
 use std::marker::Model;
 
-/// A doubly connected edge list: for each string the records of its two half-edges. A tally counts the work on it.
+/// A doubly connected edge list: for each string the records of its two half-edges, with origin,
+/// next, prev and incident face. The twin of a half-edge is the other one of its string. A tally
+/// counts the work on the table.
 #[derive(Drop)]
 pub struct HalfTable<T: Tally> {
     rows: Rows,
@@ -119,11 +121,12 @@ impl<T: Tally> HalfTable<T> {
         self.tally.tick();
     }
 
-    /// A new string from one point to another: each of its halves is the other's next and prev, and its face is the outside.
+    /// A new string from one point to another: each of its halves is the other's next and prev,
+    /// and its face is the outside. Where memory runs out the table and its tally stay as they were.
     pub fn add_loose(&mut self, string: StringNo, from: PointNo, to: PointNo) -> Result<(), Memory>
         requires { has_string self.old.rows string ≡ false }
         ensures adds { OnOk result (AddsLoose string from to self.old.rows self.new.rows) }
-        ensures cycle { OnOk result (AddsCycle (forward_of string) (backward_of string) self.old.rows self.new.rows) }
+        ensures cycle { OnOk result (AddsCycle string self.old.rows self.new.rows) }
         ensures linked { IsLinked self.new.rows }
         ensures work { OnOk result (self.new.work ≡ one_more self.old.work) }
         ensures grows { self.old.work ≤ self.new.work }
@@ -138,7 +141,7 @@ impl<T: Tally> HalfTable<T> {
     pub fn remove_loose(&mut self, string: StringNo)
         requires { IsLoose string self.old.rows }
         ensures removes { RemovesLoose string self.old.rows self.new.rows }
-        ensures cycle { RemovesCycle (forward_of string) (backward_of string) self.old.rows self.new.rows }
+        ensures cycle { RemovesCycle string self.old.rows self.new.rows }
         ensures linked { IsLinked self.new.rows }
         ensures work { self.new.work ≡ one_more self.old.work }
         ensures grows { self.old.work ≤ self.new.work }
@@ -147,7 +150,8 @@ impl<T: Tally> HalfTable<T> {
         self.tick();
     }
 
-    /// The nexts of a and b change places, and the prevs of what followed them.
+    /// The nexts of a and b change places, and the prevs of what followed them: one cycle through
+    /// both is parted, and two are joined.
     pub fn splice(&mut self, a: Half, b: Half)
         requires a_in { has self.old.rows a ≡ true }
         requires b_in { has self.old.rows b ≡ true }
@@ -182,7 +186,8 @@ impl<T: Tally> HalfTable<T> {
         requires { has self.now.rows h ≡ true }
         ensures halves { result ≡ cycle self.now.rows h }
         ensures cycle { HasCycle self.now.rows (cycle self.now.rows h) }
-        ensures only { (halves : List Half) → HasCycle self.now.rows (h ∷ halves) → cycle self.now.rows h ≡ h ∷ halves }
+        ensures only { (halves : List Half) → HasCycle self.now.rows (h ∷ halves)
+            → cycle self.now.rows h ≡ h ∷ halves }
         ensures linked { IsLinked self.now.rows }
     {
         walk_rows(&self.rows, &h)

@@ -31,7 +31,8 @@ impl<'a> Model for Walk<'a> {
 /// The half after `at`, if the cycle goes on.
 fn half_after(rows: &Rows, start: &Half, at: &Half) -> Option<Half>
     requires { IsWalking rows.now.entries start.now (Some at.now) }
-    ensures ahead { halves_ahead rows.now.entries start.now (Some at.now) ≡ at.now ∷ halves_ahead rows.now.entries start.now result }
+    ensures ahead { halves_ahead rows.now.entries start.now (Some at.now)
+        ≡ at.now ∷ halves_ahead rows.now.entries start.now result }
     ensures walking { IsWalking rows.now.entries start.now result }
 {
     let after = next_half(rows, at);
