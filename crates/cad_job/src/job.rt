@@ -15,7 +15,10 @@ ghost use Rattle.cad_job.specs.Jobs.{IsAnswered, DoesScript, DoesJob, job_fault}
 
 use crate::faults::JobFault;
 use cad_edit::PlainStore;
-use cad_files::{InputFault, Line, LineFault, PlanFault, Sink, answer_text, build, next_row, plan_text, read_line, read_plan, syntax_text, write_all};
+use cad_files::{
+    InputFault, Line, LineFault, PlanFault, Sink, answer_text, build, next_row, plan_text,
+    read_line, read_plan, syntax_text, write_all,
+};
 use cad_history::{Answer, Command, Depth, Editor, step};
 use cad_map::{MapStore, MapView};
 use cad_rows::{Memory, Refusal};

@@ -31,8 +31,6 @@ module _ {R : Type 0} (number : R → ℕ) where
 
   -- ---- No later row has the number of the one that is changed
 
-
-
   with_row-others : (n : ℕ) (new : R) (es : List (ℕ × R)) → n ≡ number new → AreNumbered number es → AllByRecursion (λ k. nat_eq n k ≡ false) (keys_of es) → values_of es ≡ with_row number new (values_of es)
   with_row-others n new [] same h other = refl
   with_row-others n new (e ∷ es) same h other =

@@ -115,8 +115,12 @@ AreNumbers-push numbers n are is others = record { in_range = All-push IsNumber 
 -- the sources of an item are known among more sources too
 AreSources-push : (rows : List SourceRow) (row : SourceRow) (sources : List ℕ) → AreSources rows sources → AreSources (rows ++ row ∷ []) sources
 AreSources-push rows row sources are =
-    record { distinct = are.distinct; few = are.few; known = All-follows (λ s. IsTrue (is_some (row_with (λ (r : SourceRow). r.number) s rows))) (λ s. IsTrue (is_some (row_with (λ (r : SourceRow). r.number) s (rows ++ row ∷ []))))
-        (λ s found. found-push (λ (r : SourceRow). r.number) s rows row found) sources are.known }
+    record {
+      distinct = are.distinct;
+      few = are.few;
+      known = All-follows (λ s. IsTrue (is_some (row_with (λ (r : SourceRow). r.number) s rows))) (λ s. IsTrue (is_some (row_with (λ (r : SourceRow). r.number) s (rows ++ row ∷ []))))
+          (λ s found. found-push (λ (r : SourceRow). r.number) s rows row found) sources are.known;
+    }
 
 length-push : {X : Type 0} (xs : List X) (x : X) → length (xs ++ x ∷ []) ≡ length xs + 1
 length-push [] x = refl
@@ -129,9 +133,10 @@ others-attached s (t ∷ sources) h = by (λ rest. others-attached s sources res
   where
     by : (list_any (λ t. t == s) sources ≡ false → AllByRecursion (λ t. t ≢ s) sources) → (b : Bool) → nat_eq t s ≡ b → AllByRecursion (λ t. t ≢ s) (t ∷ sources)
     by again true is = absurd (true≢false (sym (ap (λ (b : Bool). b || list_any (λ t. t == s) sources) is) ∙ h))
-    by again false is =
-        ( (λ same. true≢false (sym (ap (λ (k : ℕ). nat_eq k s) same ∙ nat_eq_equiv.refl s) ∙ is))
-        , again (sym (ap (λ (b : Bool). b || list_any (λ t. t == s) sources) is) ∙ h))
+    by again false is = (
+      (λ same. true≢false (sym (ap (λ (k : ℕ). nat_eq k s) same ∙ nat_eq_equiv.refl s) ∙ is)),
+      again (sym (ap (λ (b : Bool). b || list_any (λ t. t == s) sources) is) ∙ h),
+    )
 
 -- a fact of each row is one of the row that is found
 All-found : {R : Type 0} (number : R → ℕ) (P : R → Type 0) (n : ℕ) (rows : List R) (row : R) → AllByRecursion P rows → row_with number n rows ≡ Some row → P row
@@ -219,8 +224,8 @@ kept-attach m p s v free = by (point_of m p) refl
         let new = rw at at (not-when _ _ free.already_attached) in
         let few = rw at at (not-when _ _ free.full) in
         rw is (kept-row m (record r { sources = r.sources ++ s ∷ [] }) v
-          (All-found (λ (q : PointRow). q.number) (λ (q : PointRow). OnTheMap q.position) p m.points r v.positions is)
-          (AreSources-attach m.sources r.sources s (All-found (λ (q : PointRow). q.number) (λ (q : PointRow). AreSources m.sources q.sources) p m.points r v.point_sources is) there new few))
+        (All-found (λ (q : PointRow). q.number) (λ (q : PointRow). OnTheMap q.position) p m.points r v.positions is)
+        (AreSources-attach m.sources r.sources s (All-found (λ (q : PointRow). q.number) (λ (q : PointRow). AreSources m.sources q.sources) p m.points r v.point_sources is) there new few))
 
 -- An edit that is not refused at once keeps what every map has to have.
 pub kept : (m : Map) (e : Edit) → IsValid m → GivesInRange e → first_refusal m e ≡ None → IsSound (after m e)

@@ -63,9 +63,10 @@ module _ {R : Type 0} (number : R → ℕ) where
     where
       by : (row_with number n rows ≡ None → AllByRecursion (λ k. k ≢ n) (map number rows)) → (b : Bool) → nat_eq (number r) n ≡ b → AllByRecursion (λ k. k ≢ n) (map number (r ∷ rows))
       by again true is = let here : Some r ≡ None = sym (ap (λ (b : Bool). cond b (Some r) (row_with number n rows)) is) ∙ none in cc
-      by again false is =
-          ( (λ same. true≢false (sym (ap (λ (k : ℕ). nat_eq k n) same ∙ nat_eq_equiv.refl n) ∙ is))
-          , again (sym (ap (λ (b : Bool). cond b (Some r) (row_with number n rows)) is) ∙ none))
+      by again false is = (
+        (λ same. true≢false (sym (ap (λ (k : ℕ). nat_eq k n) same ∙ nat_eq_equiv.refl n) ∙ is)),
+        again (sym (ap (λ (b : Bool). cond b (Some r) (row_with number n rows)) is) ∙ none),
+      )
 
   -- a row that is found is found among more rows too
   pub found-push : (n : ℕ) (rows : List R) (row : R) → IsTrue (is_some (row_with number n rows)) → IsTrue (is_some (row_with number n (rows ++ row ∷ [])))

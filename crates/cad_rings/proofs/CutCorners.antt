@@ -4,7 +4,7 @@ use Rattle.std.proofs.lemmas.List.{append-nil, reverse-append}
 use Rattle.std.proofs.lemmas.List.Sorted.{IsPermutation-trans, IsPermutation-sym, IsPermutation-refl, IsPermutation-append, IsPermutation-append_left, IsPermutation-append_right, IsPermutation-reverse}
 use Rattle.std.specs.Prelude.{IsPermutation, slice_index, slice_range}
 use Rattle.cad_rings.specs.Cycle.{Ring, Corner, corner_back, corners_along, corners_of, corner_at, turned}
-use Rattle.cad_rings.specs.Surgery.{left_ring, right_ring, chain_across, AreTwoPlaces, corners_of_chain, corners_both_ways, parted_by, chain_from, HaveChainInCommon, joined}
+use Rattle.cad_rings.specs.Surgery.{corner, left_ring, right_ring, chain_across, AreTwoPlaces, corners_of_chain, corners_both_ways, parted_by, chain_from, HaveChainInCommon, joined}
 use Rattle.cad_rings.proofs.Permuted.{permuted_as, laid, shuffled, corners_both_ways-apart}
 use Rattle.cad_rings.proofs.Corners.{corners_of_chain-reverse, corners_of-same}
 use Rattle.cad_rings.proofs.Turned.{IsSameRing-turned}
@@ -20,9 +20,6 @@ last_of a (x ∷ xs) = last_of x xs
 abbrev pub first_of : List ℕ → ℕ → ℕ
 first_of [] b = b
 first_of (x ∷ xs) b = x
-
-abbrev pub corner : ℕ → ℕ → ℕ → Corner
-corner p v n = record { before = p; at = v; after = n }
 
 -- the corners of a chain between a and b
 abbrev pub between : ℕ → List ℕ → ℕ → List Corner

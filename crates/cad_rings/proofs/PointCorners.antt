@@ -5,22 +5,16 @@ use Rattle.std.proofs.lemmas.List.{append-nil, length-append, reverse-append}
 use Rattle.std.proofs.lemmas.List.Sorted.{IsPermutation-trans, IsPermutation-sym, IsPermutation-append_right, sum_by-IsPermutation}
 use Rattle.std.specs.Prelude.{IsPermutation, count_by, Contains}
 use Rattle.cad_rings.specs.Cycle.{Ring, Side, is_side, sides_of, sides_along, Corner, corners_of, turned, IsSameRing, times_along, times_through}
-use Rattle.cad_rings.specs.Surgery.{corners_of_chain, put_on, without}
+use Rattle.cad_rings.specs.Surgery.{corner, corners_of_chain, put_on, without, StandsBetween}
 use Rattle.cad_rings.proofs.Permuted.{permuted_as, laid, shuffled}
 use Rattle.cad_rings.proofs.Sides.{sides_of-turned, sides_of-same}
 use Rattle.cad_rings.proofs.Corners.{corners_of-same}
-use Rattle.cad_rings.proofs.CutCorners.{corner, last_of, first_of, corners_of-parts}
+use Rattle.cad_rings.proofs.CutCorners.{last_of, first_of, corners_of-parts}
 use Rattle.cad_rings.proofs.Turned.{IsSameRing-append, IsSameRing-turned, IsSameRing-sym, IsSameRing-trans, IsSameRing-length}
 use Rattle.cad_rings.proofs.PutOn.{is_side-same, once_first, put_on-same}
 use Rattle.cad_rings.proofs.Without.{EndsWith, ends_with, FromCorner, from_corner, without-rest, put_at_end}
 
--- With v between w and n, and without it: u comes before w, and x after n.
-pub record AreParted (w v n : ℕ) (with_it without_it : Ring) : Type 0 where
-  pub u : ℕ
-  pub x : ℕ
-  pub is : IsPermutation (corner u w n ∷ corner w n x ∷ corners_of with_it) (corner u w v ∷ corner w v n ∷ corner v n x ∷ corners_of without_it)
-
-in_a_row : (n : ℕ) (zs : List ℕ) (w v : ℕ) → AreParted w v n (n ∷ zs ++ w ∷ v ∷ []) (n ∷ zs ++ w ∷ [])
+in_a_row : (n : ℕ) (zs : List ℕ) (w v : ℕ) → StandsBetween w v n (n ∷ zs ++ w ∷ v ∷ []) (n ∷ zs ++ w ∷ [])
 in_a_row n zs w v =
     let B = corners_of_chain (n ∷ zs ++ w ∷ []) in
     let u = last_of n zs in
@@ -40,7 +34,7 @@ in_a_row n zs w v =
     }
 
 -- wherever the two rings are written from
-elsewhere : (w v n : ℕ) (r s r' s' : Ring) → IsSameRing r r' → IsSameRing s s' → AreParted w v n r s → AreParted w v n r' s'
+elsewhere : (w v n : ℕ) (r s r' s' : Ring) → IsSameRing r r' → IsSameRing s s' → StandsBetween w v n r s → StandsBetween w v n r' s'
 elsewhere w v n r s r' s' hr hs h =
     let a = corner h.u w n ∷ corner w n h.x ∷ [] in
     let b = corner h.u w v ∷ corner w v n ∷ corner v n h.x ∷ [] in
@@ -60,13 +54,13 @@ first_and_last n ys (m ∷ zs) w e long = let k : m ≡ n = cc in (zs, e ∙ ap 
 with_behind : (n : ℕ) (ys zs : List ℕ) (w v : ℕ) → n ∷ ys ≡ n ∷ zs ++ w ∷ [] → n ∷ ys ++ v ∷ [] ≡ n ∷ zs ++ w ∷ v ∷ []
 with_behind n ys zs w v e = ap (λ (l : List ℕ). l ++ v ∷ []) e ∙ append_assoc (n ∷ zs) (w ∷ []) (v ∷ [])
 
-in_a_ring : (n : ℕ) (ys points : List ℕ) (w v : ℕ) → n ∷ ys ≡ points ++ w ∷ [] → 2 ≤ length (n ∷ ys) → AreParted w v n (n ∷ ys ++ v ∷ []) (n ∷ ys)
+in_a_ring : (n : ℕ) (ys points : List ℕ) (w v : ℕ) → n ∷ ys ≡ points ++ w ∷ [] → 2 ≤ length (n ∷ ys) → StandsBetween w v n (n ∷ ys ++ v ∷ []) (n ∷ ys)
 in_a_ring n ys points w v e long =
     let k = first_and_last n ys points w e long in
-    subst (λ (l : List ℕ). AreParted w v n l (n ∷ ys)) (sym (with_behind n ys k.0 w v k.1)) (subst (λ (l : List ℕ). AreParted w v n (n ∷ k.0 ++ w ∷ v ∷ []) l) (sym k.1) (in_a_row n k.0 w v))
+    subst (λ (l : List ℕ). StandsBetween w v n l (n ∷ ys)) (sym (with_behind n ys k.0 w v k.1)) (subst (λ (l : List ℕ). StandsBetween w v n (n ∷ k.0 ++ w ∷ v ∷ []) l) (sym k.1) (in_a_row n k.0 w v))
 
 -- a corner whose point is dropped goes, and its neighbours see each other
-pub corners_of-without : (ring : Ring) (c : Corner) → Contains (corners_of ring) c → times_through c.at ring ≡ 1 → 3 ≤ length ring → AreParted c.before c.at c.after ring (without c.at ring)
+pub corners_of-without : (ring : Ring) (c : Corner) → Contains (corners_of ring) c → times_through c.at ring ≡ 1 → 3 ≤ length ring → StandsBetween c.before c.at c.after ring (without c.at ring)
 corners_of-without ring c there once long =
     let h = from_corner ring c there in
     let T = c.at ∷ c.after ∷ h.rest in
@@ -124,7 +118,7 @@ from_side ring s once =
     from_last ring s (turned k ring) (h.back ++ h.front) (IsSameRing-turned k ring) e
 
 -- the point that is put on a side makes a corner, and the side's ends see it
-pub corners_of-put_on : (s : Side) (p : ℕ) (ring : Ring) → times_along s ring ≡ 1 → 2 ≤ length ring → AreParted s.0 p s.1 (put_on s p ring) ring
+pub corners_of-put_on : (s : Side) (p : ℕ) (ring : Ring) → times_along s ring ≡ 1 → 2 ≤ length ring → StandsBetween s.0 p s.1 (put_on s p ring) ring
 corners_of-put_on s p ring once long =
     let h = from_side ring s once in
     let T = s.1 ∷ h.rest in

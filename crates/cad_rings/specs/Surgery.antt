@@ -1,6 +1,6 @@
 -- Cutting a ring by a chain, joining two rings along one, and points put in and taken out.
-use Rattle.std.specs.Prelude.{◌≡◌, ◌≢◌, ℕ, ◌+◌, ◌<◌, not, ◌==◌, nat_lt, List, [], ◌∷◌, ◌++◌, length, take, drop, reverse, filter, slice_range, slice_index, flat_map, if◌then◌else◌}
-use Rattle.cad_rings.specs.Cycle.{Ring, Side, is_side, opposite, sides_of, Corner, corner_back, corners_along, turned}
+use Rattle.std.specs.Prelude.{◌≡◌, ◌≢◌, ℕ, ◌+◌, ◌<◌, not, ◌==◌, nat_lt, List, [], ◌∷◌, ◌++◌, length, take, drop, reverse, filter, slice_range, slice_index, flat_map, if◌then◌else◌, IsPermutation}
+use Rattle.cad_rings.specs.Cycle.{Ring, Side, is_side, opposite, sides_of, Corner, corner_back, corners_along, corners_of, turned}
 
 -- the ring in the other direction
 abbrev pub reversed : Ring → Ring
@@ -84,3 +84,13 @@ halves_by side p s = if is_side side s then (s.0, p) ∷ (p, s.1) ∷ [] else s 
 -- the ring without the point
 abbrev pub without : ℕ → Ring → Ring
 without p ring = filter (λ q. not (q == p)) ring
+
+-- the corner at v, between p and n
+abbrev pub corner : ℕ → ℕ → ℕ → Corner
+corner p v n = record { before = p; at = v; after = n }
+
+-- With v between w and n, and without it, the two rings have the same corners else: u comes before w, and x after n.
+pub record StandsBetween (w v n : ℕ) (with_it without_it : Ring) : Type 0 where
+  pub u : ℕ
+  pub x : ℕ
+  pub is : IsPermutation (corner u w n ∷ corner w n x ∷ corners_of with_it) (corner u w v ∷ corner w v n ∷ corner v n x ∷ corners_of without_it)

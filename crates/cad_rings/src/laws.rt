@@ -1,12 +1,12 @@
 //! The laws of rings. Each function does nothing, and its contract holds for all rings, places and measures.
 
-ghost use Rattle.std.specs.Prelude.{◌≡◌, ℕ, ◌+◌, ◌-◌, ◌*◌, ◌≤◌, true, false, ◌++◌, [], ◌∷◌, List, length, take, drop, map, flat_map, ◌+ℤ◌, neg_ℤ, IsPermutation, Contains, slice_range};
+ghost use Rattle.std.specs.Prelude.{◌≡◌, ℕ, ◌+◌, ◌-◌, ◌*◌, ◌≤◌, true, false, ◌++◌, [], ◌∷◌, List, length, take, drop, map, flat_map, ◌+ℤ◌, neg_ℤ, IsPermutation, Contains, slice_range, slice_index, reverse};
 ghost use Rattle.std.specs.List.{AllByRecursion};
 ghost use Rattle.geo_exact.specs.Position.{Position};
 ghost use Rattle.geo_exact.specs.Measure.{Measure, IsOdd};
-ghost use Rattle.cad_rings.specs.Cycle.{Ring, Side, opposite, sides_of, times_along, times_through, Corner, corner_back, corners_of, turned, IsSameRing, anchor_of, ring_sum};
+ghost use Rattle.cad_rings.specs.Cycle.{Ring, Side, opposite, sides_of, times_along, times_through, Corner, corner_back, corners_of, turned, corner_at, IsSameRing, anchor_of, ring_sum};
 ghost use Rattle.cad_rings.specs.Shown.{comes_first, least_rotation};
-ghost use Rattle.cad_rings.specs.Surgery.{reversed, sides_of_chain, both_ways, chain_across, AreTwoPlaces, left_ring, right_ring, chain_from, HaveChainInCommon, joined, put_on, halves_by, without};
+ghost use Rattle.cad_rings.specs.Surgery.{reversed, sides_of_chain, both_ways, corners_of_chain, corners_both_ways, parted_by, chain_across, AreTwoPlaces, left_ring, right_ring, chain_from, HaveChainInCommon, joined, put_on, halves_by, without, StandsBetween};
 
 /// To be the same ring is an equivalence, and each turn of a ring is the same ring.
 pub fn same_ring()
@@ -80,12 +80,21 @@ pub fn reversed_is_opposite()
 {
 }
 
-/// The two rings of a cut have the sides of the ring, and those of the chain both ways. So they add up to it.
+/// The two rings of a cut have the sides of the ring, and those of the chain both ways. So they add up to it. They have
+/// its corners, of which those at the chain's ends are parted in two, and the corners of the chain both ways.
 pub fn cut_adds_up()
     ensures sides {
         (i j : ℕ) (inner : List ℕ) (ring : Ring) → AreTwoPlaces i j ring
         → IsPermutation (sides_of (left_ring i j inner ring) ++ sides_of (right_ring i j inner ring))
             (both_ways (sides_of_chain (chain_across i j inner ring)) ++ sides_of ring)
+    }
+    ensures corners {
+        (i j : ℕ) (inner : List ℕ) (ring : Ring) → AreTwoPlaces i j ring
+        → let chain = chain_across i j inner ring in
+        IsPermutation
+            (corner_at i ring ∷ corner_at j ring ∷ (corners_of (left_ring i j inner ring) ++ corners_of (right_ring i j inner ring)))
+            (parted_by (slice_index chain 1) (corner_at i ring) ++ (parted_by (slice_index (reverse chain) 1) (corner_at j ring)
+            ++ (corners_both_ways (corners_of_chain chain) ++ corners_of ring)))
     }
     ensures sum {
         (f : Measure) → IsOdd f → (position : ℕ → Position) (i j : ℕ) (inner : List ℕ) (ring : Ring) → AreTwoPlaces i j ring
@@ -99,11 +108,21 @@ pub fn cut_adds_up()
 }
 
 /// Two rings with a chain in common have the sides of the ring round both, and those of the chain both ways. So they
-/// add up to it.
+/// add up to it. They have its corners, of which those at the chain's ends are parted in two, and the corners of the
+/// chain both ways.
 pub fn joined_adds_up()
     ensures sides {
         (i j m : ℕ) (kept ended : Ring) → HaveChainInCommon i j m kept ended
         → IsPermutation (sides_of kept ++ sides_of ended) (both_ways (sides_of_chain (chain_from i m kept)) ++ sides_of (joined i j m kept ended))
+    }
+    ensures corners {
+        (i j m : ℕ) (kept ended : Ring) → HaveChainInCommon i j m kept ended
+        → let chain = chain_from i m kept in
+        let ring = joined i j m kept ended in
+        IsPermutation
+            (corner_at (length kept - m) ring ∷ corner_at 0 ring ∷ (corners_of kept ++ corners_of ended))
+            (parted_by (slice_index chain 1) (corner_at (length kept - m) ring) ++ (parted_by (slice_index (reverse chain) 1) (corner_at 0 ring)
+            ++ (corners_both_ways (corners_of_chain chain) ++ corners_of ring)))
     }
     ensures sum {
         (f : Measure) → IsOdd f → (position : ℕ → Position) (i j m : ℕ) (kept ended : Ring) → HaveChainInCommon i j m kept ended
@@ -147,6 +166,7 @@ pub fn put_on_makes_two()
         (s : Side) (p : ℕ) (ring : Ring) → times_along s ring ≡ 1
         → IsPermutation (s ∷ sides_of (put_on s p ring)) ((s.0, p) ∷ (p, s.1) ∷ sides_of ring)
     }
+    ensures corners { (s : Side) (p : ℕ) (ring : Ring) → times_along s ring ≡ 1 → 2 ≤ length ring → StandsBetween s.0 p s.1 (put_on s p ring) ring }
     ensures same { (s : Side) (p : ℕ) (r t : Ring) → IsSameRing r t → IsSameRing (put_on s p r) (put_on s p t) }
     ensures length { (s : Side) (p : ℕ) (ring : Ring) → length (put_on s p ring) ≡ length ring + times_along s ring }
 {
@@ -157,6 +177,10 @@ pub fn without_makes_one()
     ensures sides {
         (ring : Ring) (c : Corner) → Contains (corners_of ring) c → times_through c.at ring ≡ 1
         → IsPermutation ((c.before, c.after) ∷ sides_of ring) ((c.before, c.at) ∷ (c.at, c.after) ∷ sides_of (without c.at ring))
+    }
+    ensures corners {
+        (ring : Ring) (c : Corner) → Contains (corners_of ring) c → times_through c.at ring ≡ 1 → 3 ≤ length ring
+        → StandsBetween c.before c.at c.after ring (without c.at ring)
     }
     ensures same { (p : ℕ) (r s : Ring) → IsSameRing r s → IsSameRing (without p r) (without p s) }
     ensures length { (p : ℕ) (ring : Ring) → length (without p ring) + times_through p ring ≡ length ring }

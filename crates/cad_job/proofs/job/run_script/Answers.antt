@@ -55,7 +55,7 @@ returns-then-turn-eq1000000-clause-does g c = λ text plan rows h opens.
       written,
       Appends-kept _ _ _ _ wrote c.flushed-then-turn-eq1000000.ensures.kept,
       flushed_does _ c.flushed-then-turn-eq1000000.result text plan script (g.M.MapView.map c.args.store) c.args.depth written _ _ (begins _ _ _ _ read) (now, told)
-      (script, fields, count ∙ c.if-turn-eq1000000.true, begins _ _ _ _ after, (now, told)) c.flushed-then-turn-eq1000000.ensures.ended,
+          (script, fields, count ∙ c.if-turn-eq1000000.true, begins _ _ _ _ after, (now, told)) c.flushed-then-turn-eq1000000.ensures.ended,
     )
 
 pub returns-in-Err-answer_of_row-clause-does : goal.returns-in-Err-answer_of_row-clause-does
