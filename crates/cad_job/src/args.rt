@@ -1,6 +1,8 @@
 //! The program's arguments.
-ghost use Rattle.std.specs.Prelude.{IfOk, map, option_map};
+ghost use Rattle.std.specs.Prelude.{◌≡◌, IfOk, map, option_map};
+ghost use Rattle.clap.specs.Values.{kind_of};
 ghost use Rattle.cad_job.specs.Arguments.{ReadsArgs};
+ghost use Rattle.cad_job.specs.Told.{status_of_kind};
 
 use cad_history::Depth;
 use clap::error::ErrorKind;
@@ -36,7 +38,9 @@ pub fn read_args<'a>(alloc: Global, words: &'a [&'a str]) -> Result<Args<'a>, Er
 }
 
 /// The status with which the program ends after these arguments: 0 for help, 5 where memory ran out, else 64.
-pub fn args_status(error: &Error) -> u8 {
+pub fn args_status(error: &Error) -> u8
+    ensures { result ≡ status_of_kind (kind_of error.now) }
+{
     match error.kind() {
         ErrorKind::DisplayHelp => 0,
         ErrorKind::OutOfMemory => 5,

@@ -1,4 +1,7 @@
 //! Why a job ended early.
+ghost use Rattle.std.specs.Prelude.{◌≡◌};
+ghost use Rattle.cad_job.specs.Told.{status_of};
+
 use cad_files::PlanFault;
 use std::fmt;
 
@@ -19,6 +22,11 @@ pub enum JobFault {
 
 /// The line that the program writes on standard error.
 impl fmt::Display for JobFault {
+    ghost use Rattle.std.specs.Prelude.{Some};
+    ghost use Rattle.cad_job.specs.Told.{job_fault_text};
+
+    ghost output = { λ f. Some (job_fault_text f) };
+
     fn fmt<W: fmt::Write>(&self, f: &mut fmt::Formatter<W>) -> fmt::Result {
         match self {
             JobFault::Plan(fault) => write!(f, "cadedit: plan fault {fault}"),
@@ -31,7 +39,9 @@ impl fmt::Display for JobFault {
 }
 
 /// The status with which the program ends after a fault.
-pub fn status(fault: &JobFault) -> u8 {
+pub fn status(fault: &JobFault) -> u8
+    ensures { result ≡ status_of fault.now }
+{
     match fault {
         JobFault::Plan(_) => 2,
         JobFault::Read | JobFault::Write => 3,

@@ -1,15 +1,15 @@
 -- A ring cut by a chain: the corners of the two rings.
-use Rattle.std.proofs.Common.{◌≡◌, ℕ, suc, ◌+◌, ◌-◌, refl, sym, ◌∙◌, ap, subst, List, [], ◌∷◌, ◌++◌, length, map, reverse, append_assoc, arith}
-use Rattle.std.proofs.lemmas.List.{append-nil, reverse-append}
-use Rattle.std.proofs.lemmas.List.Sorted.{IsPermutation-trans, IsPermutation-sym, IsPermutation-refl, IsPermutation-append, IsPermutation-append_left, IsPermutation-append_right, IsPermutation-reverse}
+use Rattle.std.proofs.Common.{◌≡◌, ℕ, ◌-◌, refl, sym, ◌∙◌, ap, subst, List, [], ◌∷◌, ◌++◌, length, map, reverse, append_assoc}
+use Rattle.std.proofs.lemmas.List.{reverse-append}
+use Rattle.std.proofs.lemmas.List.Sorted.{IsPermutation-trans, IsPermutation-sym, IsPermutation-append, IsPermutation-append_right, IsPermutation-reverse}
 use Rattle.std.specs.Prelude.{IsPermutation, slice_index, slice_range}
 use Rattle.cad_rings.specs.Cycle.{Ring, Corner, corner_back, corners_along, corners_of, corner_at, turned}
 use Rattle.cad_rings.specs.Surgery.{corner, left_ring, right_ring, chain_across, AreTwoPlaces, corners_of_chain, corners_both_ways, parted_by, chain_from, HaveChainInCommon, joined}
 use Rattle.cad_rings.proofs.Permuted.{permuted_as, laid, shuffled, corners_both_ways-apart}
-use Rattle.cad_rings.proofs.Corners.{corners_of_chain-reverse, corners_of-same}
+use Rattle.cad_rings.proofs.CornerLemmas.{corners_of_chain-reverse, corners_of-same}
 use Rattle.cad_rings.proofs.Turned.{IsSameRing-turned}
-use Rattle.cad_rings.proofs.Cut.{cut}
-use Rattle.cad_rings.proofs.Join.{cut-joined}
+use Rattle.cad_rings.proofs.CutLemmas.{cut}
+use Rattle.cad_rings.proofs.JoinLemmas.{cut-joined}
 
 -- the last of a and the points after it
 abbrev pub last_of : ℕ → List ℕ → ℕ

@@ -1,9 +1,9 @@
 -- Worked rings, computed.
-use Rattle.std.proofs.Common.{◌≡◌, ℕ, refl, [], ◌∷◌, ℤ, pos, negsuc, ◌+ℤ◌, lit<, true, false}
+use Rattle.std.proofs.Common.{◌≡◌, ℕ, refl, [], ◌∷◌, pos, negsuc, lit<, true, false}
 use Rattle.std.specs.Prelude.{◌==◌, if◌then◌else◌}
 use Rattle.geo_exact.specs.Position.{Position}
 use Rattle.geo_exact.specs.Measure.{doubled_area}
-use Rattle.cad_rings.specs.Cycle.{Ring, sides_of, has_side, times_along, times_through, corners_of, turned, anchor_of, ring_sum}
+use Rattle.cad_rings.specs.Cycle.{Ring, sides_of, has_side, times_along, times_through, corners_of, anchor_of, ring_sum}
 use Rattle.cad_rings.specs.Shown.{comes_first, rotations, least_rotation}
 use Rattle.cad_rings.specs.Surgery.{reversed, sides_of_chain, both_ways, stretch, chain_across, left_ring, right_ring, chain_from, HaveChainInCommon, joined, put_on, without}
 

@@ -1,7 +1,7 @@
 -- The two stretches of a ring between two of its places.
-use Rattle.std.proofs.Common.{◌≡◌, ℕ, suc, ◌+◌, ◌-◌, ◌<◌, ◌≤◌, ◌⊎◌, inl, inr, refl, sym, ◌∙◌, ap, subst, List, [], ◌∷◌, ◌++◌, length, take, drop, append_assoc, true, false, arith}
+use Rattle.std.proofs.Common.{◌≡◌, ℕ, suc, ◌+◌, ◌-◌, ◌<◌, inl, inr, sym, ◌∙◌, ap, subst, List, ◌∷◌, ◌++◌, length, take, drop, append_assoc, true, false, arith}
 use Rattle.std.proofs.Math.Seq.{drop-append_seam, drop-append-add, take-append_seam, take-append-add, get_or-append_seam, drop-cons}
-use Rattle.std.proofs.lemmas.List.{get_or-append-add, take-append-drop, length-take-le, drop-drop, length-append, length-take, length-drop}
+use Rattle.std.proofs.lemmas.List.{get_or-append-add, take-append-drop, length-take-le, drop-drop, length-drop}
 use Rattle.std.proofs.lemmas.Bool.{cases_order}
 use Rattle.std.proofs.lemmas.Bool.Decides.{nat_tests}
 use Rattle.std.specs.Prelude.{nat_lt, slice_index, slice_range}

@@ -1,12 +1,14 @@
 -- Lists in another order, and what is summed over them.
-use Rattle.std.proofs.Common.{◌≡◌, zero, suc, refl, sym, ◌∙◌, subst, List, [], ◌∷◌, ◌++◌, append_assoc, map, reverse, ℤ, ◌+ℤ◌, neg_ℤ, pos, arith}
+use Rattle.std.proofs.Common.{◌≡◌, zero, suc, refl, sym, ap, ◌∙◌, subst, List, [], ◌∷◌, ◌++◌, append_assoc, map, ◌+ℤ◌, neg_ℤ, pos, arith}
 use Rattle.std.proofs.lemmas.Int.{ints}
+use Rattle.std.proofs.lemmas.List.{map-append}
 use Rattle.std.proofs.lemmas.List.Sums.{sum_by-cons}
 use Rattle.std.proofs.lemmas.List.Sorted.{IsPermutation-refl, IsPermutation-cons, IsPermutation-sym, IsPermutation-trans, IsPermutation-append_left, IsPermutation-append_right, IsPermutation-append_comm, IsPermutation-middle, sum_by-IsPermutation}
 use Rattle.std.specs.Prelude.{IsPermutation, sum_by, flat_map, ◌+◌, ℕ, Bool, true, false, nat_le, if◌then◌else◌}
 use borrow.Author.Differences.{up, down, same_in, sum_is_lem}
 use Rattle.geo_exact.specs.Position.{Position}
 use Rattle.geo_exact.specs.Measure.{Measure, IsOdd, sum_over}
+use Rattle.geo_exact.proofs.CallerLemmas.{sum_over-append}
 use Rattle.cad_rings.specs.Cycle.{Side, opposite, Corner, corner_back, placed}
 use Rattle.cad_rings.specs.Surgery.{both_ways, corners_both_ways}
 
@@ -112,8 +114,8 @@ sum-permuted f position xs ys p =
 
 pub sum-append : (f : Measure) (position : ℕ → Position) (xs ys : List Side)
     → sum_over f (placed position (xs ++ ys)) ≡ sum_over f (placed position xs) +ℤ sum_over f (placed position ys)
-sum-append f position [] ys = omega (arith, ints)
-sum-append f position (x ∷ xs) ys = let h = sum-append f position xs ys in omega (arith, ints)
+sum-append f position xs ys =
+    ap (sum_over f) (map-append (λ (s : Side). (position s.0, position s.1)) xs ys) ∙ sum_over-append f (placed position xs) (placed position ys)
 
 -- opposite sides have the opposite sum
 pub sum-opposite : (f : Measure) → IsOdd f → (position : ℕ → Position) (sides : List Side)

@@ -1,18 +1,18 @@
 -- A point dropped from a ring, or put on a side of it: the corners.
-use Rattle.std.proofs.Common.{◌≡◌, ℕ, suc, ◌+◌, ◌≤◌, ◌⊎◌, inl, inr, refl, sym, ◌∙◌, ap, subst, List, [], ◌∷◌, ◌++◌, length, take, drop, reverse, append_assoc, cond, arith}
+use Rattle.std.proofs.Common.{◌≡◌, ℕ, suc, ◌≤◌, inl, inr, refl, sym, ◌∙◌, ap, subst, List, [], ◌∷◌, ◌++◌, length, take, drop, reverse, append_assoc, cond, arith}
 use Rattle.std.proofs.Math.Seq.{drop-append_seam, take-append_seam}
-use Rattle.std.proofs.lemmas.List.{append-nil, length-append, reverse-append}
+use Rattle.std.proofs.lemmas.List.{reverse-append}
 use Rattle.std.proofs.lemmas.List.Sorted.{IsPermutation-trans, IsPermutation-sym, IsPermutation-append_right, sum_by-IsPermutation}
-use Rattle.std.specs.Prelude.{IsPermutation, count_by, Contains}
-use Rattle.cad_rings.specs.Cycle.{Ring, Side, is_side, sides_of, sides_along, Corner, corners_of, turned, IsSameRing, times_along, times_through}
+use Rattle.std.specs.Prelude.{count_by, Contains}
+use Rattle.cad_rings.specs.Cycle.{Ring, Side, is_side, sides_of, Corner, corners_of, turned, IsSameRing, times_along, times_through}
 use Rattle.cad_rings.specs.Surgery.{corner, corners_of_chain, put_on, without, StandsBetween}
 use Rattle.cad_rings.proofs.Permuted.{permuted_as, laid, shuffled}
-use Rattle.cad_rings.proofs.Sides.{sides_of-turned, sides_of-same}
-use Rattle.cad_rings.proofs.Corners.{corners_of-same}
+use Rattle.cad_rings.proofs.SideLemmas.{sides_of-turned, sides_of-same}
+use Rattle.cad_rings.proofs.CornerLemmas.{corners_of-same}
 use Rattle.cad_rings.proofs.CutCorners.{last_of, first_of, corners_of-parts}
 use Rattle.cad_rings.proofs.Turned.{IsSameRing-append, IsSameRing-turned, IsSameRing-sym, IsSameRing-trans, IsSameRing-length}
 use Rattle.cad_rings.proofs.PutOn.{is_side-same, once_first, put_on-same}
-use Rattle.cad_rings.proofs.Without.{EndsWith, ends_with, FromCorner, from_corner, without-rest, put_at_end}
+use Rattle.cad_rings.proofs.Without.{ends_with, from_corner, without-rest, put_at_end}
 
 in_a_row : (n : ℕ) (zs : List ℕ) (w v : ℕ) → StandsBetween w v n (n ∷ zs ++ w ∷ v ∷ []) (n ∷ zs ++ w ∷ [])
 in_a_row n zs w v =
@@ -29,8 +29,8 @@ in_a_row n zs w v =
       u = u;
       x = x;
       is = permuted_as (corner u w n ∷ corner w n x ∷ corners_of R) (laid pieces (0 ∷ 1 ∷ 2 ∷ 3 ∷ 4 ∷ 5 ∷ []))
-      (corner u w v ∷ corner w v n ∷ corner v n x ∷ corners_of R') (laid pieces (3 ∷ 4 ∷ 5 ∷ 2 ∷ 0 ∷ 1 ∷ [])) e1 e2
-      (shuffled pieces (0 ∷ 1 ∷ 2 ∷ 3 ∷ 4 ∷ 5 ∷ []) (3 ∷ 4 ∷ 5 ∷ 2 ∷ 0 ∷ 1 ∷ []) refl);
+          (corner u w v ∷ corner w v n ∷ corner v n x ∷ corners_of R') (laid pieces (3 ∷ 4 ∷ 5 ∷ 2 ∷ 0 ∷ 1 ∷ [])) e1 e2
+          (shuffled pieces (0 ∷ 1 ∷ 2 ∷ 3 ∷ 4 ∷ 5 ∷ []) (3 ∷ 4 ∷ 5 ∷ 2 ∷ 0 ∷ 1 ∷ []) refl);
     }
 
 -- wherever the two rings are written from
@@ -42,8 +42,8 @@ elsewhere w v n r s r' s' hr hs h =
       u = h.u;
       x = h.x;
       is = IsPermutation-trans (a ++ corners_of r') (a ++ corners_of r) (b ++ corners_of s')
-      (IsPermutation-append_right a (corners_of r') (corners_of r) (IsPermutation-sym (corners_of r) (corners_of r') (corners_of-same r r' hr)))
-      (IsPermutation-trans (a ++ corners_of r) (b ++ corners_of s) (b ++ corners_of s') h.is (IsPermutation-append_right b (corners_of s) (corners_of s') (corners_of-same s s' hs)));
+          (IsPermutation-append_right a (corners_of r') (corners_of r) (IsPermutation-sym (corners_of r) (corners_of r') (corners_of-same r r' hr)))
+          (IsPermutation-trans (a ++ corners_of r) (b ++ corners_of s) (b ++ corners_of s') h.is (IsPermutation-append_right b (corners_of s) (corners_of s') (corners_of-same s s' hs)));
     }
 
 -- of two points or more, the first and the last

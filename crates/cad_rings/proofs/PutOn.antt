@@ -1,16 +1,15 @@
 -- A point put on a side of a ring: each such side becomes two.
-use Rattle.std.proofs.Common.{◌≡◌, ℕ, suc, ◌+◌, refl, sym, ◌∙◌, ap, subst, List, [], ◌∷◌, ◌++◌, length, take, drop, append_assoc, Bool, true, false, ◌⊎◌, inl, inr, cond, arith}
-use Rattle.std.proofs.lemmas.List.{append-nil, take-append-drop, length-append}
+use Rattle.std.proofs.Common.{◌≡◌, ℕ, suc, ◌+◌, refl, sym, ◌∙◌, ap, subst, List, [], ◌∷◌, ◌++◌, length, take, drop, Bool, true, false, ◌⊎◌, inl, inr, cond, arith}
+use Rattle.std.proofs.lemmas.List.{append-nil, take-append-drop}
 use Rattle.std.proofs.lemmas.List.Concat.{flat_map-append}
 use Rattle.std.proofs.lemmas.List.Sums.{sum_by-cons}
-use Rattle.std.proofs.lemmas.List.Sorted.{IsPermutation-refl, IsPermutation-cons, IsPermutation-sym, IsPermutation-trans, IsPermutation-middle}
-use Rattle.std.proofs.lemmas.Bool.{cases_Bool}
-use Rattle.std.proofs.lemmas.Bool.Decides.{nat_tests, eqb_tells}
+use Rattle.std.proofs.lemmas.List.Sorted.{IsPermutation-cons, IsPermutation-sym, IsPermutation-trans, IsPermutation-middle}
+use Rattle.std.proofs.lemmas.Bool.Decides.{eqb_tells}
 use Rattle.std.specs.Prelude.{IsPermutation, if◌then◌else◌, flat_map, count_by, ◌==◌, ◌&&◌}
-use Rattle.cad_rings.specs.Cycle.{Ring, Side, is_side, sides_along, sides_of, turned, IsSameRing, times_along}
+use Rattle.cad_rings.specs.Cycle.{Ring, Side, is_side, sides_along, sides_of, IsSameRing, times_along}
 use Rattle.cad_rings.specs.Surgery.{put_on, halves_by}
 use Rattle.cad_rings.proofs.Permuted.{permuted_as}
-use Rattle.cad_rings.proofs.Sides.{sides_of-turned, length-sides_of}
+use Rattle.cad_rings.proofs.SideLemmas.{sides_of-turned, length-sides_of}
 use Rattle.cad_rings.proofs.Turned.{IsSameRing-append}
 
 -- ---- Tests of sides

@@ -1,19 +1,18 @@
 -- A point dropped from a ring: its two sides become one. Dropping takes back putting on, and the other way round.
-use Rattle.std.proofs.Common.{◌≡◌, ℕ, suc, ◌+◌, ◌≤◌, ◌<◌, refl, sym, ◌∙◌, ap, subst, List, [], ◌∷◌, ◌++◌, length, take, drop, reverse, get_or, append_assoc, Bool, true, false, ◌⊎◌, inl, inr, cond, arith}
+use Rattle.std.proofs.Common.{◌≡◌, ℕ, suc, ◌+◌, refl, sym, ◌∙◌, ap, subst, List, [], ◌∷◌, ◌++◌, length, take, drop, reverse, append_assoc, Bool, true, false, cond, arith}
 use Rattle.std.proofs.Math.Seq.{take-suc}
-use Rattle.std.proofs.lemmas.List.{append-nil, take-append-drop, length-append, length-drop, length-take, reverse-append, get_or_default}
+use Rattle.std.proofs.lemmas.List.{append-nil, take-append-drop, reverse-append}
 use Rattle.std.proofs.lemmas.List.Concat.{flat_map-append}
 use Rattle.std.proofs.lemmas.List.Elements.{filter-append}
-use Rattle.std.proofs.lemmas.List.Sums.{sum_by-cons, sum_by-append, length-filter}
-use Rattle.std.proofs.lemmas.List.Sorted.{IsPermutation-refl, IsPermutation-cons, IsPermutation-sym, IsPermutation-trans, IsPermutation-middle, IsPermutation-append_right, IsPermutation-to_front, sum_by-IsPermutation}
-use Rattle.std.proofs.lemmas.Bool.{cases_Bool}
-use Rattle.std.proofs.lemmas.Bool.Decides.{nat_tests, eqb_tells}
-use Rattle.std.specs.Prelude.{IsPermutation, if◌then◌else◌, flat_map, filter, count_by, not, ◌==◌, ◌&&◌, Contains}
+use Rattle.std.proofs.lemmas.List.Sums.{sum_by-cons, sum_by-append}
+use Rattle.std.proofs.lemmas.List.Sorted.{IsPermutation-cons, IsPermutation-sym, IsPermutation-trans, IsPermutation-to_front, sum_by-IsPermutation}
+use Rattle.std.proofs.lemmas.Bool.Decides.{nat_tests}
+use Rattle.std.specs.Prelude.{IsPermutation, if◌then◌else◌, flat_map, count_by, not, ◌==◌, ◌&&◌, Contains}
 use Rattle.cad_rings.specs.Cycle.{Ring, Side, is_side, sides_along, sides_of, Corner, corners_along, corners_of, turned, IsSameRing, times_along, times_through}
 use Rattle.cad_rings.specs.Surgery.{put_on, without}
 use Rattle.cad_rings.proofs.Permuted.{permuted_as}
-use Rattle.cad_rings.proofs.Sides.{sides_of-same}
-use Rattle.cad_rings.proofs.Corners.{corners_of-turned}
+use Rattle.cad_rings.proofs.SideLemmas.{sides_of-same}
+use Rattle.cad_rings.proofs.CornerLemmas.{corners_of-turned}
 use Rattle.cad_rings.proofs.Turned.{IsSameRing-append, IsSameRing-turned, IsSameRing-sym, IsSameRing-trans}
 use Rattle.cad_rings.proofs.PutOn.{point_or_two, none_first, put_on-same}
 

@@ -20,3 +20,6 @@ pub use names::{Face, Item, Name};
 pub use numbers::{GREATEST_NUMBER, ParcelNo, PointNo, SourceNo, StringNo};
 pub use refusals::{Refusal, Rule};
 pub use rows::{ParcelRow, PointRow, SourceRow, StringRow};
+
+#[cfg(test)]
+mod tests;

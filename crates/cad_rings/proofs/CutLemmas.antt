@@ -1,15 +1,15 @@
 -- A ring cut by a chain: the sides of the two rings, their sums and their lengths.
-use Rattle.std.proofs.Common.{◌≡◌, ℕ, suc, ◌+◌, ◌*◌, refl, sym, ◌∙◌, ap, subst, List, [], ◌∷◌, ◌++◌, length, map, reverse, append_assoc, ℤ, pos, ◌+ℤ◌, arith}
+use Rattle.std.proofs.Common.{◌≡◌, ℕ, ◌+◌, ◌*◌, refl, sym, ◌∙◌, ap, List, ◌∷◌, ◌++◌, length, map, reverse, ◌+ℤ◌, arith}
 use Rattle.std.proofs.lemmas.Int.{ints}
 use Rattle.std.proofs.lemmas.List.{length-append, length-reverse}
-use Rattle.std.proofs.lemmas.List.Sorted.{IsPermutation-trans, IsPermutation-sym, IsPermutation-append, IsPermutation-append_left, IsPermutation-append_right, IsPermutation-reverse}
+use Rattle.std.proofs.lemmas.List.Sorted.{IsPermutation-trans, IsPermutation-sym, IsPermutation-append_left, IsPermutation-append_right, IsPermutation-reverse}
 use Rattle.std.specs.Prelude.{IsPermutation, slice_index}
 use Rattle.geo_exact.specs.Position.{Position}
-use Rattle.geo_exact.specs.Measure.{Measure, IsOdd, sum_over}
-use Rattle.cad_rings.specs.Cycle.{Ring, Side, opposite, sides_along, sides_of, placed, ring_sum, turned}
-use Rattle.cad_rings.specs.Surgery.{stretch, left_ring, right_ring, chain_across, AreTwoPlaces, sides_of_chain, both_ways}
+use Rattle.geo_exact.specs.Measure.{Measure, IsOdd}
+use Rattle.cad_rings.specs.Cycle.{Ring, Side, opposite, sides_along, sides_of, ring_sum, turned}
+use Rattle.cad_rings.specs.Surgery.{left_ring, right_ring, chain_across, AreTwoPlaces, sides_of_chain, both_ways}
 use Rattle.cad_rings.proofs.Permuted.{permuted_as, second_last, both_ways-apart, sum-permuted, sum-append, sum-both_ways}
-use Rattle.cad_rings.proofs.Sides.{sides_along-append, sides_along-reverse, sides_of_chain-is, sides_of-same, length-sides_of}
+use Rattle.cad_rings.proofs.SideLemmas.{sides_along-append, sides_along-reverse, sides_of_chain-is, sides_of-same}
 use Rattle.cad_rings.proofs.Turned.{IsSameRing-turned, length-turned}
 use Rattle.cad_rings.proofs.Parts.{parted}
 

@@ -1,14 +1,13 @@
 -- The anchor of a ring is the least of its points, wherever the ring is written from.
-use Rattle.std.proofs.Common.{◌≡◌, ℕ, suc, ◌≤◌, ◌<◌, ◌⊎◌, inl, inr, min, refl, sym, ◌∙◌, ap, subst, List, [], ◌∷◌, ◌++◌, length, take, drop, reverse, arith}
+use Rattle.std.proofs.Common.{◌≡◌, ℕ, suc, ◌≤◌, ◌⊎◌, inl, inr, min, refl, sym, ◌∙◌, ap, List, [], ◌∷◌, ◌++◌, length, take, drop, reverse, arith}
 use Rattle.std.proofs.lemmas.List.{append-nil, take-append-drop, reverse-append}
 use Rattle.std.proofs.lemmas.Bool.{cases_lt}
 use Rattle.std.specs.Prelude.{fold, Contains}
 use Rattle.std.specs.List.{AllByRecursion}
-use Rattle.cad_rings.specs.Cycle.{Ring, turned, IsSameRing, anchor_of}
+use Rattle.cad_rings.specs.Cycle.{Ring, IsSameRing, anchor_of}
 use Rattle.cad_rings.specs.Shown.{least_rotation}
 use Rattle.cad_rings.specs.Surgery.{reversed}
 use Rattle.cad_rings.proofs.OneForm.{IsSameRing-least_rotation}
-use Rattle.cad_rings.proofs.Turned.{IsSameRing-append}
 
 least-append : (a : ℕ) (xs ys : List ℕ) → fold min a (xs ++ ys) ≡ fold min (fold min a xs) ys
 least-append a [] ys = refl

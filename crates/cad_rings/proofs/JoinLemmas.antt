@@ -1,19 +1,19 @@
 -- Two rings joined along a chain: a join is a cut taken back.
-use Rattle.std.proofs.Common.{◌≡◌, ℕ, suc, ◌+◌, ◌-◌, ◌*◌, ◌<◌, ◌≤◌, refl, sym, ◌∙◌, ap, subst, List, [], ◌∷◌, ◌++◌, length, take, drop, map, reverse, append_assoc, ℤ, pos, ◌+ℤ◌, add-one, arith}
-use Rattle.std.proofs.Math.Seq.{drop-append_seam, take-append_seam, get_or-append_seam}
+use Rattle.std.proofs.Common.{◌≡◌, ℕ, suc, ◌+◌, ◌-◌, ◌*◌, ◌<◌, refl, sym, ◌∙◌, ap, List, [], ◌∷◌, ◌++◌, length, take, drop, reverse, append_assoc, ◌+ℤ◌, arith}
+use Rattle.std.proofs.Math.Seq.{get_or-append_seam}
 use Rattle.std.proofs.lemmas.Int.{ints}
-use Rattle.std.proofs.lemmas.List.{append-nil, length-append, length-reverse, reverse-append, reverse-reverse, take-append-drop, length-take-le, length-drop, take_at, drop_at}
-use Rattle.std.proofs.lemmas.List.Sorted.{IsPermutation-trans, IsPermutation-sym, IsPermutation-append, IsPermutation-append_right}
+use Rattle.std.proofs.lemmas.List.{append-nil, length-append, length-reverse, reverse-append, reverse-reverse, take-append-drop, length-take-le, take_at, drop_at}
+use Rattle.std.proofs.lemmas.List.Sorted.{IsPermutation-trans, IsPermutation-append, IsPermutation-append_right}
 use Rattle.std.specs.Prelude.{IsPermutation, slice_index, slice_range}
 use Rattle.geo_exact.specs.Position.{Position}
-use Rattle.geo_exact.specs.Measure.{Measure, IsOdd, sum_over}
-use Rattle.cad_rings.specs.Cycle.{Ring, Side, sides_along, sides_of, placed, ring_sum, turned, IsSameRing}
+use Rattle.geo_exact.specs.Measure.{Measure, IsOdd}
+use Rattle.cad_rings.specs.Cycle.{Ring, sides_along, sides_of, ring_sum, turned}
 use Rattle.cad_rings.specs.Surgery.{stretch, left_ring, right_ring, chain_across, AreTwoPlaces, chain_from, HaveChainInCommon, joined, sides_of_chain, both_ways}
 use Rattle.cad_rings.proofs.Permuted.{permuted_as, sum-permuted, sum-append, sum-both_ways}
-use Rattle.cad_rings.proofs.Sides.{sides_of_chain-is, sides_of-same}
+use Rattle.cad_rings.proofs.SideLemmas.{sides_of_chain-is, sides_of-same}
 use Rattle.cad_rings.proofs.Turned.{IsSameRing-turned, IsSameRing-append, length-turned}
 use Rattle.cad_rings.proofs.Parts.{outer, inner}
-use Rattle.cad_rings.proofs.Cut.{sides_of-parts, cut}
+use Rattle.cad_rings.proofs.CutLemmas.{sides_of-parts, cut}
 
 -- ---- The chain and the two rings, as lists
 

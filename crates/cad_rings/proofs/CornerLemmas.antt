@@ -1,5 +1,5 @@
 -- The corners of a ring, from another place on, and in the other direction.
-use Rattle.std.proofs.Common.{◌≡◌, ℕ, suc, ◌≤◌, ◌⊎◌, inl, inr, refl, sym, ◌∙◌, ap, subst, List, [], ◌∷◌, ◌++◌, length, take, drop, map, reverse, append_assoc, arith}
+use Rattle.std.proofs.Common.{◌≡◌, ℕ, suc, ◌≤◌, ◌⊎◌, inl, inr, refl, sym, ◌∙◌, ap, List, [], ◌∷◌, ◌++◌, length, take, drop, map, reverse, append_assoc, arith}
 use Rattle.std.proofs.lemmas.List.{append-nil, reverse-append, take-append-drop, length-take-le, length-append, drop-append-le, take-append-le}
 use Rattle.std.proofs.lemmas.List.Sorted.{IsPermutation-refl, IsPermutation-trans, IsPermutation-reverse}
 use Rattle.std.proofs.lemmas.Bool.{cases_lt}
@@ -7,7 +7,7 @@ use Rattle.std.specs.Prelude.{IsPermutation}
 use Rattle.cad_rings.specs.Cycle.{Ring, Corner, corner_back, corners_along, corners_of, turned, IsSameRing}
 use Rattle.cad_rings.specs.Surgery.{reversed, corners_of_chain}
 use Rattle.cad_rings.proofs.Permuted.{permuted_as}
-use Rattle.cad_rings.proofs.Turned.{round_at, round_past, round_permuted, IsSameRing-append}
+use Rattle.cad_rings.proofs.Turned.{round_past, round_permuted, IsSameRing-append}
 
 -- corners through c and d are those to c, which d follows, and those from c on
 pub corners_of_chain-append : (xs : List ℕ) (c d : ℕ) (ys : List ℕ) → corners_of_chain (xs ++ c ∷ d ∷ ys) ≡ corners_of_chain (xs ++ c ∷ d ∷ []) ++ corners_of_chain (c ∷ d ∷ ys)
@@ -70,8 +70,8 @@ pub corners_of-turned : (k : ℕ) (ring : Ring) → corners_of (turned k ring) �
 corners_of-turned k ring = elim (either_way k (length ring)) [
   | inl h ↦ steps_on (take k ring) (drop k ring) ∙ (λ i. drop (length-take-le k ring h i) (corners_of (take-append-drop k ring i)) ++ take (length-take-le k ring h i) (corners_of (take-append-drop k ring i)))
   | inr h ↦
-  let long : length (corners_of ring) ≤ k = let e = at_most ring in omega arith in
-  ap corners_of (round_past k ring h) ∙ sym (round_past k (corners_of ring) long)
+      let long : length (corners_of ring) ≤ k = let e = at_most ring in omega arith in
+      ap corners_of (round_past k ring h) ∙ sym (round_past k (corners_of ring) long)
 ]
 
 pub corners_of-same : (r s : Ring) → IsSameRing r s → IsPermutation (corners_of r) (corners_of s)

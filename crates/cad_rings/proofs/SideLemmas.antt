@@ -1,7 +1,7 @@
 -- The sides of a ring: along a chain, from another place on, and in the other direction.
-use Rattle.std.proofs.Common.{◌≡◌, ℕ, suc, ◌≤◌, ◌⊎◌, inl, inr, refl, sym, ◌∙◌, ap, subst, List, [], ◌∷◌, ◌++◌, length, take, drop, map, reverse, append_assoc, arith, neg_ℤ, ℤ}
+use Rattle.std.proofs.Common.{◌≡◌, ℕ, suc, ◌≤◌, ◌⊎◌, inl, inr, refl, sym, ◌∙◌, ap, List, [], ◌∷◌, ◌++◌, length, take, drop, map, reverse, arith, neg_ℤ}
 use Rattle.std.proofs.lemmas.List.{append-nil, reverse-append, take-append-drop, length-take-le}
-use Rattle.std.proofs.lemmas.List.Sorted.{IsPermutation-refl, IsPermutation-sym, IsPermutation-trans, IsPermutation-reverse}
+use Rattle.std.proofs.lemmas.List.Sorted.{IsPermutation-refl, IsPermutation-trans, IsPermutation-reverse}
 use Rattle.std.proofs.lemmas.Bool.{cases_lt}
 use Rattle.std.specs.Prelude.{IsPermutation}
 use Rattle.geo_exact.specs.Position.{Position}
@@ -64,8 +64,8 @@ pub sides_of-turned : (k : ℕ) (ring : Ring) → sides_of (turned k ring) ≡ d
 sides_of-turned k ring = elim (either_way k (length ring)) [
   | inl h ↦ sides_of-pieces (take k ring) (drop k ring) ∙ (λ i. drop (length-take-le k ring h i) (sides_of (take-append-drop k ring i)) ++ take (length-take-le k ring h i) (sides_of (take-append-drop k ring i)))
   | inr h ↦
-  let long : length (sides_of ring) ≤ k = let e = length-sides_of ring in omega arith in
-  ap sides_of (round_past k ring h) ∙ sym (round_past k (sides_of ring) long)
+      let long : length (sides_of ring) ≤ k = let e = length-sides_of ring in omega arith in
+      ap sides_of (round_past k ring h) ∙ sym (round_past k (sides_of ring) long)
 ]
 
 pub sides_of-same : (r s : Ring) → IsSameRing r s → IsPermutation (sides_of r) (sides_of s)

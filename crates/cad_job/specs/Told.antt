@@ -1,0 +1,29 @@
+-- What the program tells of a fault, and the status with which it ends.
+use Rattle.std.specs.Prelude.{ℕ, List, ◌++◌, codes}
+use Rattle.clap.specs.declared.error.kind.ErrorKind.{ErrorKind}
+use Rattle.clap.specs.declared.error.kind.ErrorKind.TheVariants as kinds
+use Rattle.cad_files.specs.FaultTexts.{fault_text}
+use Rattle.cad_job.specs.declared.faults.JobFault.{JobFault}
+use Rattle.cad_job.specs.declared.faults.JobFault.TheVariants as fault
+
+-- the line on standard error
+abbrev pub job_fault_text : JobFault → List ℕ
+job_fault_text (fault.Plan f) = codes "cadedit: plan fault " ++ fault_text f
+job_fault_text fault.Read = codes "cadedit: read fault"
+job_fault_text fault.Write = codes "cadedit: write fault"
+job_fault_text fault.Long = codes "cadedit: too many records"
+job_fault_text fault.Memory = codes "cadedit: out of memory"
+
+-- the status after a fault of the job
+abbrev pub status_of : JobFault → ℕ
+status_of (fault.Plan f) = 2
+status_of fault.Read = 3
+status_of fault.Write = 3
+status_of fault.Long = 4
+status_of fault.Memory = 5
+
+-- the status after arguments that were not read: help that was asked for is none
+abbrev pub status_of_kind : ErrorKind → ℕ
+status_of_kind kinds.DisplayHelp = 0
+status_of_kind kinds.OutOfMemory = 5
+status_of_kind _ = 64
