@@ -1,7 +1,7 @@
 -- The sides of a ring from a place on: the first of them leads to the next point, or at the end to the first.
 use Rattle.std.proofs.Common.{◌≡◌, ℕ, zero, suc, ◌+◌, ◌<◌, refl, List, [], ◌∷◌, length, drop, add-one, arith}
 use Rattle.std.specs.Prelude.{slice_index}
-use Rattle.cad_rings.specs.Cycle.{Side, sides_along, sides_of}
+use Rattle.cad_rings.specs.Cycle.{sides_along, sides_of}
 
 along_inside : (a : ℕ) (xs : List ℕ) (z i : ℕ) → i < length xs → drop i (sides_along a xs z) ≡ (slice_index (a ∷ xs) i, slice_index xs i) ∷ drop (suc i) (sides_along a xs z)
 along_inside a [] z i h = absurd (omega arith)

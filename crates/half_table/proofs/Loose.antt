@@ -1,7 +1,9 @@
 -- A string that comes or goes.
-use Rattle.std.proofs.Common.{◌≡◌, ℕ, [], ◌∷◌, ◌++◌, Bool, true, false, not, cond, refl, sym, ap, ◌∙◌, Option, Some, None, is_some, option_map, true≢false, nat_eq, if◌then◌else◌}
+use Rattle.std.proofs.Common.{◌≡◌, ℕ, [], ◌∷◌, ◌++◌, Bool, true, false, not, cond, refl, sym, ap, ◌∙◌, subst, Option, Some, None, is_some, option_map, true≢false, nat_eq, if◌then◌else◌}
 use Rattle.std.proofs.lemmas.Bool.Decides.{Decides-eqb}
 use Rattle.std.specs.List.{IsDistinct}
+use Rattle.std.specs.List.Sorted.{IsPermutation}
+use Rattle.indexmap.specs.IndexMap.{swap_remove_entry}
 use Rattle.std.specs.Map.{lookup}
 use Rattle.std.specs.Option.{option_map_or}
 use Rattle.cad_rows.specs.declared.names.Face.TheVariants.{Outside}
@@ -9,9 +11,10 @@ use Rattle.half_table.specs.declared.half.Half.{Half}
 use Rattle.half_table.specs.declared.links.Links.{Links}
 use Rattle.half_table.specs.declared.links.Ends.{Ends}
 use Rattle.half_table.specs.Half.{twin, forward_of, backward_of}
-use Rattle.half_table.specs.Rows.{Rows, strings, links_at, links_of, has, next, prev, origin, face, IsLinked}
+use Rattle.half_table.specs.Rows.{Rows, strings, has_string, links_at, links_of, has, next, prev, origin, face, IsLinked}
 use Rattle.half_table.specs.Surgery.{AddsLoose, RemovesLoose, IsLoose, loose_ends}
 use Rattle.half_table.proofs.Halves.{twin-twin}
+use Rattle.half_table.proofs.Strings.{swapped-out}
 
 nat_eq-symm : (a b : ℕ) → nat_eq a b ≡ nat_eq b a
 nat_eq-symm a b = same (nat_eq a b) (nat_eq b a) (λ e. (Decides-eqb b a).1 (sym ((Decides-eqb a b).0 e))) (λ e. (Decides-eqb a b).1 (sym ((Decides-eqb b a).0 e)))
@@ -118,8 +121,11 @@ added-linked old new s from to linked unique none a =
     (λ g e. ap (λ o. nat_eq (option_map_or (λ (l : Links). l.next) o g).string s) (absent old s none g e) ∙ e)
     (λ g e. ap (λ o. nat_eq (option_map_or (λ (l : Links). l.prev) o g).string s) (absent old s none g e) ∙ e)
 
-pub removed : (old new : Rows) (s : ℕ) → ((q : ℕ) → lookup (nat_eq q) new ≡ cond (nat_eq s q) None (lookup (nat_eq q) old)) → RemovesLoose s old new
-removed old new s put = record {
+pub removed : (old new : Rows) (s : ℕ) → has_string old s ≡ true → new ≡ swap_remove_entry (nat_eq s) old → ((q : ℕ) → lookup (nat_eq q) new ≡ cond (nat_eq s q) None (lookup (nat_eq q) old)) → RemovesLoose s old new
+removed old new s there swapped put = record {
+  strings =
+    let gone : has_string new s ≡ false = ap is_some (put s) ∙ ap (λ b. is_some (cond b None (lookup (nat_eq s) old))) ((Decides-eqb s s).1 refl) in
+    subst (λ l. IsPermutation (strings old) (s ∷ strings l)) (sym swapped) (swapped-out old s there (ap (λ l. has_string l s) (sym swapped) ∙ gone));
   next = λ g. read old new s None put (λ o. option_map_or (λ (l : Links). l.next) o g) g;
   prev = λ g. read old new s None put (λ o. option_map_or (λ (l : Links). l.prev) o g) g;
   origin = λ g. read old new s None put (λ o. option_map_or (λ (l : Links). l.origin) o 0) g;

@@ -1,9 +1,15 @@
 -- Which strings and which halves a table holds.
-use Rattle.std.proofs.Common.{◌≡◌, ℕ, List, [], ◌∷◌, ◌++◌, Bool, true, false, cond, ◌&&◌, ◌||◌, refl, sym, ap, ◌∙◌, Option, Some, None, is_some, option_map, true≢false, nat_eq, if◌then◌else◌}
+use Rattle.std.proofs.Common.{◌≡◌, ℕ, List, [], ◌∷◌, ◌++◌, Bool, true, false, cond, ◌&&◌, ◌||◌, refl, sym, ap, ◌∙◌, Option, Some, None, is_some, option_map, true≢false, nat_eq, if◌then◌else◌, length, get_or, ◌<◌, subst}
 use Rattle.std.specs.Bool.{beq}
-use Rattle.std.specs.List.{IsDistinct, AllByRecursion, list_any}
+use Rattle.std.proofs.lemmas.Bool.Decides.{Decides-eqb}
+use Rattle.std.proofs.lemmas.List.{length-map, get_or-map, get_or_default}
+use Rattle.std.proofs.lemmas.List.Quantifiers.{position-Some}
+use Rattle.std.proofs.lemmas.List.Sorted.{IsPermutation-swap_remove, IsPermutation-map}
+use Rattle.std.specs.List.{IsDistinct, AllByRecursion, list_any, position, swap_remove}
+use Rattle.std.specs.List.Sorted.{IsPermutation}
 use Rattle.std.specs.Map.{lookup, keys_of}
-use Rattle.indexmap.specs.IndexMap.{insert_entry}
+use Rattle.indexmap.specs.IndexMap.{insert_entry, swap_remove_entry}
+use Rattle.indexmap.proofs.MapLemmas.{swap_remove_entry-found, swap_remove_entry-missing}
 use Rattle.half_table.specs.declared.half.Half.{Half}
 use Rattle.half_table.specs.declared.links.Ends.{Ends}
 use Rattle.half_table.specs.Half.{forward_of, backward_of}
@@ -27,6 +33,24 @@ keys-insert_entry (e ∷ es) s v none = by (keys-insert_entry es s v) (nat_eq s 
     by ih false p =
         let later : lookup (nat_eq s) es ≡ None = sym (ap (λ b. cond b (Some e.1) (lookup (nat_eq s) es)) p) ∙ none in
         ap (λ b. keys_of (if b then (e.0, v) ∷ es else e ∷ insert_entry nat_eq es s v)) p ∙ ap (λ ks. e.0 ∷ ks) (ih later)
+
+-- a string that is taken out, the last taking its place
+pub swapped-out : (es : Rows) (s : ℕ) → has_string es s ≡ true → has_string (swap_remove_entry (nat_eq s) es) s ≡ false → IsPermutation (strings es) (s ∷ strings (swap_remove_entry (nat_eq s) es))
+swapped-out [] s there gone = absurd (true≢false (sym there))
+swapped-out (e ∷ es) s there gone = by (position (nat_eq s) (keys_of (e ∷ es))) refl
+  where
+    by : (o : Option ℕ) → position (nat_eq s) (keys_of (e ∷ es)) ≡ o → IsPermutation (strings (e ∷ es)) (s ∷ strings (swap_remove_entry (nat_eq s) (e ∷ es)))
+    by None p = absurd (true≢false (sym there ∙ ap (λ l. has_string l s) (sym (swap_remove_entry-missing (nat_eq s) (e ∷ es) p)) ∙ gone))
+    by (Some i) p =
+        let at = position-Some (nat_eq s) (keys_of (e ∷ es)) i s p in
+        let below : i < length (keys_of (e ∷ es)) = at.0 in
+        let within : i < length (e ∷ es) = subst (λ n. i < n) (length-map (e ∷ es) (λ (x : ℕ × Ends). x.0)) below in
+        let x : ℕ × Ends = get_or (e ∷ es) i e in
+        let moves : IsPermutation (e ∷ es) (x ∷ swap_remove (e ∷ es) i x) = IsPermutation-swap_remove (e ∷ es) i x within (get_or_default (e ∷ es) i e x within) in
+        let key : x.0 ≡ s = sym (get_or-map (λ (y : ℕ × Ends). y.0) (e ∷ es) i e s within) ∙ sym ((Decides-eqb s (get_or (keys_of (e ∷ es)) i s)).0 at.1) in
+        subst (λ l. IsPermutation (strings (e ∷ es)) (s ∷ strings l)) (sym (swap_remove_entry-found (nat_eq s) (e ∷ es) i x p))
+          (subst (λ k. IsPermutation (strings (e ∷ es)) (k ∷ strings (swap_remove (e ∷ es) i x))) key
+            (IsPermutation-map (λ (y : ℕ × Ends). y.0) (e ∷ es) (x ∷ swap_remove (e ∷ es) i x) moves))
 
 -- a half is there where its string is
 pub has-string : (rows : Rows) (h : Half) → has rows h ≡ has_string rows h.string

@@ -1,5 +1,6 @@
 -- What each call that changes a table makes of its rows and of its cycles.
 use Rattle.std.specs.Prelude.{◌≡◌, ℕ, true, false, List, [], ◌∷◌, ◌++◌, nat_eq, if◌then◌else◌, ◌↔◌, ◌⊎◌}
+use Rattle.std.specs.List.Sorted.{IsPermutation}
 use Rattle.cad_rows.specs.declared.names.Face.{Face}
 use Rattle.cad_rows.specs.declared.names.Face.TheVariants.{Outside}
 use Rattle.half_table.specs.declared.half.Half.{Half}
@@ -70,6 +71,7 @@ pub record IsLoose (s : ℕ) (rows : Rows) : Type 0 where
 
 -- a string is gone, and nothing else has changed
 pub record RemovesLoose (s : ℕ) (old new : Rows) : Type 0 where
+  pub strings : IsPermutation (strings old) (s ∷ strings new)
   pub has : (g : Half) → has new g ≡ (if nat_eq g.string s then false else has old g)
   pub next : (g : Half) → next new g ≡ (if nat_eq g.string s then g else next old g)
   pub prev : (g : Half) → prev new g ≡ (if nat_eq g.string s then g else prev old g)
