@@ -7,6 +7,7 @@ pub use Rattle.cad_rings.proofs.SideLemmas.{sides_along-append, sides_along-reve
 pub use Rattle.cad_rings.proofs.CornerLemmas.{corners_of_chain-append, corners_of_chain-reverse, length-corners_of, corners_of-turned, corners_of-same, corners_of-reversed}
 pub use Rattle.cad_rings.proofs.Parts.{IsParted, parted}
 pub use Rattle.cad_rings.proofs.CutLemmas.{IsCut, cut, sides_of-cut, ring_sum-cut, length-cut}
+pub use Rattle.cad_rings.proofs.CutElsewhere.{stretch-same, left_ring-same, right_ring-same}
 pub use Rattle.cad_rings.proofs.JoinLemmas.{IsJoined, is_joined, sides_of-joined, ring_sum-joined, length-joined, HaveChainInCommon-cut, joined-cut, IsCutBack, cut-joined}
 pub use Rattle.cad_rings.proofs.CutCorners.{corners_of-cut, corners_of-joined}
 pub use Rattle.cad_rings.proofs.AnchorLemmas.{anchor_of-same, anchor_of-least_rotation, anchor_of-reversed, anchor_of-at_most, anchor_of-Contains}

@@ -1,11 +1,11 @@
 -- Worked rings, computed.
-use Rattle.std.proofs.Common.{◌≡◌, ℕ, refl, [], ◌∷◌, pos, negsuc, lit<, true, false}
+use Rattle.std.proofs.Common.{◌≡◌, ℕ, refl, [], ◌∷◌, pos, negsuc, lit<, true, false, lit≤, arith}
 use Rattle.std.specs.Prelude.{◌==◌, if◌then◌else◌}
 use Rattle.geo_exact.specs.Position.{Position}
 use Rattle.geo_exact.specs.Measure.{doubled_area}
 use Rattle.cad_rings.specs.Cycle.{Ring, sides_of, has_side, times_along, times_through, corners_of, anchor_of, ring_sum}
 use Rattle.cad_rings.specs.Shown.{comes_first, rotations, least_rotation}
-use Rattle.cad_rings.specs.Surgery.{reversed, sides_of_chain, both_ways, stretch, chain_across, left_ring, right_ring, chain_from, HaveChainInCommon, joined, put_on, without}
+use Rattle.cad_rings.specs.Surgery.{reversed, sides_of_chain, both_ways, stretch, chain_across, AreSamePlaces, left_ring, right_ring, chain_from, HaveChainInCommon, joined, put_on, without}
 
 -- the square 1 2 3 4 with sides of a metre, with a point 5 on its diagonal's other side
 abbrev square : Ring
@@ -118,6 +118,20 @@ stretches = refl
 -- a ring that passes 1 twice, cut at its second passage
 second_passage : left_ring 3 5 [] (1 ∷ 2 ∷ 3 ∷ 1 ∷ 4 ∷ 5 ∷ []) ≡ 1 ∷ 5 ∷ 1 ∷ 2 ∷ 3 ∷ []
 second_passage = refl
+
+-- the places of 1 and 3, in the square and in the square written from 3 on
+places_elsewhere : AreSamePlaces 0 2 square 2 0 (3 ∷ 4 ∷ 1 ∷ 2 ∷ [])
+places_elsewhere = record {
+  same = record { place = 2; within = lit≤ tt; is = refl };
+  two = record { first = lit< tt; second = lit< tt; apart = λ e. absurd (omega arith) };
+  two_there = record { first = lit< tt; second = lit< tt; apart = λ e. absurd (omega arith) };
+  first = (1, 2);
+  first_here = record { within = lit< tt; is = refl; once = refl };
+  first_there = record { within = lit< tt; is = refl; once = refl };
+  second = (3, 4);
+  second_here = record { within = lit< tt; is = refl; once = refl };
+  second_there = record { within = lit< tt; is = refl; once = refl };
+}
 
 -- ---- The parts joined again
 

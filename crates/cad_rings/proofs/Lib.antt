@@ -8,6 +8,7 @@ pub mod SidesInTurn
 pub mod CornerLemmas
 pub mod Parts
 pub mod CutLemmas
+pub mod CutElsewhere
 pub mod JoinLemmas
 pub mod CutCorners
 pub mod AnchorLemmas

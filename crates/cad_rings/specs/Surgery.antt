@@ -1,6 +1,6 @@
 -- Cutting a ring by a chain, joining two rings along one, and points put in and taken out.
-use Rattle.std.specs.Prelude.{◌≡◌, ◌≢◌, ℕ, ◌+◌, ◌<◌, not, ◌==◌, nat_lt, List, [], ◌∷◌, ◌++◌, length, take, drop, reverse, filter, slice_range, slice_index, flat_map, if◌then◌else◌, IsPermutation}
-use Rattle.cad_rings.specs.Cycle.{Ring, Side, is_side, opposite, sides_of, Corner, corner_back, corners_along, corners_of, turned}
+use Rattle.std.specs.Prelude.{◌≡◌, ◌≢◌, ℕ, ◌+◌, ◌<◌, not, ◌==◌, nat_lt, List, [], ◌∷◌, ◌++◌, length, take, drop, reverse, filter, slice_range, slice_index, slice_index_or, flat_map, if◌then◌else◌, IsPermutation}
+use Rattle.cad_rings.specs.Cycle.{Ring, Side, is_side, opposite, sides_of, times_along, Corner, corner_back, corners_along, corners_of, turned, IsSameRing}
 
 -- the ring in the other direction
 abbrev pub reversed : Ring → Ring
@@ -42,15 +42,33 @@ pub record AreTwoPlaces (i j : ℕ) (ring : Ring) : Type 0 where
   pub second : j < length ring
   pub apart : i ≢ j
 
+-- the side leads from place i of the ring, and the ring goes along it once
+pub record LeavesOnce (i : ℕ) (s : Side) (ring : Ring) : Type 0 where
+  pub within : i < length ring
+  pub is : slice_index_or (sides_of ring) i s ≡ s
+  pub once : times_along s ring ≡ 1
+
+-- Places i and j of a ring are places k and l of the same ring written from another point on: the same two sides lead from them.
+pub record AreSamePlaces (i j : ℕ) (r : Ring) (k l : ℕ) (s : Ring) : Type 0 where
+  pub same : IsSameRing r s
+  pub two : AreTwoPlaces i j r
+  pub two_there : AreTwoPlaces k l s
+  pub first : Side
+  pub first_here : LeavesOnce i first r
+  pub first_there : LeavesOnce k first s
+  pub second : Side
+  pub second_here : LeavesOnce j second r
+  pub second_there : LeavesOnce l second s
+
 -- the two corners that a side from a corner's point to w makes of the corner
 abbrev pub parted_by : ℕ → Corner → List Corner
 parted_by w c = record { before = c.before; at = c.at; after = w } ∷ record { before = w; at = c.at; after = c.after } ∷ []
 
--- what is left of that chain: the chain, and the ring from the chain's end back to its beginning
+-- what is left of the chain across: the chain, and the ring from the chain's end back to its beginning
 abbrev pub left_ring : ℕ → ℕ → List ℕ → Ring → Ring
 left_ring i j inner ring = slice_index ring i ∷ inner ++ stretch j i ring
 
--- what is right of it: the chain backwards, and the ring from the chain's beginning to its end
+-- what is right of the chain across: the chain backwards, and the ring from the chain's beginning to its end
 abbrev pub right_ring : ℕ → ℕ → List ℕ → Ring → Ring
 right_ring i j inner ring = slice_index ring j ∷ reverse inner ++ stretch i j ring
 

@@ -6,7 +6,7 @@ ghost use Rattle.geo_exact.specs.Position.{Position};
 ghost use Rattle.geo_exact.specs.Measure.{Measure, IsOdd};
 ghost use Rattle.cad_rings.specs.Cycle.{Ring, Side, opposite, sides_of, times_along, times_through, Corner, corner_back, corners_of, turned, corner_at, IsSameRing, anchor_of, ring_sum};
 ghost use Rattle.cad_rings.specs.Shown.{comes_first, least_rotation};
-ghost use Rattle.cad_rings.specs.Surgery.{reversed, sides_of_chain, both_ways, corners_of_chain, corners_both_ways, parted_by, chain_across, AreTwoPlaces, left_ring, right_ring, chain_from, HaveChainInCommon, joined, put_on, halves_by, without, StandsBetween};
+ghost use Rattle.cad_rings.specs.Surgery.{reversed, sides_of_chain, both_ways, corners_of_chain, corners_both_ways, parted_by, chain_across, AreTwoPlaces, AreSamePlaces, left_ring, right_ring, chain_from, HaveChainInCommon, joined, put_on, halves_by, without, StandsBetween};
 
 /// To be the same ring is an equivalence, and each turn of a ring is the same ring.
 pub fn same_ring()
@@ -88,6 +88,15 @@ pub fn cut_adds_up()
         → ring_sum f position (left_ring i j inner ring) +ℤ ring_sum f position (right_ring i j inner ring) ≡ ring_sum f position ring }
     ensures length { (i j : ℕ) (inner : List ℕ) (ring : Ring) → AreTwoPlaces i j ring
         → length (left_ring i j inner ring) + length (right_ring i j inner ring) ≡ length ring + 2 * (length inner + 1) }
+{}
+
+/// Where the sides that lead from two places stand once in a ring, a cut there gives the same two lists, wherever the
+/// ring is written from.
+pub fn cut_elsewhere()
+    ensures left { (inner : List ℕ) (i j : ℕ) (r : Ring) (k l : ℕ) (s : Ring) → AreSamePlaces i j r k l s
+        → left_ring i j inner r ≡ left_ring k l inner s }
+    ensures right { (inner : List ℕ) (i j : ℕ) (r : Ring) (k l : ℕ) (s : Ring) → AreSamePlaces i j r k l s
+        → right_ring i j inner r ≡ right_ring k l inner s }
 {}
 
 /// Two rings with a chain in common have the sides of the ring round both, and those of the chain both ways. So they

@@ -124,8 +124,8 @@ added-linked old new s from to linked unique none a =
 pub removed : (old new : Rows) (s : ℕ) → has_string old s ≡ true → new ≡ swap_remove_entry (nat_eq s) old → ((q : ℕ) → lookup (nat_eq q) new ≡ cond (nat_eq s q) None (lookup (nat_eq q) old)) → RemovesLoose s old new
 removed old new s there swapped put = record {
   strings =
-    let gone : has_string new s ≡ false = ap is_some (put s) ∙ ap (λ b. is_some (cond b None (lookup (nat_eq s) old))) ((Decides-eqb s s).1 refl) in
-    subst (λ l. IsPermutation (strings old) (s ∷ strings l)) (sym swapped) (swapped-out old s there (ap (λ l. has_string l s) (sym swapped) ∙ gone));
+      let gone : has_string new s ≡ false = ap is_some (put s) ∙ ap (λ b. is_some (cond b None (lookup (nat_eq s) old))) ((Decides-eqb s s).1 refl) in
+      subst (λ l. IsPermutation (strings old) (s ∷ strings l)) (sym swapped) (swapped-out old s there (ap (λ l. has_string l s) (sym swapped) ∙ gone));
   next = λ g. read old new s None put (λ o. option_map_or (λ (l : Links). l.next) o g) g;
   prev = λ g. read old new s None put (λ o. option_map_or (λ (l : Links). l.prev) o g) g;
   origin = λ g. read old new s None put (λ o. option_map_or (λ (l : Links). l.origin) o 0) g;

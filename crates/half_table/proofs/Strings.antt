@@ -49,8 +49,8 @@ swapped-out (e ∷ es) s there gone = by (position (nat_eq s) (keys_of (e ∷ es
         let moves : IsPermutation (e ∷ es) (x ∷ swap_remove (e ∷ es) i x) = IsPermutation-swap_remove (e ∷ es) i x within (get_or_default (e ∷ es) i e x within) in
         let key : x.0 ≡ s = sym (get_or-map (λ (y : ℕ × Ends). y.0) (e ∷ es) i e s within) ∙ sym ((Decides-eqb s (get_or (keys_of (e ∷ es)) i s)).0 at.1) in
         subst (λ l. IsPermutation (strings (e ∷ es)) (s ∷ strings l)) (sym (swap_remove_entry-found (nat_eq s) (e ∷ es) i x p))
-          (subst (λ k. IsPermutation (strings (e ∷ es)) (k ∷ strings (swap_remove (e ∷ es) i x))) key
-            (IsPermutation-map (λ (y : ℕ × Ends). y.0) (e ∷ es) (x ∷ swap_remove (e ∷ es) i x) moves))
+        (subst (λ k. IsPermutation (strings (e ∷ es)) (k ∷ strings (swap_remove (e ∷ es) i x))) key
+        (IsPermutation-map (λ (y : ℕ × Ends). y.0) (e ∷ es) (x ∷ swap_remove (e ∷ es) i x) moves))
 
 -- a half is there where its string is
 pub has-string : (rows : Rows) (h : Half) → has rows h ≡ has_string rows h.string

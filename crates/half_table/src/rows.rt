@@ -1,7 +1,7 @@
 //! The rows of a table: under the number of each string the links of its two halves.
 ghost use Rattle.std.specs.Prelude.{◌≡◌, true, Some, nat_eq};
 ghost use Rattle.indexmap.specs.IndexMap.{ContainsKey, Updates};
-ghost use Rattle.half_table.specs.Rows.{strings, links_of, has, next, prev};
+ghost use Rattle.half_table.specs.Rows.{strings, links_of, has, next};
 ghost use Rattle.half_table.specs.Writes.{ChangesNext, ChangesPrev, ChangesFace};
 
 use crate::half::Half;
@@ -25,16 +25,6 @@ pub(crate) fn next_half(rows: &Rows, h: &Half) -> Half
 {
     match find_links(rows, h) {
         Some(links) => links.next,
-        None => *h,
-    }
-}
-
-/// The half that is followed, and of a half that isn't there itself.
-pub(crate) fn prev_half(rows: &Rows, h: &Half) -> Half
-    ensures { result ≡ prev rows.now.entries h.now }
-{
-    match find_links(rows, h) {
-        Some(links) => links.prev,
         None => *h,
     }
 }
