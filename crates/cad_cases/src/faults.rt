@@ -53,6 +53,8 @@ struct ByteByByte {
 }
 
 impl Sink for ByteByByte {
+    ghost use Rattle.std.specs.Prelude.{Some};
+
     ghost taken = { λ s. Some s.inner.bytes };
 
     ghost failures = { λ s. s.inner.failures };
