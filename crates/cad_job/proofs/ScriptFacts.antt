@@ -1,5 +1,5 @@
 -- One record more of a script.
-use Rattle.std.proofs.Common.{◌≡◌, ◌∙◌, sym, ap, refl, ℕ, List, [], ◌∷◌, ◌++◌, append-nil, append_assoc, subst}
+use Rattle.std.proofs.Common.{◌∙◌, sym, ap, refl, ℕ, List, [], ◌∷◌, ◌++◌, append-nil, append_assoc, subst}
 use Rattle.cad_history.specs.History.{History}
 use Rattle.cad_files.specs.Line.{line_of}
 use Rattle.cad_job.specs.Jobs.{IsAnswered, AreAnswered}

@@ -1,5 +1,5 @@
 -- The records of a job have seven fields.
-use Rattle.std.proofs.Common.{◌≡◌, ◌≢◌, ◌∙◌, sym, ap, refl, ℕ, List, [], ◌∷◌, ◌++◌, length, Option, Some, None, option_map, All, inl, inr, arith, nat_eq}
+use Rattle.std.proofs.Common.{◌≡◌, ◌≢◌, ◌∙◌, sym, refl, ℕ, List, [], ◌∷◌, ◌++◌, length, Option, Some, None, All, inl, inr, arith, nat_eq}
 use Rattle.std.proofs.lemmas.Bool.{cases_Bool}
 use Rattle.std.proofs.lemmas.List.Folds.{fold_stays}
 use Rattle.csv.specs.Reading.{expected_len}
@@ -7,7 +7,7 @@ use Rattle.csv.specs.declared.reader.Reader.{Reader}
 use Rattle.cad_files.specs.Input.{HasRead}
 use Rattle.cad_files.specs.Record.{seven_of}
 use Rattle.cad_files.specs.Rows.{Rows}
-use Rattle.cad_files.specs.Plan.{plan_of, plan_step, first_step, version_of, beginning, opened, faulty}
+use Rattle.cad_files.specs.Plan.{plan_of, plan_step, beginning, opened, faulty}
 use Rattle.cad_files.specs.declared.faults.PlanFault.TheVariants as faults
 use Rattle.std.proofs.lemmas.Bool.{eqb-false, eqb-true}
 

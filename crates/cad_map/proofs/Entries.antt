@@ -1,6 +1,6 @@
 -- Entries of a table, each with its row under the row's number, beside the list of the rows.
-use Rattle.std.proofs.Common.{◌≡◌, ℕ, List, [], ◌∷◌, ◌++◌, Bool, true, false, cond, not, nat_eq, map, filter, refl, sym, ap, ◌∙◌, true≢false, Option, Some, None, is_some, zero, suc, take, slice_get, subst, ◌+◌, add-one}
-use Rattle.std.specs.Prelude.{find, if◌then◌else◌}
+use Rattle.std.proofs.Common.{◌≡◌, ℕ, List, [], ◌∷◌, ◌++◌, Bool, true, false, cond, not, nat_eq, refl, sym, ap, ◌∙◌, true≢false, Option, Some, None, is_some, zero, suc, take, slice_get, subst, ◌+◌, add-one}
+use Rattle.std.specs.Prelude.{if◌then◌else◌}
 use Rattle.std.specs.Map.{lookup, keys_of, values_of, remove_entry}
 use Rattle.std.specs.List.{AllByRecursion, IsDistinct}
 use Rattle.std.proofs.lemmas.Cmp.{nat_eq_equiv}

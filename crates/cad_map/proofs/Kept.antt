@@ -17,13 +17,13 @@ use Rattle.cad_rows.specs.declared.refusals.Refusal.{Refusal}
 use Rattle.cad_rows.specs.declared.refusals.Refusal.TheVariants as told
 use Rattle.cad_rows.specs.declared.rows.PointRow.{PointRow}
 use Rattle.cad_rows.specs.declared.rows.SourceRow.{SourceRow}
-use Rattle.cad_map.specs.Map.{Map, point_of, has_point, has_source}
-use Rattle.cad_map.specs.Table.{row_with, with_row}
-use Rattle.cad_map.specs.Valid.{AreNumbers, AreSources, HasSoundRows, IsSound, IsValid, EachPair}
-use Rattle.cad_map.specs.Refusals.{when, first_of, range, unknown, taken, already_attached, full, first_refusal, named, given, is_there, item_named, sources_at, is_attached}
-use Rattle.cad_map.specs.Effects.{after, with_point, change_point, change_sources}
+use Rattle.cad_map.specs.Map.{Map, point_of, has_source}
+use Rattle.cad_map.specs.Table.{row_with}
+use Rattle.cad_map.specs.Valid.{AreNumbers, AreSources, HasSoundRows, IsSound, IsValid}
+use Rattle.cad_map.specs.Refusals.{when, first_of, range, unknown, taken, already_attached, full, first_refusal, given, is_there, item_named, sources_at}
+use Rattle.cad_map.specs.Effects.{after, with_point, change_point}
 use Rattle.cad_map.specs.Asked.{GivesInRange}
-use Rattle.cad_map.proofs.Lists.{All-push, All-filter, All-map, All-follows, EachPair-push, EachPair-filter-map, All-filter-map, map-push, others-from_none, found-push, map-with_row, length-with_row, All-with_row, length-without_row}
+use Rattle.cad_map.proofs.Lists.{All-push, All-filter, All-follows, EachPair-push, EachPair-filter-map, All-filter-map, map-push, others-from_none, found-push, map-with_row, length-with_row, All-with_row, length-without_row}
 
 -- ---- None of the rows applies
 

@@ -1,4 +1,4 @@
-use Rattle.std.proofs.Common.{◌∙◌, ap, sym}
+use Rattle.std.proofs.Common.{◌∙◌, ap}
 use Rattle.std.specs.Prelude.{is_some, true, ◌≡◌}
 use Rattle.cad_map.proofs.Entries.{AreNumbered-insert_entry, values_of-insert_entry}
 use Rattle.cad_map.specs.Table.{row_with, with_row}
