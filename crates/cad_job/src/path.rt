@@ -1,4 +1,7 @@
 //! A job in a file.
+ghost use Rattle.std.specs.Prelude.{◌≡◌, OnOk, IsErrOf};
+ghost use Rattle.cad_files.specs.Sinks.{counted};
+
 use crate::faults::JobFault;
 use crate::job::run_job;
 use cad_files::Sink;
@@ -14,6 +17,9 @@ pub fn run_path<R: Files + AllocGlobal, S: Sink>(
 ) -> Result<(), JobFault>
 where
     R::File: Drop,
+    // A write fault comes only of a failed call of the sink.
+    ensures write { IsErrOf result JobFault.Write → S.failures sink.new ≡ counted (S.failures sink.old) }
+    ensures quiet { OnOk result (S.failures sink.new ≡ S.failures sink.old) }
 {
     match fs::open(rt, path) {
         Ok(file) => run_job(rt.alloc(), file, sink, depth),
