@@ -4,6 +4,7 @@ use Rattle.std.specs.Prelude.{◌==◌, if◌then◌else◌}
 use Rattle.geo_exact.specs.Position.{Position}
 use Rattle.geo_exact.specs.Measure.{doubled_area}
 use Rattle.cad_rings.specs.Cycle.{Ring, sides_of, has_side, times_along, times_through, corners_of, anchor_of, ring_sum}
+use Rattle.cad_rings.specs.Positions.{position_in}
 use Rattle.cad_rings.specs.Shown.{comes_first, rotations, least_rotation}
 use Rattle.cad_rings.specs.Surgery.{reversed, sides_of_chain, both_ways, stretch, chain_across, AreSamePlaces, left_ring, right_ring, chain_from, HaveChainInCommon, joined, put_on, without}
 
@@ -185,3 +186,17 @@ area_of_left = refl
 
 area_of_right : ring_sum doubled_area position (right_ring 0 2 (5 ∷ []) square) ≡ pos 1200000
 area_of_right = refl
+
+-- ---- Positions
+
+abbrev here : Position
+here = record { x = pos 7; y = pos 8 }
+
+abbrev there : Position
+there = record { x = pos 500; y = pos 500 }
+
+first_entry : position_in ((2, there) ∷ (1, here) ∷ (1, there) ∷ []) 1 ≡ here
+first_entry = refl
+
+no_entry : position_in ((1, here) ∷ []) 2 ≡ record { x = pos 0; y = pos 0 }
+no_entry = refl

@@ -17,4 +17,6 @@ pub mod Without
 pub mod PointCorners
 pub mod Placed
 pub mod CallerLemmas
+mod ShownSteps
+pub mod InMemory
 mod Examples

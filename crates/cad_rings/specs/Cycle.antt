@@ -1,5 +1,5 @@
 -- A ring is a cyclic list of point numbers, written from any of its points on.
-use Rattle.std.specs.Prelude.{◌≡◌, ℕ, ◌≤◌, min, Bool, ◌&&◌, ◌==◌, List, [], ◌∷◌, ◌++◌, take, drop, length, map, fold, count_by, reverse, slice_index}
+use Rattle.std.specs.Prelude.{◌≡◌, ℕ, ◌≤◌, min, Bool, ◌&&◌, ◌==◌, List, [], ◌∷◌, ◌++◌, take, drop, length, map, fold, count_by, reverse, slice_index, find, Option, option_map}
 use Rattle.std.specs.List.{list_any}
 use Rattle.geo_exact.specs.Position.{Position}
 use Rattle.geo_exact.specs.Measure.{Measure, sum_over}
@@ -67,6 +67,10 @@ abbrev pub corners_of : Ring → List Corner
 corners_of [] = []
 corners_of (a ∷ []) = []
 corners_of (a ∷ b ∷ points) = corners_along a b (points ++ a ∷ b ∷ [])
+
+-- the point that the ring passes after a side: of several times that it goes along it, after the first
+abbrev pub after_side : Side → Ring → Option ℕ
+after_side s ring = option_map (λ c. c.after) (find (λ c. is_side s (c.before, c.at)) (corners_of ring))
 
 -- ---- One ring, written from any of its points
 

@@ -1,12 +1,19 @@
 //! Rings in memory.
 ghost use Rattle.std.specs.Prelude.{◌≡◌, ◌≤◌, length, IfOk};
-ghost use Rattle.cad_rings.specs.Cycle.{sides_of, anchor_of};
+ghost use Rattle.cad_rings.specs.Cycle.{sides_of, has_side as has_side_of, after_side as after_side_of, anchor_of};
+ghost use Rattle.cad_rings.specs.Shown.{least_rotation};
 ghost use Rattle.cad_rings.specs.SidesLeft.{sides_left};
 
+mod sum;
+mod surgery;
+
+use crate::corners::{after_side, has_side};
+use crate::shown::least_place;
 use crate::sides::Sides;
 use cad_rows::{Memory, PointNo};
 use std::alloc::Global;
 use std::marker::Model;
+pub use sum::RING_LIMIT;
 
 /// A cyclic list of two points or more, with the parcel to its left.
 #[derive(Debug, Drop)]
@@ -58,11 +65,36 @@ impl Ring {
         self.points.as_slice()
     }
 
+    /// Writes the ring from the point on from which it comes before all its other rotations, by point numbers. Takes no
+    /// memory.
+    pub fn show(&mut self)
+        ensures shown { self.new ≡ least_rotation self.old }
+        ensures at_least_two { 2 ≤ length self.new }
+    {
+        let place = least_place(self.points.as_slice());
+        self.points.as_mut_slice().rotate_left(place);
+    }
+
     /// The sides, of which the last leads back to the first point.
     pub fn sides(&self) -> Sides<'_>
         ensures { sides_left result ≡ sides_of self.now }
     {
         Sides::of(self.points.as_slice())
+    }
+
+    /// Whether the ring has the side from one point to another.
+    pub fn has_side(&self, from: PointNo, to: PointNo) -> bool
+        ensures { result ≡ has_side_of (from, to) (sides_of self.now) }
+    {
+        has_side(self.points.as_slice(), from, to)
+    }
+
+    /// The point that comes after the side from one point to another, and `None` where the ring doesn't have that side.
+    /// Of several times that the ring goes along the side, it is the point after the first.
+    pub fn after(&self, from: PointNo, to: PointNo) -> Option<PointNo>
+        ensures { result ≡ after_side_of (from, to) self.now }
+    {
+        after_side(self.points.as_slice(), from, to)
     }
 
     /// The least of its point numbers.

@@ -13,8 +13,8 @@ pub struct Sides<'a> {
     given: usize,
 }
 
-// The side from the point at a place on.
-fn side_at(points: &[PointNo], place: usize) -> (PointNo, PointNo)
+/// The side from the point at a place on.
+pub(crate) fn side_at(points: &[PointNo], place: usize) -> (PointNo, PointNo)
     requires { place < length points.now }
     ensures { drop place (sides_of points.now) ≡ result ∷ drop (place + 1) (sides_of points.now) }
 {
