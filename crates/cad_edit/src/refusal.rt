@@ -5,7 +5,7 @@ ghost use Rattle.cad_rows.specs.Limits.{source_limit};
 ghost use Rattle.geo_exact.specs.Position.{in_range};
 ghost use Rattle.cad_map.specs.Map.{Map, point_of};
 ghost use Rattle.cad_map.specs.Valid.{IsValid};
-ghost use Rattle.cad_map.specs.Refusals.{range, unknown, taken, already_attached, full, first_refusal as first_refusal_of, is_there, item_named, sources_at, is_attached};
+ghost use Rattle.cad_map.specs.Refusals.{range, unknown, taken, not_free, already_attached, full, first_refusal as first_refusal_of, is_there, item_named, sources_at, is_attached};
 
 use cad_map::MapView;
 use cad_rows::{Edit, Item, Name, Numbers, ROW_LIMIT, Refusal, SOURCE_LIMIT, SourceNo};
@@ -24,6 +24,9 @@ pub fn first_refusal<M: MapView>(map: &M, edit: &Edit) -> Option<Refusal>
         return Some(refusal);
     }
     if let Some(refusal) = taken_row(map, edit) {
+        return Some(refusal);
+    }
+    if let Some(refusal) = not_free_row(map, edit) {
         return Some(refusal);
     }
     if let Some(refusal) = already_attached_row(map, edit) {
@@ -59,8 +62,9 @@ fn is_known<M: MapView>(map: &M, name: &Name) -> bool
 {
     match name {
         Name::Point(no) => map.point(*no).is_some(),
+        Name::String(no) => map.string(*no).is_some(),
+        Name::Parcel(no) => map.parcel(*no).is_some(),
         Name::Source(no) => map.source(*no).is_some(),
-        Name::String(_) | Name::Parcel(_) => false,
     }
 }
 
@@ -133,6 +137,23 @@ fn taken_row<M: MapView>(map: &M, edit: &Edit) -> Option<Refusal>
     }
 }
 
+/// A point that has to be on no string is on one.
+fn not_free_row<M: MapView>(map: &M, edit: &Edit) -> Option<Refusal>
+    ensures { result ≡ not_free (M.map map.now) edit.now }
+{
+    match edit {
+        Edit::DropPoint { point } => {
+            let no = *point;
+            if map.degree(no) == 0 {
+                None
+            } else {
+                Some(Refusal::NotFree(no))
+            }
+        }
+        _ => None,
+    }
+}
+
 /// The sources of an item that is there.
 fn sources_of<M: MapView>(map: &M, item: Item) -> Option<&Numbers<SourceNo>>
     ensures { unwrap_or (option_copied result) [] ≡ sources_at (M.map map.now) item }
@@ -142,7 +163,14 @@ fn sources_of<M: MapView>(map: &M, item: Item) -> Option<&Numbers<SourceNo>>
             let row = map.point(no)?;
             Some(&row.sources)
         }
-        Item::String(_) | Item::Parcel(_) => None,
+        Item::String(no) => {
+            let row = map.string(no)?;
+            Some(&row.sources)
+        }
+        Item::Parcel(no) => {
+            let row = map.parcel(no)?;
+            Some(&row.sources)
+        }
     }
 }
 

@@ -1,12 +1,16 @@
 //! A plain map that can be edited. Its records are two whole maps.
 ghost use Rattle.std.specs.Prelude.{◌≡◌, ◌++◌, ◌∷◌, [], None, IfOk, OnOk};
 ghost use Rattle.cad_map.specs.Refusals.{first_refusal as first_refusal_of};
-ghost use Rattle.cad_map.specs.Effects.{after, change_sources};
+ghost use Rattle.cad_map.specs.Changes.{change_sources, change_point, change_string, change_parcel};
+ghost use Rattle.cad_map.specs.Effects.{after};
 ghost use Rattle.cad_map.specs.Asked.{GivesInRange};
 
 use crate::refusal::first_refusal;
 use cad_map::{Counts, MapStore, MapView, PlainMap};
-use cad_rows::{Edit, Item, Memory, Numbers, PointNo, PointRow, Refusal, SourceNo, SourceRow};
+use cad_rows::{
+    Edit, Face, Item, Memory, Numbers, ParcelNo, ParcelRow, PointNo, PointRow, Refusal, SourceNo,
+    SourceRow, StringNo, StringRow,
+};
 use cad_valid::first_broken;
 use geo_exact::Pt;
 
@@ -24,26 +28,81 @@ pub struct PlainStore {
 }
 
 impl MapView for PlainStore {
+    ghost use Rattle.cad_map.specs.Map.{face_at, point_after};
+    ghost use Rattle.cad_map.specs.Views.{faces_beside};
+
     ghost map = { λ store. store.map };
+
+    ghost rings = { λ store. store.map.boundaries };
+
+    ghost told_face = { λ store side. face_at store.map side };
+
+    ghost told_after = { λ store side. point_after side store.map.boundaries };
+
+    ghost told_faces = { λ store number. faces_beside store.map number };
 
     fn counts(&self) -> Counts {
         self.map.counts()
-    }
-
-    fn point_at(&self, place: usize) -> Option<&PointRow> {
-        self.map.point_at(place)
     }
 
     fn source_at(&self, place: usize) -> Option<&SourceRow> {
         self.map.source_at(place)
     }
 
-    fn point(&self, no: PointNo) -> Option<&PointRow> {
-        self.map.point(no)
+    fn point_at(&self, place: usize) -> Option<&PointRow> {
+        self.map.point_at(place)
+    }
+
+    fn parcel_at(&self, place: usize) -> Option<&ParcelRow> {
+        self.map.parcel_at(place)
+    }
+
+    fn string_at(&self, place: usize) -> Option<&StringRow> {
+        self.map.string_at(place)
+    }
+
+    fn retired_at(&self, place: usize) -> Option<ParcelNo> {
+        self.map.retired_at(place)
     }
 
     fn source(&self, no: SourceNo) -> Option<&SourceRow> {
         self.map.source(no)
+    }
+
+    fn point(&self, no: PointNo) -> Option<&PointRow> {
+        self.map.point(no)
+    }
+
+    fn parcel(&self, no: ParcelNo) -> Option<&ParcelRow> {
+        self.map.parcel(no)
+    }
+
+    fn string(&self, no: StringNo) -> Option<&StringRow> {
+        self.map.string(no)
+    }
+
+    fn is_retired(&self, no: ParcelNo) -> bool {
+        self.map.is_retired(no)
+    }
+
+    fn degree(&self, no: PointNo) -> usize {
+        self.map.degree(no)
+    }
+
+    fn left_right(&self, no: StringNo) -> Option<(Face, Face)> {
+        self.map.left_right(no)
+    }
+
+    fn face_of(&self, from: PointNo, to: PointNo) -> Option<Face> {
+        self.map.face_of(from, to)
+    }
+
+    fn after(&self, from: PointNo, to: PointNo) -> Option<PointNo> {
+        self.map.after(from, to)
+    }
+
+    fn ring_side(&self, face: Face, place: usize) -> Option<(PointNo, PointNo)> {
+        self.map.ring_side(face, place)
     }
 }
 
@@ -131,13 +190,42 @@ fn made_by(map: &PlainMap, edit: &Edit) -> Result<PlainMap, Memory>
 fn attach(map: &mut PlainMap, item: Item, source: SourceNo) -> Result<(), Memory>
     ensures { OnOk result (map.new ≡ change_sources item (λ sources. sources ++ source ∷ []) map.old) }
 {
-    if let Item::Point(no) = item {
-        let Some(row) = map.point(no) else {
-            return Ok(());
-        };
-        let mut row = row.copy()?;
-        row.sources.push(source)?;
-        map.set_point(row)?;
+    match item {
+        Item::Point(no) => attach_to_point(map, no, source),
+        Item::String(no) => attach_to_string(map, no, source),
+        Item::Parcel(no) => attach_to_parcel(map, no, source),
     }
-    Ok(())
+}
+
+fn attach_to_point(map: &mut PlainMap, no: PointNo, source: SourceNo) -> Result<(), Memory>
+    ensures { OnOk result (map.new ≡ change_point no (λ row. record row { sources = row.sources ++ source ∷ [] }) map.old) }
+{
+    let Some(row) = map.point(no) else {
+        return Ok(());
+    };
+    let mut row = row.copy()?;
+    row.sources.push(source)?;
+    map.set_point(row)
+}
+
+fn attach_to_string(map: &mut PlainMap, no: StringNo, source: SourceNo) -> Result<(), Memory>
+    ensures { OnOk result (map.new ≡ change_string no (λ row. record row { sources = row.sources ++ source ∷ [] }) map.old) }
+{
+    let Some(row) = map.string(no) else {
+        return Ok(());
+    };
+    let mut row = row.copy()?;
+    row.sources.push(source)?;
+    map.set_string(row)
+}
+
+fn attach_to_parcel(map: &mut PlainMap, no: ParcelNo, source: SourceNo) -> Result<(), Memory>
+    ensures { OnOk result (map.new ≡ change_parcel no (λ row. record row { sources = row.sources ++ source ∷ [] }) map.old) }
+{
+    let Some(row) = map.parcel(no) else {
+        return Ok(());
+    };
+    let mut row = row.copy()?;
+    row.sources.push(source)?;
+    map.set_parcel(row)
 }

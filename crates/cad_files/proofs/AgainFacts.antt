@@ -1,5 +1,5 @@
 -- The records of a valid map's plan give the map again.
-use Rattle.std.proofs.Common.{◌≡◌, ◌≢◌, ◌∙◌, sym, ap, refl, ℕ, ◌+◌, ◌<◌, ◌≤◌, ◌==◌, List, [], ◌∷◌, ◌++◌, map, length, length-append, true, false, not, None, is_some, arith, inl, inr, nat_lt, nat_le, append_assoc, append-nil}
+use Rattle.std.proofs.Common.{subst, ◌≡◌, ◌≢◌, ◌∙◌, sym, ap, refl, ℕ, ◌+◌, ◌<◌, ◌≤◌, ◌==◌, List, [], ◌∷◌, ◌++◌, map, length, length-append, true, false, not, None, is_some, arith, inl, inr, nat_lt, nat_le, append_assoc, append-nil}
 use Rattle.std.specs.Prelude.{fold, ℤ, IsTrue}
 use Rattle.std.specs.List.{list_any, AllByRecursion}
 use Rattle.std.proofs.lemmas.Bool.{cases_Bool, ne_eqb, eqb-true}
@@ -19,7 +19,7 @@ use Rattle.cad_files.specs.Fields.{repeated}
 use Rattle.cad_files.specs.Rows.{Rows, no_rows}
 use Rattle.cad_files.specs.Plan.{plan_of, plan_step, plan_meant, source_meant, point_meant, open_meant, version_of, beginning, reading, opened}
 use Rattle.cad_files.specs.Texts.{Record, first_record, source_record, point_record, open_record, plan_records, text_of, record_text}
-use Rattle.cad_files.specs.Building.{rows_of, IsBuilt, missing, sources_named, points_name, source_taken, point_taken}
+use Rattle.cad_files.specs.Building.{map_of, rows_of, IsBuilt, missing, sources_named, points_name, source_taken, point_taken}
 use Rattle.cad_files.specs.declared.plan.Version.TheVariants.{Two}
 use Rattle.cad_files.specs.Input.{IsWhole}
 use Rattle.csv.specs.Machine.{next_record}
@@ -183,10 +183,11 @@ none_taken m valid =
     let v = valid.sound.v1 in
     (rw (distinct-once _ v.sources.distinct) refl, rw (distinct-once _ v.points.distinct) refl)
 
-pub built_again : (m : Map) → IsValid m → IsBuilt (rows_of m) m
-built_again m valid =
+pub built_again : (m : Map) → IsValid m → m ≡ map_of (rows_of m) → IsBuilt (rows_of m) m
+built_again m valid alone =
     let free = none_taken m valid in
-    record { faultless = fault-none _ _ _ free.0 free.1 (none_missing m m.points valid.sound.v1.point_sources); is = refl; valid = valid }
+    let known = subst (λ (n : Map). missing n (points_name m.points) ≡ None) alone (none_missing m m.points valid.sound.v1.point_sources) in
+    record { faultless = fault-none _ _ _ free.0 free.1 known; is = alone; valid = valid }
 
 -- ---- The text of the records
 

@@ -1,5 +1,5 @@
 -- Rows without a fault are the rows of a sound map.
-use Rattle.std.proofs.Common.{◌≡◌, ◌≢◌, ◌∙◌, sym, refl, ℕ, ◌==◌, List, [], ◌∷◌, ◌++◌, map, Bool, true, false, not, Option, Some, None, inl, inr, ◌||◌}
+use Rattle.std.proofs.Common.{◌≡◌, ◌≢◌, ◌∙◌, sym, refl, ℕ, ◌==◌, List, [], ◌∷◌, ◌++◌, map, Bool, true, false, not, Option, Some, None, inl, inr, ◌||◌, arith}
 use Rattle.std.specs.Prelude.{option_map, IsTrue}
 use Rattle.std.specs.List.{list_any, AllByRecursion}
 use Rattle.std.specs.Option.{option_or}
@@ -14,8 +14,10 @@ use Rattle.cad_rows.specs.declared.names.Name.TheVariants as name
 use Rattle.geo_exact.specs.Position.{OnTheMap}
 use Rattle.cad_map.specs.Map.{Map, has_source}
 use Rattle.cad_map.specs.Refusals.{is_there}
-use Rattle.cad_map.specs.Valid.{EachPair, AreSources, IsValid, KeepsAll}
+use Rattle.cad_map.specs.Valid.{EachPair, AreSources, IsValid, KeepsAll, CanBeTested}
+use Rattle.std.proofs.lemmas.List.Sorted.{IsPermutation-refl}
 use Rattle.cad_map.proofs.Lists.{All-follows, All-map}
+use Rattle.cad_map.proofs.Kept.{valid-from_kept}
 use Rattle.cad_files.specs.Fields.{repeated}
 use Rattle.cad_files.specs.Rows.{Rows, AreInRange, IsSourceRow, IsPointRow}
 use Rattle.cad_files.specs.Building.{map_of, first_some, first_fault, source_taken, point_taken, unknown, missing, sources_named, points_name}
@@ -91,32 +93,49 @@ point_numbers : (rows : List PointRow) → point_taken rows ≡ None → repeate
 unfolding point_taken
 point_numbers rows none = numbers-none (λ n. name.Point n) _ none
 
--- rows in range without a fault, of which the map keeps the rules that are left, are a valid map
-pub valid : (rows : Rows) → AreInRange rows → first_fault rows ≡ None → KeepsAll (map_of rows) → IsValid (map_of rows)
-valid rows range none keeps =
+-- of the map of rows in range without a fault it can be asked what rule it breaks first
+pub tested : (rows : Rows) → AreInRange rows → first_fault rows ≡ None → CanBeTested (map_of rows)
+tested rows range none =
     let (sources_free, points_free, names_known) = faultless (source_taken rows.sources) (point_taken rows.points) (unknown rows) none in
     let sources = recursion_from_All IsSourceRow rows.sources range.sources in
     let points = recursion_from_All IsPointRow rows.points range.points in
     record {
-      sound = record {
-        v1 = record {
-          points = record {
-            in_range = All-map IsNumber (λ r. r.number) rows.points (All-follows IsPointRow (λ r. IsNumber r.number) (λ r h. h.number) rows.points points);
-            distinct = distinct _ (point_numbers rows.points points_free);
-          };
-          sources = record {
-            in_range = All-map IsNumber (λ r. r.number) rows.sources (All-follows IsSourceRow (λ r. IsNumber r.number) (λ r h. h.number) rows.sources sources);
-            distinct = distinct _ (source_numbers rows.sources sources_free);
-          };
-          positions = All-follows IsPointRow (λ r. OnTheMap r.position) (λ r h. h.position) rows.points points;
-          point_sources = all_known (map_of rows) rows.points names_known points;
-          texts = All-follows IsSourceRow (λ r. IsLabel r.text) (λ r h. h.text) rows.sources sources;
-          few_points = range.few_points;
-          few_sources = range.few_sources;
+      v1 = record {
+        points = record {
+          in_range = All-map IsNumber (λ r. r.number) rows.points (All-follows IsPointRow (λ r. IsNumber r.number) (λ r h. h.number) rows.points points);
+          distinct = distinct _ (point_numbers rows.points points_free);
         };
+        sources = record {
+          in_range = All-map IsNumber (λ r. r.number) rows.sources (All-follows IsSourceRow (λ r. IsNumber r.number) (λ r h. h.number) rows.sources sources);
+          distinct = distinct _ (source_numbers rows.sources sources_free);
+        };
+        parcels = record { in_range = tt; distinct = tt };
+        strings = record { in_range = tt; distinct = tt };
+        retired = record { in_range = tt; distinct = tt };
+        retired_for_good = tt;
+        positions = All-follows IsPointRow (λ r. OnTheMap r.position) (λ r h. h.position) rows.points points;
+        point_sources = all_known (map_of rows) rows.points names_known points;
+        parcel_sources = tt;
+        string_sources = tt;
+        texts = All-follows IsSourceRow (λ r. IsLabel r.text) (λ r h. h.text) rows.sources sources;
+        labels = tt;
+        ends = tt;
+        points_of_rings = tt;
+        faces_of_rings = tt;
+        few_points = range.few_points;
+        few_sources = range.few_sources;
+        few_parcels = omega arith;
+        few_strings = omega arith;
+        few_retired = omega arith;
+        in_order = refl;
       };
-      keeps = keeps;
+      v2 = tt;
+      v5 = λ v3 v4. record { three = tt; once = IsPermutation-refl []; two_faces = tt };
     }
+
+-- rows in range without a fault, of which the map keeps the rules that are left, are a valid map
+pub valid : (rows : Rows) → AreInRange rows → first_fault rows ≡ None → KeepsAll (map_of rows) → IsValid (map_of rows)
+valid rows range none keeps = valid-from_kept (map_of rows) (tested rows range none) keeps
 
 -- ---- The first fault
 

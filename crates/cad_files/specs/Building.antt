@@ -16,7 +16,7 @@ use Rattle.cad_files.specs.declared.faults.PlanFault.TheVariants as faults
 
 -- the map with these rows, in their order
 abbrev pub map_of : Rows → Map
-map_of rows = record { sources = rows.sources; points = rows.points }
+map_of rows = record { sources = rows.sources; points = rows.points; parcels = []; strings = []; retired = []; boundaries = [] }
 
 -- the rows of a map, in their order
 abbrev pub rows_of : Map → Rows

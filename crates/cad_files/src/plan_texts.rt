@@ -5,7 +5,7 @@ ghost use Rattle.cad_map.specs.Map.{Map};
 ghost use Rattle.cad_map.specs.Valid.{IsValid};
 ghost use Rattle.cad_files.specs.Input.{IsWhole};
 ghost use Rattle.cad_files.specs.Plan.{plan_of, opened};
-ghost use Rattle.cad_files.specs.Building.{rows_of, IsBuilt};
+ghost use Rattle.cad_files.specs.Building.{map_of, rows_of, IsBuilt};
 
 use crate::writing::write_record;
 use cad_map::MapView;
@@ -99,9 +99,9 @@ pub fn plan_text<M: MapView>(alloc: Global, view: &M) -> Result<Vec<u8>, Memory>
 }
 
 /// The text of a map's plan is read as its records; those of a valid map give its rows again, in their
-/// order, and the rows the map.
+/// order, and the rows the map, where it has sources and points alone.
 pub fn plans_again()
     ensures text { (m : Map) → IsWhole (text_of (plan_records m)) (plan_records m) }
     ensures read { (m : Map) → IsValid m → plan_of (plan_records m) ≡ opened (rows_of m) }
-    ensures built { (m : Map) → IsValid m → IsBuilt (rows_of m) m }
+    ensures built { (m : Map) → IsValid m → m ≡ map_of (rows_of m) → IsBuilt (rows_of m) m }
 {}

@@ -2,3 +2,4 @@ pub mod Depth
 pub mod History
 pub mod Steps
 pub mod Standing
+pub mod Sources

@@ -117,6 +117,9 @@ impl<M: MapStore> Editor<M> {
         ensures store { result.now ≡ self.now.store }
         ensures shown { (h : History) → StandsFor M.map M.belongs self.now h → shown h ≡ Some (M.map result.now) }
 
+        // It is valid.
+        ensures valid { StandsForSome M.map M.belongs self.now → IsValid (M.map result.now) }
+
         // It is the opened map with the standing edits applied in order.
         ensures built { (h : History) (first : Map) → StandsFor M.map M.belongs self.now h → opened h ≡ Some first →
             LeadAlong first (standing h) (M.map result.now) }

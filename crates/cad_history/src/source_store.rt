@@ -7,9 +7,13 @@ ghost use Rattle.cad_rows.specs.declared.edits.Edit.TheVariants as edit;
 ghost use Rattle.cad_map.specs.Valid.{IsValid};
 ghost use Rattle.cad_map.specs.Outcome.{LeadsTo, MayRefuse};
 ghost use Rattle.cad_map.specs.Refusals.{item_named};
+ghost use Rattle.cad_history.specs.Sources.{sources_alone};
 
 use cad_map::{Counts, MapStore, MapView};
-use cad_rows::{Edit, Item, Label, Memory, Name, PointNo, PointRow, Refusal, SourceNo, SourceRow};
+use cad_rows::{
+    Edit, Face, Item, Label, Memory, Name, ParcelNo, ParcelRow, PointNo, PointRow, Refusal,
+    SourceNo, SourceRow, StringNo, StringRow,
+};
 use std::alloc::Global;
 
 /// The most rows of a kind.
@@ -27,7 +31,7 @@ pub struct SourceStore {
 impl SourceStore {
     /// The store of the map without rows.
     pub fn empty(alloc: Global) -> SourceStore
-        ensures { IsValid (record { sources = result.sources.items; points = [] }) }
+        ensures { IsValid (sources_alone result.sources.items) }
     {
         SourceStore {
             sources: Vec::new(alloc),
@@ -49,9 +53,9 @@ impl SourceStore {
     /// Adds a source.
     #[tactic(auto, using(crate::proofs::Sources::refuses_source, crate::proofs::Sources::refuses_full, crate::proofs::Sources::wants_source, crate::proofs::Sources::leads_source))]
     fn add(&mut self, no: SourceNo, text: &Label) -> Result<SourceRow, Refusal>
-        requires { IsValid (record { sources = self.old.sources.items; points = [] }) }
-        ensures made { OnOk result (LeadsTo (record { sources = self.old.sources.items; points = [] }) (edit.AddSource no text.now) (record { sources = self.new.sources.items; points = [] })) }
-        ensures refused { IfErr result (MayRefuse (record { sources = self.old.sources.items; points = [] }) (edit.AddSource no text.now)) }
+        requires { IsValid (sources_alone self.old.sources.items) }
+        ensures made { OnOk result (LeadsTo (sources_alone self.old.sources.items) (edit.AddSource no text.now) (sources_alone self.new.sources.items)) }
+        ensures refused { IfErr result (MayRefuse (sources_alone self.old.sources.items) (edit.AddSource no text.now)) }
         ensures recorded { IfOk result (λ row. self.new.sources.items ≡ self.old.sources.items ++ row ∷ []) }
         ensures err { OnErr result (self.new.sources.items ≡ self.old.sources.items) }
     {
@@ -101,36 +105,93 @@ fn name_of(item: Item) -> Name
 }
 
 impl MapView for SourceStore {
-    ghost map = { λ store. record { sources = store.sources.items; points = [] } };
+    ghost use Rattle.std.specs.Prelude.{None};
+
+    ghost map = { λ store. sources_alone store.sources.items };
+
+    ghost rings = { λ _. [] };
+
+    ghost told_face = { λ _ _. None };
+
+    ghost told_after = { λ _ _. None };
+
+    ghost told_faces = { λ _ _. None };
 
     fn counts(&self) -> Counts {
         Counts {
-            points: 0,
             sources: self.sources.len(),
+            points: 0,
+            parcels: 0,
+            strings: 0,
+            retired: 0,
         }
-    }
-
-    fn point_at(&self, _place: usize) -> Option<&PointRow> {
-        None
     }
 
     fn source_at(&self, place: usize) -> Option<&SourceRow> {
         self.sources.get(place)
     }
 
-    fn point(&self, _no: PointNo) -> Option<&PointRow> {
+    fn point_at(&self, _place: usize) -> Option<&PointRow> {
+        None
+    }
+
+    fn parcel_at(&self, _place: usize) -> Option<&ParcelRow> {
+        None
+    }
+
+    fn string_at(&self, _place: usize) -> Option<&StringRow> {
+        None
+    }
+
+    fn retired_at(&self, _place: usize) -> Option<ParcelNo> {
         None
     }
 
     fn source(&self, no: SourceNo) -> Option<&SourceRow> {
         self.find(no)
     }
+
+    fn point(&self, _no: PointNo) -> Option<&PointRow> {
+        None
+    }
+
+    fn parcel(&self, _no: ParcelNo) -> Option<&ParcelRow> {
+        None
+    }
+
+    fn string(&self, _no: StringNo) -> Option<&StringRow> {
+        None
+    }
+
+    fn is_retired(&self, _no: ParcelNo) -> bool {
+        false
+    }
+
+    fn degree(&self, _no: PointNo) -> usize {
+        0
+    }
+
+    fn left_right(&self, _no: StringNo) -> Option<(Face, Face)> {
+        None
+    }
+
+    fn face_of(&self, _from: PointNo, _to: PointNo) -> Option<Face> {
+        None
+    }
+
+    fn after(&self, _from: PointNo, _to: PointNo) -> Option<PointNo> {
+        None
+    }
+
+    fn ring_side(&self, _face: Face, _place: usize) -> Option<(PointNo, PointNo)> {
+        None
+    }
 }
 
 impl MapStore for SourceStore {
     type Record = SourceRow;
 
-    ghost belongs = { λ row before after. (before.points ≡ []) × (after ≡ record before { sources = before.sources ++ row ∷ [] }) };
+    ghost belongs = { λ row before after. (before ≡ sources_alone before.sources) × (after ≡ record before { sources = before.sources ++ row ∷ [] }) };
 
     #[tactic(auto, using(crate::proofs::Sources::refuses_drop, crate::proofs::Sources::refuses_attach, crate::proofs::Sources::refuses_point, crate::proofs::Sources::wants_point))]
     fn apply(&mut self, edit: &Edit) -> Result<SourceRow, Refusal> {

@@ -1,7 +1,15 @@
 pub mod Table
+pub mod Boundaries
 pub mod Map
 pub mod Valid
+pub mod Chain
+pub mod Division
+pub mod Merger
+pub mod Changes
 pub mod Refusals
 pub mod Effects
 pub mod Outcome
 pub mod Asked
+pub mod Sums
+pub mod Views
+pub mod Walk

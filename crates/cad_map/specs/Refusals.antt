@@ -11,7 +11,7 @@ use Rattle.cad_rows.specs.declared.edits.Edit.{Edit}
 use Rattle.cad_rows.specs.declared.edits.Edit.TheVariants.{AddSource, AddPoint, DropPoint, Attach}
 use Rattle.cad_rows.specs.declared.refusals.Refusal.{Refusal}
 use Rattle.cad_rows.specs.declared.refusals.Refusal.TheVariants as told
-use Rattle.cad_map.specs.Map.{Map, has_point, has_source, point_of}
+use Rattle.cad_map.specs.Map.{Map, has_point, has_source, has_parcel, has_string, point_of, parcel_of, string_of, is_free}
 
 -- the refusal, where the test passes
 abbrev pub when : Bool → Refusal → Option Refusal
@@ -48,8 +48,8 @@ given _ = []
 
 abbrev pub is_there : Map → Name → Bool
 is_there m (name.Point n) = has_point m n
-is_there m (name.String n) = false
-is_there m (name.Parcel n) = false
+is_there m (name.String n) = has_string m n
+is_there m (name.Parcel n) = has_parcel m n
 is_there m (name.Source n) = has_source m n
 
 abbrev pub unknown : Map → Edit → Option Refusal
@@ -58,11 +58,19 @@ unknown m e = option_map (λ n. told.Unknown n) (find (λ n. not (is_there m n))
 abbrev pub taken : Map → Edit → Option Refusal
 taken m e = option_map (λ n. told.Taken n) (find (is_there m) (given e))
 
+-- ---- 7, the first point that should be on no string and is on one
+abbrev pub first_not_free : Map → List ℕ → Option Refusal
+first_not_free m points = option_map (λ p. told.NotFree p) (find (λ p. not (is_free m p)) points)
+
+abbrev pub not_free : Map → Edit → Option Refusal
+not_free m (DropPoint p) = first_not_free m (p ∷ [])
+not_free m _ = None
+
 -- ---- 15, the item has the source already
 abbrev pub sources_at : Map → Item → List ℕ
 sources_at m (item.Point n) = unwrap_or (option_map (λ r. r.sources) (point_of m n)) []
-sources_at m (item.String n) = []
-sources_at m (item.Parcel n) = []
+sources_at m (item.String n) = unwrap_or (option_map (λ r. r.sources) (string_of m n)) []
+sources_at m (item.Parcel n) = unwrap_or (option_map (λ r. r.sources) (parcel_of m n)) []
 
 abbrev pub is_attached : Map → Item → ℕ → Bool
 is_attached m i source = list_any (λ s. s == source) (sources_at m i)
@@ -83,4 +91,4 @@ full m e = when (is_full m e) told.Full
 
 -- ---- the rows in their order
 unfoldable pub first_refusal : Map → Edit → Option Refusal
-first_refusal m e = first_of (range e ∷ unknown m e ∷ taken m e ∷ already_attached m e ∷ full m e ∷ [])
+first_refusal m e = first_of (range e ∷ unknown m e ∷ taken m e ∷ not_free m e ∷ already_attached m e ∷ full m e ∷ [])

@@ -1,10 +1,14 @@
-//! An edit of a map has one outcome.
-ghost use Rattle.std.specs.Prelude.{◌≡◌};
+//! The laws of maps. Each function does nothing, and its contract holds for all maps.
+ghost use Rattle.std.specs.Prelude.{◌≡◌, List, map, IsPermutation};
+ghost use Rattle.geo_exact.specs.Measure.{Measure, IsOdd};
 ghost use Rattle.cad_rows.specs.declared.edits.Edit.{Edit};
 ghost use Rattle.cad_rows.specs.declared.refusals.Refusal.{Refusal};
 ghost use Rattle.cad_rows.specs.declared.refusals.Rule.{Rule};
 ghost use Rattle.cad_map.specs.Map.{Map};
-ghost use Rattle.cad_map.specs.Valid.{FirstBroken};
+ghost use Rattle.cad_map.specs.declared.boundary.Boundary.{Boundary};
+ghost use Rattle.cad_map.specs.Boundaries.{shown, listed, sides_in, corners_in};
+ghost use Rattle.cad_map.specs.Sums.{IsBalanced};
+ghost use Rattle.cad_map.specs.Valid.{IsValid, FirstBroken};
 ghost use Rattle.cad_map.specs.Outcome.{LeadsTo, IsRefused};
 
 /// An edit leads to one map at most, is refused in one way at most, and never both; and a map breaks one rule first
@@ -14,4 +18,19 @@ pub fn one_outcome()
     ensures refusal { (m : Map) (e : Edit) (r s : Refusal) → IsRefused m e r → IsRefused m e s → r ≡ s }
     ensures either { (m : Map) (e : Edit) (x : Map) (r : Refusal) → LeadsTo m e x → ¬ IsRefused m e r }
     ensures rule { (m : Map) (r s : Rule) → FirstBroken m r → FirstBroken m s → r ≡ s }
+{}
+
+/// The sums of all faces of a valid map, the outside included, add up to 0, for every measure. So the doubled areas of
+/// the parcels are what the outside has, with the other sign.
+pub fn faces_balance()
+    ensures { (f : Measure) → IsOdd f → (m : Map) → IsValid m → IsBalanced f m }
+{}
+
+/// Boundaries have one list, however they are kept: the list is listed as itself, and boundaries in another order are
+/// listed the same.
+pub fn one_list()
+    ensures listed_again { (bs : List Boundary) → listed (listed bs) ≡ listed bs }
+    ensures any_order { (bs cs : List Boundary) → IsPermutation (map shown bs) (map shown cs) → listed bs ≡ listed cs }
+    ensures sides { (bs : List Boundary) → IsPermutation (sides_in bs) (sides_in (listed bs)) }
+    ensures corners { (bs : List Boundary) → IsPermutation (corners_in bs) (corners_in (listed bs)) }
 {}

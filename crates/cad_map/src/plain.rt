@@ -1,26 +1,22 @@
-//! A map kept as rows in order of entry.
-ghost use Rattle.std.specs.Prelude.{◌≡◌, ◌++◌, ◌∷◌, [], None, IsSome, IfOk, OnOk, OnErr};
-ghost use Rattle.cad_map.specs.Map.{empty_map, point_of, source_of};
+//! A map kept as rows in order of entry, and its rings in the order in which a map lists them.
+ghost use Rattle.std.specs.Prelude.{◌≡◌, ◌≤◌, ◌++◌, ◌∷◌, [], None, length, IsSome, IfOk, OnOk, OnErr};
+ghost use Rattle.std.specs.List.{AllByRecursion};
+ghost use Rattle.cad_map.specs.Boundaries.{listed};
+ghost use Rattle.cad_map.specs.Map.{empty_map, source_of, point_of, parcel_of, string_of};
 ghost use Rattle.cad_map.specs.Table.{without_row, with_row};
 ghost use Rattle.cad_map.specs.Valid.{IsValid};
 
+use crate::boundary::Boundary;
+use crate::listing::list;
+use crate::look;
 use crate::store::{Counts, MapView};
 use crate::table::{Numbered, Table};
-use cad_rows::{Memory, PointNo, PointRow, SourceNo, SourceRow};
+use cad_rows::{
+    Face, Memory, Numbers, ParcelNo, ParcelRow, PointNo, PointRow, SourceNo, SourceRow, StringNo,
+    StringRow,
+};
 use std::alloc::Global;
 use std::marker::Model;
-
-impl Numbered for PointRow {
-    ghost number_of = { λ r. r.number };
-
-    fn number(&self) -> u32 {
-        self.number.get()
-    }
-
-    fn copied(&self) -> Result<PointRow, Memory> {
-        self.copy()
-    }
-}
 
 impl Numbered for SourceRow {
     ghost number_of = { λ r. r.number };
@@ -34,19 +30,71 @@ impl Numbered for SourceRow {
     }
 }
 
+impl Numbered for PointRow {
+    ghost number_of = { λ r. r.number };
+
+    fn number(&self) -> u32 {
+        self.number.get()
+    }
+
+    fn copied(&self) -> Result<PointRow, Memory> {
+        self.copy()
+    }
+}
+
+impl Numbered for ParcelRow {
+    ghost number_of = { λ r. r.number };
+
+    fn number(&self) -> u32 {
+        self.number.get()
+    }
+
+    fn copied(&self) -> Result<ParcelRow, Memory> {
+        self.copy()
+    }
+}
+
+impl Numbered for StringRow {
+    ghost number_of = { λ r. r.number };
+
+    fn number(&self) -> u32 {
+        self.number.get()
+    }
+
+    fn copied(&self) -> Result<StringRow, Memory> {
+        self.copy()
+    }
+}
+
 /// A map whose rows stand in tables, in order of entry. None of its calls asks for a valid map.
 #[derive(Drop)]
 pub struct PlainMap {
     sources: Table<SourceRow>,
     points: Table<PointRow>,
+    parcels: Table<ParcelRow>,
+    strings: Table<StringRow>,
+    retired: Numbers<ParcelNo>,
+    boundaries: Vec<Boundary>,
 }
 
 impl Model for PlainMap {
+    ghost use Rattle.std.specs.Prelude.{◌≡◌, ◌≤◌, length};
+    ghost use Rattle.std.specs.List.{AllByRecursion};
+    ghost use Rattle.cad_map.specs.Boundaries.{listed};
     ghost use Rattle.cad_map.specs.Map.{Map};
 
     ghost Value = { Map };
 
-    ghost view = { λ a. record { sources = a.sources; points = a.points } };
+    ghost view = { λ a. record {
+      sources = a.sources;
+      points = a.points;
+      parcels = a.parcels;
+      strings = a.strings;
+      retired = a.retired;
+      boundaries = a.boundaries.items;
+    } };
+
+    ghost invariant = { λ a. (listed a.boundaries.items ≡ a.boundaries.items) × AllByRecursion (λ b. 2 ≤ length b.ring) a.boundaries.items };
 }
 
 impl PlainMap {
@@ -58,6 +106,10 @@ impl PlainMap {
         PlainMap {
             sources: Table::new(alloc),
             points: Table::new(alloc),
+            parcels: Table::new(alloc),
+            strings: Table::new(alloc),
+            retired: Numbers::new(alloc),
+            boundaries: Vec::new(alloc),
         }
     }
 
@@ -70,9 +122,22 @@ impl PlainMap {
     pub fn copy(&self) -> Result<PlainMap, Memory>
         ensures { IfOk result (λ copied. copied ≡ self.now) }
     {
-        let sources = self.sources.copy()?;
-        let points = self.points.copy()?;
-        Ok(PlainMap { sources, points })
+        Ok(PlainMap {
+            sources: self.sources.copy()?,
+            points: self.points.copy()?,
+            parcels: self.parcels.copy()?,
+            strings: self.strings.copy()?,
+            retired: self.retired.copy()?,
+            boundaries: copies(self.allocator(), self.boundaries.as_slice())?,
+        })
+    }
+
+    /// The rings of all faces, each from the point on from which it comes before its other rotations: the outside's
+    /// first, then those of parcels by their numbers, and of one face in the order of their points.
+    pub fn boundaries(&self) -> &[Boundary]
+        ensures { result.now ≡ self.now.boundaries }
+    {
+        self.boundaries.as_slice()
     }
 
     /// Puts a source last. Where memory runs out the map stays.
@@ -93,6 +158,32 @@ impl PlainMap {
         self.points.put(row)
     }
 
+    /// Puts a parcel last. Where memory runs out the map stays.
+    pub fn put_parcel(&mut self, row: ParcelRow) -> Result<(), Memory>
+        requires { parcel_of self.old row.number ≡ None }
+        ensures ok { OnOk result (self.new ≡ record self.old { parcels = self.old.parcels ++ row ∷ [] }) }
+        ensures err { OnErr result (self.new ≡ self.old) }
+    {
+        self.parcels.put(row)
+    }
+
+    /// Puts a string last. Where memory runs out the map stays.
+    pub fn put_string(&mut self, row: StringRow) -> Result<(), Memory>
+        requires { string_of self.old row.number ≡ None }
+        ensures ok { OnOk result (self.new ≡ record self.old { strings = self.old.strings ++ row ∷ [] }) }
+        ensures err { OnErr result (self.new ≡ self.old) }
+    {
+        self.strings.put(row)
+    }
+
+    /// Puts the number of a parcel last among those that mergers ended. Where memory runs out the map stays.
+    pub fn put_retired(&mut self, no: ParcelNo) -> Result<(), Memory>
+        ensures ok { OnOk result (self.new ≡ record self.old { retired = self.old.retired ++ no ∷ [] }) }
+        ensures err { OnErr result (self.new ≡ self.old) }
+    {
+        self.retired.push(no)
+    }
+
     /// Puts a point in the place of the one with its number. Where memory runs out the map stays.
     pub fn set_point(&mut self, row: PointRow) -> Result<(), Memory>
         requires { IsSome (point_of self.old row.number) }
@@ -102,37 +193,159 @@ impl PlainMap {
         self.points.set(row)
     }
 
+    /// Puts a parcel in the place of the one with its number. Where memory runs out the map stays.
+    pub fn set_parcel(&mut self, row: ParcelRow) -> Result<(), Memory>
+        requires { IsSome (parcel_of self.old row.number) }
+        ensures ok { OnOk result (self.new ≡ record self.old { parcels = with_row (λ r. r.number) row self.old.parcels }) }
+        ensures err { OnErr result (self.new ≡ self.old) }
+    {
+        self.parcels.set(row)
+    }
+
+    /// Puts a string in the place of the one with its number. Where memory runs out the map stays.
+    pub fn set_string(&mut self, row: StringRow) -> Result<(), Memory>
+        requires { IsSome (string_of self.old row.number) }
+        ensures ok { OnOk result (self.new ≡ record self.old { strings = with_row (λ r. r.number) row self.old.strings }) }
+        ensures err { OnErr result (self.new ≡ self.old) }
+    {
+        self.strings.set(row)
+    }
+
     /// Takes the point with a number away, if there is one.
     pub fn take_point(&mut self, no: PointNo)
         ensures { self.new ≡ record self.old { points = without_row (λ r. r.number) no self.old.points } }
     {
         self.points.take(no.get());
     }
+
+    /// Takes the parcel with a number away, if there is one. Its rings stay.
+    pub fn take_parcel(&mut self, no: ParcelNo)
+        ensures { self.new ≡ record self.old { parcels = without_row (λ r. r.number) no self.old.parcels } }
+    {
+        self.parcels.take(no.get());
+    }
+
+    /// Takes the string with a number away, if there is one.
+    pub fn take_string(&mut self, no: StringNo)
+        ensures { self.new ≡ record self.old { strings = without_row (λ r. r.number) no self.old.strings } }
+    {
+        self.strings.take(no.get());
+    }
+
+    /// Puts these rings in the place of all rings, in whatever order and rotation they are given. Takes no memory.
+    pub fn set_boundaries(&mut self, boundaries: Vec<Boundary>)
+        ensures { self.new ≡ record self.old { boundaries = listed boundaries.items } }
+    {
+        self.boundaries = in_order(boundaries);
+    }
 }
 
 impl MapView for PlainMap {
+    ghost use Rattle.cad_map.specs.Map.{face_at, point_after};
+    ghost use Rattle.cad_map.specs.Views.{faces_beside};
+
     ghost map = { λ m. m };
+
+    ghost rings = { λ m. m.boundaries };
+
+    ghost told_face = { λ m s. face_at m s };
+
+    ghost told_after = { λ m s. point_after s m.boundaries };
+
+    ghost told_faces = { λ m n. faces_beside m n };
 
     fn counts(&self) -> Counts {
         Counts {
-            points: self.points.len(),
             sources: self.sources.len(),
+            points: self.points.len(),
+            parcels: self.parcels.len(),
+            strings: self.strings.len(),
+            retired: self.retired.len(),
         }
-    }
-
-    fn point_at(&self, place: usize) -> Option<&PointRow> {
-        self.points.at(place)
     }
 
     fn source_at(&self, place: usize) -> Option<&SourceRow> {
         self.sources.at(place)
     }
 
-    fn point(&self, no: PointNo) -> Option<&PointRow> {
-        self.points.get(no.get())
+    fn point_at(&self, place: usize) -> Option<&PointRow> {
+        self.points.at(place)
+    }
+
+    fn parcel_at(&self, place: usize) -> Option<&ParcelRow> {
+        self.parcels.at(place)
+    }
+
+    fn string_at(&self, place: usize) -> Option<&StringRow> {
+        self.strings.at(place)
+    }
+
+    fn retired_at(&self, place: usize) -> Option<ParcelNo> {
+        self.retired.get(place)
     }
 
     fn source(&self, no: SourceNo) -> Option<&SourceRow> {
         self.sources.get(no.get())
     }
+
+    fn point(&self, no: PointNo) -> Option<&PointRow> {
+        self.points.get(no.get())
+    }
+
+    fn parcel(&self, no: ParcelNo) -> Option<&ParcelRow> {
+        self.parcels.get(no.get())
+    }
+
+    fn string(&self, no: StringNo) -> Option<&StringRow> {
+        self.strings.get(no.get())
+    }
+
+    fn is_retired(&self, no: ParcelNo) -> bool {
+        self.retired.as_slice().iter().any(|n| n.get() == no.get())
+    }
+
+    fn degree(&self, no: PointNo) -> usize {
+        look::strings_with(&self.strings, no)
+    }
+
+    fn left_right(&self, no: StringNo) -> Option<(Face, Face)> {
+        let row = self.string(no)?;
+        let left = self.face_of(row.from, row.to)?;
+        let right = self.face_of(row.to, row.from)?;
+        Some((left, right))
+    }
+
+    fn face_of(&self, from: PointNo, to: PointNo) -> Option<Face> {
+        look::face_with(self.boundaries.as_slice(), from, to)
+    }
+
+    fn after(&self, from: PointNo, to: PointNo) -> Option<PointNo> {
+        look::point_after(self.boundaries.as_slice(), from, to)
+    }
+
+    fn ring_side(&self, face: Face, place: usize) -> Option<(PointNo, PointNo)> {
+        let ring = look::ring_at(self.boundaries.as_slice(), face, place)?;
+        ring.sides().next()
+    }
+}
+
+// Equal boundaries.
+fn copies(alloc: Global, boundaries: &[Boundary]) -> Result<Vec<Boundary>, Memory>
+    ensures { IfOk result (λ copied. copied.items ≡ boundaries.now) }
+{
+    let mut copied = Vec::new(alloc);
+    for boundary in boundaries {
+        copied.push(boundary.copy()?)?;
+    }
+    Ok(copied)
+}
+
+// These boundaries, as a map lists them.
+fn in_order(boundaries: Vec<Boundary>) -> Vec<Boundary>
+    ensures listed { result.items ≡ listed boundaries.items }
+    ensures two { AllByRecursion (λ b. 2 ≤ length b.ring) result.items }
+{
+    let mut boundaries = boundaries;
+    list(boundaries.as_mut_slice());
+    boundaries
 }

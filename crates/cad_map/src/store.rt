@@ -1,43 +1,132 @@
 //! Maps that can be looked at, and maps that can be edited.
-ghost use Rattle.std.specs.Prelude.{◌≡◌, length, slice_get, IfOk, IfErr, OnOk, OnErr};
+ghost use Rattle.std.specs.Prelude.{◌≡◌, ℕ, ◌≤◌, List, Option, length, slice_get, option_and_then, IfSome, IfNone, IfOk, IfErr, OnOk, OnErr};
 ghost use Rattle.std.specs.Option.{option_copied};
-ghost use Rattle.cad_map.specs.Map.{Map, point_of, source_of};
+ghost use Rattle.std.specs.List.{AllByRecursion};
+ghost use Rattle.cad_rows.specs.declared.names.Face.{Face as FaceOf};
+ghost use Rattle.cad_rings.specs.Cycle.{Side};
+ghost use Rattle.cad_map.specs.declared.boundary.Boundary.{Boundary};
+ghost use Rattle.cad_map.specs.Boundaries.{listed};
+ghost use Rattle.cad_map.specs.Map.{Map, source_of, point_of, parcel_of, string_of, is_retired as is_retired_in, degree as degree_of, rings_at};
 ghost use Rattle.cad_map.specs.Valid.{IsValid};
+ghost use Rattle.cad_map.specs.Views.{HasSide, IsNoSide, ComesAfter, HasFaces, HasNoFaces};
+ghost use Rattle.cad_map.specs.Walk.{first_side};
 ghost use Rattle.cad_map.specs.Outcome.{LeadsTo, MayRefuse};
 
-use cad_rows::{Edit, Memory, PointNo, PointRow, Refusal, SourceNo, SourceRow};
+use cad_rows::{
+    Edit, Face, Memory, ParcelNo, ParcelRow, PointNo, PointRow, Refusal, SourceNo, SourceRow,
+    StringNo, StringRow,
+};
 
 /// How many rows of each kind a map has.
 #[derive(Clone, Copy, Debug, PartialEq, Eq)]
 pub struct Counts {
-    pub points: usize,
     pub sources: usize,
+    pub points: usize,
+    pub parcels: usize,
+    pub strings: usize,
+    pub retired: usize,
 }
 
 /// A map that can be looked at, however it is kept. No call takes memory.
+///
+/// Where a map breaks the rules, several faces may have one side. Then `face_of`, `after` and `left_right` answer for
+/// one of them, and always for the same one.
 pub trait MapView {
     /// The map that it stands for.
     ghost map: { Self → Map };
 
+    /// Its rings as it keeps them, each from some point on, in some order.
+    ghost rings: { Self → List Boundary };
+
+    /// The face that it tells of a side.
+    ghost told_face: { Self → Side → Option FaceOf };
+
+    /// The point that it tells to come after a side.
+    ghost told_after: { Self → Side → Option ℕ };
+
+    /// The faces that it tells to be on the left and on the right of the string with a number.
+    ghost told_faces: { Self → ℕ → Option (FaceOf × FaceOf) };
+
     /// How many rows of each kind it has.
     fn counts(&self) -> Counts
-        ensures { result ≡ record { points = length (map self.now).points; sources = length (map self.now).sources } };
-
-    /// The point at a place in order of entry, and `None` past the end.
-    fn point_at(&self, place: usize) -> Option<&PointRow>
-        ensures { option_copied result ≡ slice_get (map self.now).points place };
+        ensures { result ≡ record {
+          sources = length (map self.now).sources;
+          points = length (map self.now).points;
+          parcels = length (map self.now).parcels;
+          strings = length (map self.now).strings;
+          retired = length (map self.now).retired;
+        } };
 
     /// The source at a place in order of entry, and `None` past the end.
     fn source_at(&self, place: usize) -> Option<&SourceRow>
         ensures { option_copied result ≡ slice_get (map self.now).sources place };
 
-    /// The point with a number.
-    fn point(&self, no: PointNo) -> Option<&PointRow>
-        ensures { option_copied result ≡ point_of (map self.now) no };
+    /// The point at a place in order of entry, and `None` past the end.
+    fn point_at(&self, place: usize) -> Option<&PointRow>
+        ensures { option_copied result ≡ slice_get (map self.now).points place };
+
+    /// The parcel at a place in order of entry, and `None` past the end.
+    fn parcel_at(&self, place: usize) -> Option<&ParcelRow>
+        ensures { option_copied result ≡ slice_get (map self.now).parcels place };
+
+    /// The string at a place in order of entry, and `None` past the end.
+    fn string_at(&self, place: usize) -> Option<&StringRow>
+        ensures { option_copied result ≡ slice_get (map self.now).strings place };
+
+    /// The retired number at a place in order of entry, and `None` past the end.
+    fn retired_at(&self, place: usize) -> Option<ParcelNo>
+        ensures { result ≡ slice_get (map self.now).retired place };
 
     /// The source with a number.
     fn source(&self, no: SourceNo) -> Option<&SourceRow>
         ensures { option_copied result ≡ source_of (map self.now) no };
+
+    /// The point with a number.
+    fn point(&self, no: PointNo) -> Option<&PointRow>
+        ensures { option_copied result ≡ point_of (map self.now) no };
+
+    /// The parcel with a number.
+    fn parcel(&self, no: ParcelNo) -> Option<&ParcelRow>
+        ensures { option_copied result ≡ parcel_of (map self.now) no };
+
+    /// The string with a number.
+    fn string(&self, no: StringNo) -> Option<&StringRow>
+        ensures { option_copied result ≡ string_of (map self.now) no };
+
+    /// Whether a merger that stands ended the parcel with a number.
+    fn is_retired(&self, no: ParcelNo) -> bool
+        ensures { result ≡ is_retired_in (map self.now) no };
+
+    /// How many strings have a point.
+    fn degree(&self, no: PointNo) -> usize
+        ensures { result ≡ degree_of (map self.now) no };
+
+    /// The faces on the left and on the right of the string with a number, and `None` where there is no such string or
+    /// no ring has one of its sides.
+    fn left_right(&self, no: StringNo) -> Option<(Face, Face)>
+        ensures same { result ≡ told_faces self.now no }
+        ensures some { IfSome result (λ faces. HasFaces (map self.now) no faces.0 faces.1) }
+        ensures none { IfNone result (HasNoFaces (map self.now) no) };
+
+    /// The face that has the side from one point to another, and `None` where none has it.
+    fn face_of(&self, from: PointNo, to: PointNo) -> Option<Face>
+        ensures same { result ≡ told_face self.now (from, to) }
+        ensures some { IfSome result (λ face. HasSide (map self.now) face (from, to)) }
+        ensures none { IfNone result (IsNoSide (map self.now) (from, to)) };
+
+    /// The point that comes after the side from one point to another in its ring, and `None` where no ring has it.
+    fn after(&self, from: PointNo, to: PointNo) -> Option<PointNo>
+        ensures same { result ≡ told_after self.now (from, to) }
+        ensures some { IfSome result (λ w. ComesAfter (map self.now) (from, to) w) }
+        ensures none { IfNone result (IsNoSide (map self.now) (from, to)) };
+
+    /// A side of one ring of a face, and `None` past the last of its rings. Each ring has one place; which one isn't
+    /// told.
+    fn ring_side(&self, face: Face, place: usize) -> Option<(PointNo, PointNo)>
+        ensures side { result ≡ option_and_then first_side (slice_get (rings_at face (rings self.now)) place) }
+        // The rings are those of the map, and each is of two points or more.
+        ensures listed { listed (rings self.now) ≡ (map self.now).boundaries }
+        ensures two { AllByRecursion (λ b. 2 ≤ length b.ring) (rings self.now) };
 }
 
 /// A map that can be edited, with a record of each edit by which it is taken back and made again.

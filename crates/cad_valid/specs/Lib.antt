@@ -1,0 +1,5 @@
+pub mod Corners
+pub mod Crossings
+pub mod Holes
+pub mod Outlines
+pub mod Rings

@@ -1,56 +1,48 @@
 //! The first rule that a map breaks.
 #![tactic(auto)]
 
-ghost use Rattle.std.specs.Prelude.{◌≡◌, drop, not, IfSome, IfNone};
-ghost use Rattle.std.specs.List.{list_all};
-ghost use Rattle.geo_exact.specs.Position.{Position};
-ghost use Rattle.cad_map.specs.Valid.{is_same_position, has_distinct_positions as has_distinct_positions_of, KeepsAll, FirstBroken};
+mod corners;
+mod crossings;
+mod holes;
+mod outlines;
+mod points;
+mod rings;
 
+ghost use Rattle.std.specs.Prelude.{IfSome, IfNone};
+ghost use Rattle.cad_map.specs.Valid.{CanBeTested, KeepsAll, FirstBroken};
+
+use crate::corners::has_empty_corners;
+use crate::crossings::has_no_crossing;
+use crate::holes::has_holes_in_place;
+use crate::outlines::has_one_outline_each;
+use crate::points::has_distinct_positions;
 use cad_map::MapView;
 use cad_rows::Rule;
-use geo_exact::Pt;
 
-/// The first rule that the map breaks, or `None` where it keeps them all. Takes no memory.
-/// Looks at each pair of points.
+/// The first rule that a map breaks, of V3, V4, V6, V7 and V8 in this order, or `None` where it keeps them all. Takes no
+/// memory. It looks at each pair of strings, so its time grows with the square of the map's size.
+///
+/// It is asked of maps that keep V1 and V2, and V5 unless they break V3 or V4: what an edit makes of a valid map.
+#[tactic(auto, using(crate::proofs::Whole::whole))]
 pub fn first_broken<M: MapView>(map: &M) -> Option<Rule>
+    requires { CanBeTested (M.map map.now) }
     ensures broken { IfSome result (FirstBroken (M.map map.now)) }
     ensures kept { IfNone result (KeepsAll (M.map map.now)) }
 {
-    if has_distinct_positions(map) {
-        None
-    } else {
-        Some(Rule::V3)
+    if !has_distinct_positions(map) {
+        return Some(Rule::V3);
     }
-}
-
-/// Whether no two points have the same position.
-fn has_distinct_positions<M: MapView>(map: &M) -> bool
-    ensures { result ≡ has_distinct_positions_of (M.map map.now) }
-{
-    for place in 0..map.counts().points {
-        let point = map.point_at(place).unwrap();
-        if !is_apart_from(map, place + 1, point.position) {
-            return false;
-        }
+    if !has_no_crossing(map) {
+        return Some(Rule::V4);
     }
-    true
-}
-
-/// Whether the points from a place on all have another position than this one.
-fn is_apart_from<M: MapView>(map: &M, from: usize, position: Pt) -> bool
-    ensures { result ≡ list_all (λ r. not (is_same_position position r.position)) (drop from (M.map map.now).points) }
-{
-    for place in from..map.counts().points {
-        let point = map.point_at(place).unwrap();
-        if is_same(position, point.position) {
-            return false;
-        }
+    if !has_empty_corners(map) {
+        return Some(Rule::V6);
     }
-    true
-}
-
-fn is_same(a: Pt, b: Pt) -> bool
-    ensures { result ≡ is_same_position a b }
-{
-    a.x == b.x && a.y == b.y
+    if !has_one_outline_each(map) {
+        return Some(Rule::V7);
+    }
+    if !has_holes_in_place(map) {
+        return Some(Rule::V8);
+    }
+    None
 }

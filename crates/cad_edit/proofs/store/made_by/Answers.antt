@@ -1,7 +1,7 @@
 use Rattle.std.proofs.Common.{to_z-of_z, ℤ, FitsSigned, w64, arith}
 use Rattle.std.proofs.lemmas.Int.{ints}
 use Rattle.geo_exact.specs.Position.{InRange}
-use Rattle.cad_map.proofs.Kept.{allowed, free-source, free-point, position-in_range}
+use Rattle.cad_map.proofs.Allowed.{allowed, free-source, free-point, position-in_range}
 use Rattle.cad_rows.specs.declared.edits.Edit.TheVariants.{AddSource}
 use Rattle.cad_edit.proofs.store.made_by.Goals as goal
 

@@ -1,5 +1,5 @@
 use Rattle.std.proofs.Common.{◌≡◌, ◌∙◌, sym, ap, is_some, rules}
-use Rattle.cad_map.proofs.Kept.{none-from_some}
+use Rattle.cad_map.proofs.Allowed.{none-from_some}
 use Rattle.cad_files.specs.Building.{missing, sources_named}
 use Rattle.cad_files.proofs.NameFacts.{missing_row-none, missing_row-found, missing_row-more}
 use Rattle.cad_files.proofs.building.missing_row.Goals as goal

@@ -1,6 +1,7 @@
 use Rattle.std.proofs.Common.{◌∙◌, sym}
 use Rattle.cad_map.specs.Outcome.{refused, out_of_memory, at_once, breaking}
-use Rattle.cad_map.proofs.Kept.{kept}
+use Rattle.cad_map.proofs.Kept.{kept, valid-from_kept}
+use Rattle.cad_map.specs.Effects.{after}
 use Rattle.cad_edit.proofs.store.PlainStoreMapStore.apply.Goals as goal
 
 pub returns-in-Some-clause-refused : goal.returns-in-Some-clause-refused
@@ -22,5 +23,8 @@ returns-clause-made c =
     record {
       allowed = none;
       is = made;
-      valid = rw made (record { sound = kept c.args.self.now.map c.args.edit.now c.requires c.are_in_range.ensures none; keeps = rw c.in-Ok.ensures at c.in_default-first_broken.ensures.kept });
+      valid = rw made (valid-from_kept (after c.args.self.now.map c.args.edit.now) (kept c.args.self.now.map c.args.edit.now c.requires c.are_in_range.ensures none) (rw c.in-Ok.ensures at c.in_default-first_broken.ensures.kept));
     }
+
+pub first_broken-requires : goal.first_broken-requires
+first_broken-requires c = rw c.in-Ok.ensures (kept c.args.self.now.map c.args.edit.now c.requires c.are_in_range.ensures (sym c.in_default.ensures))

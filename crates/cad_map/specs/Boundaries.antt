@@ -1,0 +1,51 @@
+-- The rings of a map's faces, and the one order in which a map lists them.
+use Rattle.std.specs.Prelude.{ℕ, suc, Bool, true, false, ◌==◌, List, [], ◌∷◌, if◌then◌else◌}
+use Rattle.std.specs.List.{flat_map}
+use Rattle.cad_rows.specs.declared.names.Face.{Face}
+use Rattle.cad_rows.specs.declared.names.Face.TheVariants.{Outside, Parcel}
+use Rattle.cad_rings.specs.Cycle.{Ring, Side, sides_of, Corner, corners_of}
+use Rattle.cad_rings.specs.Shown.{comes_first, least_rotation}
+use Rattle.cad_map.specs.declared.boundary.Boundary.{Boundary}
+
+abbrev pub is_face : Face → Face → Bool
+is_face Outside Outside = true
+is_face (Parcel m) (Parcel n) = m == n
+is_face Outside (Parcel n) = false
+is_face (Parcel m) Outside = false
+
+-- this ring, with the face to its left
+abbrev pub bounding : Face → Ring → Boundary
+bounding face ring = record { face = face; ring = ring }
+
+-- the sides of all these rings
+abbrev pub sides_in : List Boundary → List Side
+sides_in bs = flat_map (λ b. sides_of b.ring) bs
+
+-- the corners of all these rings
+abbrev pub corners_in : List Boundary → List Corner
+corners_in bs = flat_map (λ b. corners_of b.ring) bs
+
+-- ---- How boundaries are listed
+
+-- the outside comes first, and then parcels by their numbers
+abbrev pub face_place : Face → ℕ
+face_place Outside = 0
+face_place (Parcel n) = suc n
+
+-- the ring as its least rotation
+abbrev pub shown : Boundary → Boundary
+shown b = bounding b.face (least_rotation b.ring)
+
+-- by faces, and at one face by the rings
+abbrev pub is_listed_first : Boundary → Boundary → Bool
+is_listed_first a b = comes_first (face_place a.face ∷ a.ring) (face_place b.face ∷ b.ring)
+
+-- put before the first that it comes before
+abbrev pub put_in_order : Boundary → List Boundary → List Boundary
+put_in_order a [] = a ∷ []
+put_in_order a (b ∷ bs) = if is_listed_first a b then a ∷ b ∷ bs else b ∷ put_in_order a bs
+
+-- each ring as its least rotation, in order: how a map lists its boundaries, however they are kept
+abbrev pub listed : List Boundary → List Boundary
+listed [] = []
+listed (b ∷ bs) = put_in_order (shown b) (listed bs)

@@ -1,0 +1,83 @@
+//! Looking through rows and rings, one after another.
+ghost use Rattle.std.specs.Prelude.{◌≡◌, option_map, find, length, filter, slice_get, if◌then◌else◌};
+ghost use Rattle.std.specs.Option.{option_copied};
+ghost use Rattle.cad_rings.specs.Cycle.{has_side as has_side_of, sides_of};
+ghost use Rattle.cad_map.specs.Boundaries.{is_face as is_face_of};
+ghost use Rattle.cad_map.specs.Map.{is_end as is_end_of, point_after as point_after_in, rings_at};
+
+use crate::boundary::Boundary;
+use crate::listing::face_place;
+use crate::table::Table;
+use cad_rings::Ring;
+use cad_rows::{Face, PointNo, StringRow};
+
+fn is_end(row: &StringRow, point: PointNo) -> bool
+    ensures { result ≡ is_end_of row.now point }
+{
+    row.from.get() == point.get() || row.to.get() == point.get()
+}
+
+fn one_if(test: bool) -> usize
+    ensures { result ≡ (if test then 1 else 0) }
+{
+    if test { 1 } else { 0 }
+}
+
+/// How many of these strings have the point.
+pub(crate) fn strings_with(strings: &Table<StringRow>, point: PointNo) -> usize
+    ensures { result ≡ length (filter (λ s. is_end_of s point) strings.now) }
+{
+    let mut count = 0;
+    for place in 0..strings.len() {
+        let row = strings.at(place).unwrap();
+        count += one_if(is_end(row, point));
+    }
+    count
+}
+
+/// The face of the first of these rings that has the side from one point to another.
+pub(crate) fn face_with(boundaries: &[Boundary], from: PointNo, to: PointNo) -> Option<Face>
+    ensures { result ≡ option_map (λ b. b.face) (find (λ b. has_side_of (from, to) (sides_of b.ring)) boundaries.now) }
+{
+    for boundary in boundaries {
+        if boundary.ring.has_side(from, to) {
+            return Some(boundary.face);
+        }
+    }
+    None
+}
+
+/// The point that comes after the side from one point to another in the first of these rings that has it.
+pub(crate) fn point_after(boundaries: &[Boundary], from: PointNo, to: PointNo) -> Option<PointNo>
+    ensures { result ≡ point_after_in (from, to) boundaries.now }
+{
+    for boundary in boundaries {
+        if let Some(after) = boundary.ring.after(from, to) {
+            return Some(after);
+        }
+    }
+    None
+}
+
+fn is_face(a: &Face, b: &Face) -> bool
+    ensures { result ≡ is_face_of a.now b.now }
+{
+    face_place(a) == face_place(b)
+}
+
+/// The ring at a place among those that have the face to their left.
+pub(crate) fn ring_at(boundaries: &[Boundary], face: Face, place: usize) -> Option<&Ring>
+    ensures { option_copied result ≡ slice_get (rings_at face boundaries.now) place }
+{
+    let mut left = place;
+    for boundary in boundaries {
+        let here = is_face(&face, &boundary.face);
+        if here && left == 0 {
+            return Some(&boundary.ring);
+        }
+        if here {
+            left -= 1;
+        }
+    }
+    None
+}

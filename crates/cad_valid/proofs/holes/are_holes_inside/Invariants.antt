@@ -1,0 +1,12 @@
+use Rattle.std.proofs.Common.{◌≡◌, drop}
+use Rattle.std.specs.List.{list_all}
+use Rattle.cad_valid.specs.Holes.{is_inside_if_hole}
+use Rattle.cad_map.specs.Map.{rings_at}
+use Rattle.cad_valid.proofs.holes.are_holes_inside.Given as goal
+
+-- the rings that are left decide
+abbrev pub invariant-loop-place : goal.invariant-loop-place
+invariant-loop-place g l =
+    let m = g.M.MapView.map l.map in
+    let rings = rings_at l.face (g.M.MapView.rings l.map) in
+    list_all (is_inside_if_hole m rings) rings ≡ list_all (is_inside_if_hole m rings) (drop l.place rings)

@@ -1,0 +1,91 @@
+//! The rings of a face, each walked along its sides.
+ghost use Rattle.std.specs.Prelude.{◌≡◌, ◌<◌, length, IsTrue};
+ghost use Rattle.geo_exact.specs.Measure.{doubled_area};
+ghost use Rattle.geo_exact.specs.Inside.{is_inside};
+ghost use Rattle.cad_rings.specs.Cycle.{anchor_of as anchor_of_ring, placed, sides_of};
+ghost use Rattle.cad_map.specs.Boundaries.{listed};
+ghost use Rattle.cad_map.specs.Map.{rings_at, position_of, has_point, sum_of_ring, is_positive, is_negative};
+ghost use Rattle.cad_valid.specs.Rings.{HasWholeRings, ring_at};
+
+use crate::points::position;
+use cad_map::{MapView, Walk};
+use cad_rows::{Face, PointNo};
+use geo_exact::{DoubledArea, Pt, SideMeasure, crosses};
+
+/// How many rings a face has.
+pub(crate) fn ring_count<M: MapView>(map: &M, face: &Face) -> usize
+    requires { HasWholeRings (M.map map.now) }
+    ensures count { result ≡ length (rings_at face.now (M.rings map.now)) }
+    ensures listed { listed (M.rings map.now) ≡ (M.map map.now).boundaries }
+{
+    let mut count = 0;
+    while map.ring_side(*face, count).is_some() {
+        count += 1;
+    }
+    count
+}
+
+/// Whether a ring of a face has positive doubled area.
+pub(crate) fn is_outline<M: MapView>(map: &M, face: &Face, place: usize) -> bool
+    requires whole { HasWholeRings (M.map map.now) }
+    requires there { place < length (rings_at face.now (M.rings map.now)) }
+    ensures { result ≡ is_positive (M.map map.now) (ring_at (M.rings map.now) face.now place) }
+{
+    doubled_area_of(map, face, place) > 0
+}
+
+/// Whether a ring of a face has negative doubled area.
+pub(crate) fn is_hole<M: MapView>(map: &M, face: &Face, place: usize) -> bool
+    requires whole { HasWholeRings (M.map map.now) }
+    requires there { place < length (rings_at face.now (M.rings map.now)) }
+    ensures { result ≡ is_negative (M.map map.now) (ring_at (M.rings map.now) face.now place) }
+{
+    doubled_area_of(map, face, place) < 0
+}
+
+/// The doubled area of a ring of a face, in doubled square millimetres.
+pub(crate) fn doubled_area_of<M: MapView>(map: &M, face: &Face, place: usize) -> i128
+    requires whole { HasWholeRings (M.map map.now) }
+    requires there { place < length (rings_at face.now (M.rings map.now)) }
+    ensures { result ≡ sum_of_ring doubled_area (M.map map.now) (ring_at (M.rings map.now) face.now place) }
+{
+    let (from, to) = map.ring_side(*face, place).unwrap();
+    let mut sum = 0;
+    for (a, b) in Walk::from(map, from, to) {
+        sum += DoubledArea.of(position(map, a), position(map, b));
+    }
+    sum
+}
+
+/// The anchor of a ring of a face, its least point.
+pub(crate) fn anchor_of<M: MapView>(map: &M, face: &Face, place: usize) -> PointNo
+    requires whole { HasWholeRings (M.map map.now) }
+    requires there { place < length (rings_at face.now (M.rings map.now)) }
+    ensures value { result ≡ anchor_of_ring (ring_at (M.rings map.now) face.now place) }
+    ensures point { IsTrue (has_point (M.map map.now) result) }
+{
+    let (from, to) = map.ring_side(*face, place).unwrap();
+    let mut least = from;
+    for (point, _) in Walk::from(map, from, to) {
+        if point.get() < least.get() {
+            least = point;
+        }
+    }
+    least
+}
+
+/// Whether a position is inside a ring of a face: an odd number of the ring's sides is counted there.
+pub(crate) fn is_in_ring<M: MapView>(map: &M, face: &Face, place: usize, at: Pt) -> bool
+    requires whole { HasWholeRings (M.map map.now) }
+    requires there { place < length (rings_at face.now (M.rings map.now)) }
+    ensures { result ≡ is_inside (placed (position_of (M.map map.now)) (sides_of (ring_at (M.rings map.now) face.now place))) at }
+{
+    let (from, to) = map.ring_side(*face, place).unwrap();
+    let mut inside = false;
+    for (a, b) in Walk::from(map, from, to) {
+        if crosses(position(map, a), position(map, b), at) {
+            inside = !inside;
+        }
+    }
+    inside
+}
