@@ -60,3 +60,40 @@ pub(crate) fn check<R: Abort + AllocGlobal>(rt: &R, cases: &[Case]) -> Result<()
     }
     Ok(())
 }
+
+/// A worked job in parts, one after another, so that a plan is written once for many jobs.
+#[derive(Drop)]
+pub(crate) struct Parts {
+    pub name: &'static str,
+    pub job: &'static [&'static [&'static str]],
+    pub answers: &'static [&'static [&'static str]],
+    pub end: Result<(), JobFault>,
+}
+
+/// The records of all parts as lines.
+fn all_lines(alloc: Global, parts: &[&[&str]]) -> Result<Vec<u8>, Fail> {
+    let mut text = Vec::new(alloc);
+    for part in parts {
+        let more = lines(alloc, part)?;
+        text.extend_from_slice(more.as_slice())?;
+    }
+    Ok(text)
+}
+
+/// Runs each job with ample depth, and compares what it wrote and how it ended.
+pub(crate) fn check_parts<R: Abort + AllocGlobal>(rt: &R, cases: &[Parts]) -> Result<(), Fail> {
+    for case in cases {
+        let job = all_lines(rt.alloc(), case.job)?;
+        let answers = all_lines(rt.alloc(), case.answers)?;
+        let depth = Depth::new(100).expect(rt, "a depth");
+        let mut sink = MemSink::new(rt.alloc(), u64::MAX);
+        let end = run_job(rt.alloc(), job.as_slice(), &mut sink, depth);
+        assert_eq!(rt; end, case.end, "how {} ends", case.name);
+        assert!(rt;
+            sink.bytes() == answers.as_slice(),
+            "what {} writes",
+            case.name
+        );
+    }
+    Ok(())
+}

@@ -8,6 +8,8 @@ mod cases;
 #[cfg(test)]
 mod faults;
 #[cfg(test)]
+mod plans;
+#[cfg(test)]
 mod points;
 #[cfg(test)]
 mod records;

@@ -155,9 +155,9 @@ fn records_and_fields(rt: HostRuntime) -> Result<(), Fail> {
             end: Err(JobFault::Plan(PlanFault::Syntax(3))),
         },
         Case {
-            name: "a parcel, which isn't built yet",
+            name: "a parcel without a label",
             depth: 100,
-            job: &["plan,1", "parcel,1,A", "open"],
+            job: &["plan,1", "parcel,1", "open"],
             answers: &[],
             end: Err(JobFault::Plan(PlanFault::Syntax(2))),
         },

@@ -1,33 +1,41 @@
--- The records of a valid map's plan give the map again.
-use Rattle.std.proofs.Common.{subst, ◌≡◌, ◌≢◌, ◌∙◌, sym, ap, refl, ℕ, ◌+◌, ◌<◌, ◌≤◌, ◌==◌, List, [], ◌∷◌, ◌++◌, map, length, length-append, true, false, not, None, is_some, arith, inl, inr, nat_lt, nat_le, append_assoc, append-nil}
-use Rattle.std.specs.Prelude.{fold, ℤ, IsTrue}
+-- The records of a valid map's plan give the map's rows again.
+use Rattle.std.proofs.Common.{◌≡◌, ◌≢◌, ◌∙◌, sym, ap, refl, ℕ, ◌+◌, ◌<◌, ◌≤◌, ◌==◌, List, [], ◌∷◌, ◌++◌, map, find, length, length-append, true, false, None, Some, is_some, arith, inl, inr, nat_lt, nat_le, append_assoc, append-nil, decimal}
+use Rattle.std.specs.Prelude.{fold, ℤ, IsTrue, codes, unwrap_or, option_map}
 use Rattle.std.specs.List.{list_any, AllByRecursion}
+use Rattle.std.specs.Str.{bytes_eq}
 use Rattle.std.proofs.lemmas.Bool.{cases_Bool, ne_eqb, eqb-true}
 use Rattle.std.proofs.lemmas.Bool.Decides.{nat_tests}
 use Rattle.std.proofs.lemmas.Int.{ints}
+use Rattle.std.proofs.lemmas.List.{length-map}
+use Rattle.std.proofs.lemmas.Slice.Eq.{bytes_eq-Decides}
 use Rattle.std.proofs.lemmas.List.Sums.{fold-append}
-use Rattle.std.proofs.lemmas.List.Folds.{find-append}
 use Rattle.geo_exact.specs.Position.{OnTheMap, InRange, in_range}
-use Rattle.cad_rows.specs.Limits.{IsNumber, IsLabel, row_limit, source_limit}
+use Rattle.cad_rows.specs.Limits.{IsNumber, IsLabel, row_limit, string_limit, source_limit}
+use Rattle.cad_rows.specs.declared.names.Face.{Face}
+use Rattle.cad_rows.specs.declared.names.Face.TheVariants.{Outside, Parcel}
 use Rattle.cad_rows.specs.declared.rows.PointRow.{PointRow}
+use Rattle.cad_rows.specs.declared.rows.ParcelRow.{ParcelRow}
+use Rattle.cad_rows.specs.declared.rows.StringRow.{StringRow}
 use Rattle.cad_rows.specs.declared.rows.SourceRow.{SourceRow}
-use Rattle.cad_map.specs.Map.{Map, has_source}
-use Rattle.cad_map.specs.Refusals.{is_there}
+use Rattle.cad_rings.specs.Cycle.{Side, has_side, opposite, sides_of}
+use Rattle.cad_map.specs.declared.boundary.Boundary.{Boundary}
+use Rattle.cad_map.specs.Map.{Map, has_point, has_face, face_at, side_of}
 use Rattle.cad_map.specs.Table.{row_with}
-use Rattle.cad_map.specs.Valid.{EachPair, AreSources, IsValid}
-use Rattle.cad_files.specs.Fields.{repeated}
-use Rattle.cad_files.specs.Rows.{Rows, no_rows}
-use Rattle.cad_files.specs.Plan.{plan_of, plan_step, plan_meant, source_meant, point_meant, open_meant, version_of, beginning, reading, opened}
-use Rattle.cad_files.specs.Texts.{Record, first_record, source_record, point_record, open_record, plan_records, text_of, record_text}
-use Rattle.cad_files.specs.Building.{map_of, rows_of, IsBuilt, missing, sources_named, points_name, source_taken, point_taken}
-use Rattle.cad_files.specs.declared.plan.Version.TheVariants.{Two}
+use Rattle.cad_map.specs.Valid.{EachPair, AreSources, HasSoundRows, IsValid}
+use Rattle.cad_files.specs.Fields.{repeated, distinct_of, face_of, magnitude_of, number_of}
+use Rattle.cad_files.specs.Rows.{Rows, no_rows, IsFace}
+use Rattle.cad_files.specs.PlanRecords.{plan_meant, source_meant, point_meant, parcel_meant, string_meant, retired_meant, open_meant, version_of}
+use Rattle.cad_files.specs.Plan.{Plan, plan_of, plan_step, beginning, reading, opened}
+use Rattle.cad_files.specs.Texts.{Record, first_record, source_record, point_record, parcel_record, string_record, retired_record, open_record, face_field, plan_records, text_of, record_text}
+use Rattle.cad_files.specs.Building.{plan_string_of, rows_of}
+use Rattle.cad_files.specs.declared.rows.PlanString.{PlanString}
+use Rattle.cad_files.specs.declared.plan_records.Version.TheVariants.{Two}
 use Rattle.cad_files.specs.Input.{IsWhole}
 use Rattle.csv.specs.Machine.{next_record}
 use Rattle.csv.specs.Reading.{Reached, default_config}
 use Rattle.csv.specs.Writing.{read_back}
 use Rattle.csv.specs.declared.parser.State.TheVariants as st
 use Rattle.csv.proofs.RoundTrip.{read-write}
-use Rattle.cad_files.proofs.ValidFacts.{fault-none}
 use Rattle.cad_files.proofs.DecimalFacts.{number_again, coordinate_again, text_again, list_again}
 
 -- ---- No number stands twice
@@ -44,7 +52,7 @@ others-push m before (n ∷ ns) all new = (one before all.0, others-push m befor
     one [] h = (new.0, tt)
     one (k ∷ l) h = (h.0, one l h.1)
 
-repeated-none : (before ns : List ℕ) → EachPair (λ a b. a ≢ b) ns → AllByRecursion (λ n. AllByRecursion (λ k. k ≢ n) before) ns → repeated before ns ≡ None
+pub repeated-none : (before ns : List ℕ) → EachPair (λ a b. a ≢ b) ns → AllByRecursion (λ n. AllByRecursion (λ k. k ≢ n) before) ns → repeated before ns ≡ None
 repeated-none before [] each all = refl
 repeated-none before (n ∷ ns) each all = rw (none-among n before all.0) (repeated-none (before ++ n ∷ []) ns each.1 (others-push n before ns all.1 each.0))
 
@@ -55,27 +63,42 @@ nothing-before (n ∷ ns) = (tt, nothing-before ns)
 pub distinct-once : (ns : List ℕ) → EachPair (λ a b. a ≢ b) ns → repeated [] ns ≡ None
 distinct-once ns each = repeated-none [] ns each (nothing-before ns)
 
--- ---- The sources that a point names have numbers in range
+-- ---- What is named has a number in range
 
-found-number : (rows : List SourceRow) (s : ℕ) → AllByRecursion IsNumber (map (λ r. r.number) rows) → IsTrue (is_some (row_with (λ (r : SourceRow). r.number) s rows)) → IsNumber s
-found-number [] s all found = cc found
-found-number (r ∷ rows) s all found = elim (cases_Bool (r.number == s)) [
-  | inl same ↦ let e = eqb-true r.number s same in rw e at all.0
-  | inr other ↦ found-number rows s all.1 (rw other at found)
-]
+module _ {R : Type 0} (number : R → ℕ) where
+  found-number : (rows : List R) (n : ℕ) → AllByRecursion IsNumber (map number rows) → IsTrue (is_some (row_with number n rows)) → IsNumber n
+  found-number [] n all found = cc found
+  found-number (r ∷ rows) n all found = elim (cases_Bool (number r == n)) [
+    | inl same ↦ let e = eqb-true (number r) n same in rw e at all.0
+    | inr other ↦ found-number rows n all.1 (rw other at found)
+  ]
 
 numbers-found : (rows : List SourceRow) (ns : List ℕ) → AllByRecursion IsNumber (map (λ r. r.number) rows) → AllByRecursion (λ s. IsTrue (is_some (row_with (λ (r : SourceRow). r.number) s rows))) ns → AllByRecursion IsNumber ns
 numbers-found rows [] all found = tt
-numbers-found rows (n ∷ ns) all found = (found-number rows n all found.0, numbers-found rows ns all found.1)
+numbers-found rows (n ∷ ns) all found = (found-number (λ (r : SourceRow). r.number) rows n all found.0, numbers-found rows ns all found.1)
 
 -- ---- One record more
+
+-- sources that a list of an item reads as
+record AreReadable (sources : List ℕ) : Type 0 where
+  numbers : AllByRecursion IsNumber sources
+  once : repeated [] sources ≡ None
+  few : length sources ≤ source_limit
+
+readable : (rows : List SourceRow) (sources : List ℕ) → AllByRecursion IsNumber (map (λ r. r.number) rows) → AreSources rows sources → AreReadable sources
+readable rows sources known named = record { numbers = numbers-found rows sources known named.known; once = distinct-once sources named.distinct; few = named.few }
+
+less : (n limit : ℕ) → n < limit → nat_lt n limit ≡ true
+less n limit h = grind (arith, nat_tests)
+
+at_most : (n limit : ℕ) → n ≤ limit → nat_le n limit ≡ true
+at_most n limit h = grind (arith, nat_tests)
 
 source_step : (n : ℕ) (rows : Rows) (s : SourceRow) → IsNumber s.number → IsLabel s.text → length rows.sources < row_limit
     → plan_step (reading Two n rows) (source_record s) ≡ reading Two (n + 1) (record rows { sources = rows.sources ++ s ∷ [] })
 unfolding plan_step plan_meant source_meant
 source_step n rows s number text room =
-    let fits : nat_lt (length rows.sources) row_limit ≡ true = grind (arith, nat_tests) in
-    rw (number_again s.number number.some (omega (arith, number.within)), text_again s.text text, fits) refl
+    rw (number_again s.number number.some (omega (arith, number.within)), text_again s.text text, less (length rows.sources) row_limit room) refl
 
 within : (z : ℤ) → InRange z → in_range z ≡ true
 within z range =
@@ -83,66 +106,90 @@ within z range =
     let high = range.high in
     grind (arith, ints, nat_tests)
 
-point_step : (n : ℕ) (rows : Rows) (p : PointRow) → IsNumber p.number → OnTheMap p.position → AllByRecursion IsNumber p.sources → repeated [] p.sources ≡ None → length p.sources ≤ source_limit
-    → length rows.points < row_limit
+point_step : (n : ℕ) (rows : Rows) (p : PointRow) → IsNumber p.number → OnTheMap p.position → AreReadable p.sources → length rows.points < row_limit
     → plan_step (reading Two n rows) (point_record p) ≡ reading Two (n + 1) (record rows { points = rows.points ++ p ∷ [] })
-unfolding plan_step plan_meant point_meant
-point_step n rows p number position sources once few room =
-    let fits : nat_lt (length rows.points) row_limit ≡ true = grind (arith, nat_tests) in
-    let short : nat_le (length p.sources) source_limit ≡ true = grind (arith, nat_tests) in
-    let x_in = within p.position.x position.x_in_range in
-    let y_in = within p.position.y position.y_in_range in
+unfolding plan_step plan_meant point_meant distinct_of
+point_step n rows p number position sources room =
     rw (
       number_again p.number number.some (omega (arith, number.within)),
       coordinate_again p.position.x position.x_in_range,
       coordinate_again p.position.y position.y_in_range,
-      list_again p.sources sources,
-      once,
-      x_in,
-      y_in,
-      short,
-      fits,
+      list_again p.sources sources.numbers,
+      sources.once,
+      within p.position.x position.x_in_range,
+      within p.position.y position.y_in_range,
+      at_most (length p.sources) source_limit sources.few,
+      less (length rows.points) row_limit room,
     ) refl
 
--- ---- All the records
+parcel_step : (n : ℕ) (rows : Rows) (p : ParcelRow) → IsNumber p.number → IsLabel p.label → AreReadable p.sources → length rows.parcels < row_limit
+    → plan_step (reading Two n rows) (parcel_record p) ≡ reading Two (n + 1) (record rows { parcels = rows.parcels ++ p ∷ [] })
+unfolding plan_step plan_meant parcel_meant distinct_of
+parcel_step n rows p number label sources room =
+    rw (
+      number_again p.number number.some (omega (arith, number.within)),
+      text_again p.label label,
+      list_again p.sources sources.numbers,
+      sources.once,
+      at_most (length p.sources) source_limit sources.few,
+      less (length rows.parcels) row_limit room,
+    ) refl
 
--- a point's row as a valid map has it
-record IsWritable (p : PointRow) : Type 0 where
-  number : IsNumber p.number
-  position : OnTheMap p.position
-  sources : AllByRecursion IsNumber p.sources
-  once : repeated [] p.sources ≡ None
-  few : length p.sources ≤ source_limit
+-- the digits of a number are not those of the outside
+no_outside : (n : ℕ) → IsNumber n → bytes_eq (decimal n) (codes "0") ≡ false
+unfolding magnitude_of
+no_outside n number = elim (cases_Bool (bytes_eq (decimal n) (codes "0"))) [
+  | inl same ↦
+      let none : Some n ≡ None = sym (number_again n number.some (omega (arith, number.within))) ∙ ap number_of ((bytes_eq-Decides (decimal n) (codes "0")).0 same) in
+      cc
+  | inr other ↦ other
+]
 
-sources_fold : (n : ℕ) (rows : Rows) (ss : List SourceRow) → AllByRecursion IsNumber (map (λ r. r.number) ss) → AllByRecursion (λ r. IsLabel r.text) ss → length rows.sources + length ss ≤ row_limit
-    → fold plan_step (reading Two n rows) (map source_record ss) ≡ reading Two (n + length ss) (record rows { sources = rows.sources ++ ss })
-sources_fold n rows [] numbers texts room = let same : n + 0 ≡ n = omega arith in rw (append-nil rows.sources, same) refl
-sources_fold n rows (s ∷ ss) numbers texts room =
-    ap (λ p. fold plan_step p (map source_record ss)) (source_step n rows s numbers.0 texts.0 (omega arith))
-    ∙ sources_fold (n + 1) (record rows { sources = rows.sources ++ s ∷ [] }) ss numbers.1 texts.1 (simp length-append (omega arith))
-    ∙ (let counted : n + 1 + length ss ≡ n + length (s ∷ ss) = omega arith in rw (append_assoc rows.sources (s ∷ []) ss, counted) refl)
+face_again : (f : Face) → IsFace f → face_of (face_field f) ≡ Some f
+unfolding face_of
+face_again Outside range = refl
+face_again (Parcel n) range =
+    let number = range n refl in
+    rw (no_outside n number, number_again n number.some (omega (arith, number.within))) refl
 
-points_fold : (n : ℕ) (rows : Rows) (ps : List PointRow) → AllByRecursion IsWritable ps → length rows.points + length ps ≤ row_limit
-    → fold plan_step (reading Two n rows) (map point_record ps) ≡ reading Two (n + length ps) (record rows { points = rows.points ++ ps })
-points_fold n rows [] all room = let same : n + 0 ≡ n = omega arith in rw (append-nil rows.points, same) refl
-points_fold n rows (p ∷ ps) all room =
-    ap (λ q. fold plan_step q (map point_record ps)) (point_step n rows p all.0.number all.0.position all.0.sources all.0.once all.0.few (omega arith))
-    ∙ points_fold (n + 1) (record rows { points = rows.points ++ p ∷ [] }) ps all.1 (simp length-append (omega arith))
-    ∙ (let counted : n + 1 + length ps ≡ n + length (p ∷ ps) = omega arith in rw (append_assoc rows.points (p ∷ []) ps, counted) refl)
+string_step : (n : ℕ) (rows : Rows) (s : PlanString) → IsNumber s.row.number → IsNumber s.row.from × IsNumber s.row.to → IsFace s.left × IsFace s.right → AreReadable s.row.sources → length rows.strings < string_limit
+    → plan_step (reading Two n rows) (string_record s) ≡ reading Two (n + 1) (record rows { strings = rows.strings ++ s ∷ [] })
+unfolding plan_step plan_meant string_meant distinct_of
+string_step n rows s number ends faces sources room =
+    rw (
+      number_again s.row.number number.some (omega (arith, number.within)),
+      number_again s.row.from ends.0.some (omega (arith, ends.0.within)),
+      number_again s.row.to ends.1.some (omega (arith, ends.1.within)),
+      face_again s.left faces.0,
+      face_again s.right faces.1,
+      list_again s.row.sources sources.numbers,
+      sources.once,
+      at_most (length s.row.sources) source_limit sources.few,
+      less (length rows.strings) string_limit room,
+    ) refl
 
-writable : (sources : List SourceRow) (ps : List PointRow) → AllByRecursion IsNumber (map (λ r. r.number) sources) → AllByRecursion IsNumber (map (λ r. r.number) ps) → AllByRecursion (λ r. OnTheMap r.position) ps
-    → AllByRecursion (λ r. AreSources sources r.sources) ps → AllByRecursion IsWritable ps
-writable sources [] known numbers positions named = tt
-writable sources (p ∷ ps) known numbers positions named = (
-  record {
-    number = numbers.0;
-    position = positions.0;
-    sources = numbers-found sources p.sources known named.0.known;
-    once = distinct-once p.sources named.0.distinct;
-    few = named.0.few;
-  },
-  writable sources ps known numbers.1 positions.1 named.1,
-)
+retired_step : (n : ℕ) (rows : Rows) (k : ℕ) → IsNumber k → length rows.retired < row_limit
+    → plan_step (reading Two n rows) (retired_record k) ≡ reading Two (n + 1) (record rows { retired = rows.retired ++ k ∷ [] })
+unfolding plan_step plan_meant retired_meant
+retired_step n rows k number room = rw (number_again k number.some (omega (arith, number.within)), less (length rows.retired) row_limit room) refl
+
+-- ---- All the records of a kind
+
+-- rows of a kind, each of which is put last by its record
+module _ {R : Type 0} (record_of : R → Record) (kept : Rows → List R) (put : Rows → List R → Rows) (limit : ℕ) (P : R → Type 0)
+    (kept_put : (rows : Rows) (rs : List R) → kept (put rows rs) ≡ rs)
+    (twice : (rows : Rows) (rs qs : List R) → put (put rows rs) qs ≡ put rows qs)
+    (same : (rows : Rows) → put rows (kept rows) ≡ rows)
+    (step : (n : ℕ) (rows : Rows) (r : R) → P r → length (kept rows) < limit → plan_step (reading Two n rows) (record_of r) ≡ reading Two (n + 1) (put rows (kept rows ++ r ∷ []))) where
+  records_fold : (n : ℕ) (rows : Rows) (rs : List R) → AllByRecursion P rs → length (kept rows) + length rs ≤ limit
+      → fold plan_step (reading Two n rows) (map record_of rs) ≡ reading Two (n + length rs) (put rows (kept rows ++ rs))
+  records_fold n rows [] all room = let e : n + 0 ≡ n = omega arith in rw (append-nil (kept rows), same rows, e) refl
+  records_fold n rows (r ∷ rs) all room =
+      let next = put rows (kept rows ++ r ∷ []) in
+      let now : kept next ≡ kept rows ++ r ∷ [] = kept_put rows (kept rows ++ r ∷ []) in
+      ap (λ p. fold plan_step p (map record_of rs)) (step n rows r all.0 (omega arith))
+      ∙ records_fold (n + 1) next rs all.1 (let e = ap (λ (l : List R). length l) now in let k = length-append (kept rows) (r ∷ []) in omega (arith, e, k))
+      ∙ (let counted : n + 1 + length rs ≡ n + length (r ∷ rs) = omega arith in rw (counted, twice rows (kept rows ++ r ∷ []) (kept next ++ rs), now, append_assoc (kept rows) (r ∷ []) rs) refl)
 
 first_is : plan_step beginning first_record ≡ reading Two 1 no_rows
 unfolding plan_step version_of
@@ -152,42 +199,138 @@ open_is : (n : ℕ) (rows : Rows) → plan_step (reading Two n rows) open_record
 unfolding plan_step plan_meant open_meant
 open_is n rows = refl
 
+-- ---- The rows of a valid map
+
+-- a point's row as a valid map has it
+record IsReadablePoint (p : PointRow) : Type 0 where
+  number : IsNumber p.number
+  position : OnTheMap p.position
+  sources : AreReadable p.sources
+
+record IsReadableParcel (p : ParcelRow) : Type 0 where
+  number : IsNumber p.number
+  label : IsLabel p.label
+  sources : AreReadable p.sources
+
+record IsReadableString (s : PlanString) : Type 0 where
+  number : IsNumber s.row.number
+  ends : IsNumber s.row.from × IsNumber s.row.to
+  faces : IsFace s.left × IsFace s.right
+  sources : AreReadable s.row.sources
+
+record IsReadableSource (s : SourceRow) : Type 0 where
+  number : IsNumber s.number
+  text : IsLabel s.text
+
+module _ (m : Map) (v : HasSoundRows m) where
+  sources-readable : (ss : List SourceRow) → AllByRecursion IsNumber (map (λ r. r.number) ss) → AllByRecursion (λ r. IsLabel r.text) ss → AllByRecursion IsReadableSource ss
+  sources-readable [] numbers texts = tt
+  sources-readable (s ∷ ss) numbers texts = (record { number = numbers.0; text = texts.0 }, sources-readable ss numbers.1 texts.1)
+
+  points-readable : (ps : List PointRow) → AllByRecursion IsNumber (map (λ r. r.number) ps) → AllByRecursion (λ r. OnTheMap r.position) ps → AllByRecursion (λ r. AreSources m.sources r.sources) ps → AllByRecursion IsReadablePoint ps
+  points-readable [] numbers positions named = tt
+  points-readable (p ∷ ps) numbers positions named = (
+    record { number = numbers.0; position = positions.0; sources = readable m.sources p.sources v.sources.in_range named.0 },
+    points-readable ps numbers.1 positions.1 named.1,
+  )
+
+  parcels-readable : (ps : List ParcelRow) → AllByRecursion IsNumber (map (λ r. r.number) ps) → AllByRecursion (λ r. IsLabel r.label) ps → AllByRecursion (λ r. AreSources m.sources r.sources) ps → AllByRecursion IsReadableParcel ps
+  parcels-readable [] numbers labels named = tt
+  parcels-readable (p ∷ ps) numbers labels named = (
+    record { number = numbers.0; label = labels.0; sources = readable m.sources p.sources v.sources.in_range named.0 },
+    parcels-readable ps numbers.1 labels.1 named.1,
+  )
+
+  -- the face of a side is one of the map
+  pub face-known : (s : Side) → IsTrue (has_face m (unwrap_or (face_at m s) Outside))
+  face-known s = go m.boundaries v.faces_of_rings
+    where
+      go : (bs : List Boundary) → AllByRecursion (λ b. IsTrue (has_face m b.face)) bs → IsTrue (has_face m (unwrap_or (option_map (λ b. b.face) (find (λ b. has_side s (sides_of b.ring)) bs)) Outside))
+      go [] all = refl
+      go (b ∷ bs) all = elim (cases_Bool (has_side s (sides_of b.ring))) [ inl here ↦ rw here all.0 | inr other ↦ rw other (go bs all.1) ]
+
+  face-in_range : (f : Face) → IsTrue (has_face m f) → IsFace f
+  face-in_range Outside known n is = cc
+  face-in_range (Parcel k) known n is =
+      let same : k ≡ n = cc in
+      rw same at (found-number (λ (r : ParcelRow). r.number) m.parcels k v.parcels.in_range known)
+
+  strings-readable : (ss : List StringRow) → AllByRecursion IsNumber (map (λ r. r.number) ss) → AllByRecursion (λ s. IsTrue (has_point m s.from) × IsTrue (has_point m s.to)) ss
+      → AllByRecursion (λ r. AreSources m.sources r.sources) ss → AllByRecursion IsReadableString (map (plan_string_of m) ss)
+  strings-readable [] numbers ends named = tt
+  strings-readable (s ∷ ss) numbers ends named = (
+    record {
+      number = numbers.0;
+      ends = (found-number (λ (r : PointRow). r.number) m.points s.from v.points.in_range ends.0.0, found-number (λ (r : PointRow). r.number) m.points s.to v.points.in_range ends.0.1);
+      faces = (face-in_range (plan_string_of m s).left (face-known (side_of s)), face-in_range (plan_string_of m s).right (face-known (opposite (side_of s))));
+      sources = readable m.sources s.sources v.sources.in_range named.0;
+    },
+    strings-readable ss numbers.1 ends.1 named.1,
+  )
+
+-- ---- All the records
+
+-- so many rows of each kind, one kind after another
+abbrev up_to_sources : Map → Rows
+up_to_sources m = record no_rows { sources = m.sources }
+
+abbrev up_to_points : Map → Rows
+up_to_points m = record (up_to_sources m) { points = m.points }
+
+abbrev up_to_parcels : Map → Rows
+up_to_parcels m = record (up_to_points m) { parcels = m.parcels }
+
+abbrev up_to_strings : Map → Rows
+up_to_strings m = record (up_to_parcels m) { strings = map (plan_string_of m) m.strings }
+
+-- a kind's records after others
+kind_next : (p q : Plan) (records rest : List Record) → fold plan_step p records ≡ q → fold plan_step p (records ++ rest) ≡ fold plan_step q rest
+kind_next p q records rest h = fold-append plan_step p records rest ∙ ap (λ r. fold plan_step r rest) h
+
+module _ (m : Map) (v : HasSoundRows m) where
+  all_sources : fold plan_step (reading Two 1 no_rows) (map source_record m.sources) ≡ reading Two (1 + length m.sources) (up_to_sources m)
+  all_sources =
+      records_fold source_record (λ rows. rows.sources) (λ rows rs. record rows { sources = rs }) row_limit IsReadableSource (λ rows rs. refl) (λ rows rs qs. refl) (λ rows. refl)
+      (λ n rows s h room. source_step n rows s h.number h.text room)
+      1 no_rows m.sources (sources-readable m v m.sources v.sources.in_range v.texts) (let few = v.few_sources in omega arith)
+
+  all_points : (n : ℕ) → fold plan_step (reading Two n (up_to_sources m)) (map point_record m.points) ≡ reading Two (n + length m.points) (up_to_points m)
+  all_points n =
+      records_fold point_record (λ rows. rows.points) (λ rows rs. record rows { points = rs }) row_limit IsReadablePoint (λ rows rs. refl) (λ rows rs qs. refl) (λ rows. refl)
+      (λ n rows p h room. point_step n rows p h.number h.position h.sources room)
+      n (up_to_sources m) m.points (points-readable m v m.points v.points.in_range v.positions v.point_sources) (let few = v.few_points in omega arith)
+
+  all_parcels : (n : ℕ) → fold plan_step (reading Two n (up_to_points m)) (map parcel_record m.parcels) ≡ reading Two (n + length m.parcels) (up_to_parcels m)
+  all_parcels n =
+      records_fold parcel_record (λ rows. rows.parcels) (λ rows rs. record rows { parcels = rs }) row_limit IsReadableParcel (λ rows rs. refl) (λ rows rs qs. refl) (λ rows. refl)
+      (λ n rows p h room. parcel_step n rows p h.number h.label h.sources room)
+      n (up_to_points m) m.parcels (parcels-readable m v m.parcels v.parcels.in_range v.labels v.parcel_sources) (let few = v.few_parcels in omega arith)
+
+  all_strings : (n : ℕ) → fold plan_step (reading Two n (up_to_parcels m)) (map string_record (map (plan_string_of m) m.strings)) ≡ reading Two (n + length (map (plan_string_of m) m.strings)) (up_to_strings m)
+  all_strings n =
+      records_fold string_record (λ rows. rows.strings) (λ rows rs. record rows { strings = rs }) string_limit IsReadableString (λ rows rs. refl) (λ rows rs qs. refl) (λ rows. refl)
+      (λ n rows s h room. string_step n rows s h.number h.ends h.faces h.sources room)
+      n (up_to_parcels m) (map (plan_string_of m) m.strings) (strings-readable m v m.strings v.strings.in_range v.ends v.string_sources)
+      (let few = v.few_strings in simp length-map (omega arith))
+
+  all_retired : (n : ℕ) → fold plan_step (reading Two n (up_to_strings m)) (map retired_record m.retired) ≡ reading Two (n + length m.retired) (rows_of m)
+  all_retired n =
+      records_fold retired_record (λ rows. rows.retired) (λ rows rs. record rows { retired = rs }) row_limit IsNumber (λ rows rs. refl) (λ rows rs qs. refl) (λ rows. refl)
+      (λ n rows k h room. retired_step n rows k h room)
+      n (up_to_strings m) m.retired v.retired.in_range (let few = v.few_retired in omega arith)
+
 pub plan_again : (m : Map) → IsValid m → plan_of (plan_records m) ≡ opened (rows_of m)
 plan_again m valid =
     let v = valid.sound.v1 in
-    let ss = map source_record m.sources in
-    let ps = map point_record m.points in
-    ap (λ p. fold plan_step p ((ss ++ ps) ++ open_record ∷ [])) first_is
-    ∙ fold-append plan_step (reading Two 1 no_rows) (ss ++ ps) (open_record ∷ [])
-    ∙ ap (λ p. plan_step p open_record) (
-    fold-append plan_step (reading Two 1 no_rows) ss ps
-    ∙ ap (λ p. fold plan_step p ps) (sources_fold 1 no_rows m.sources v.sources.in_range v.texts (let few = v.few_sources in omega arith))
-    ∙ points_fold (1 + length m.sources) (record no_rows { sources = m.sources }) m.points (writable m.sources m.points v.sources.in_range v.points.in_range v.positions v.point_sources) (let few = v.few_points in omega arith)
-    )
+    let strings = map string_record (map (plan_string_of m) m.strings) in
+    let last = map retired_record m.retired ++ open_record ∷ [] in
+    ap (λ p. fold plan_step p (map source_record m.sources ++ (map point_record m.points ++ (map parcel_record m.parcels ++ (strings ++ last))))) first_is
+    ∙ kind_next _ _ (map source_record m.sources) (map point_record m.points ++ (map parcel_record m.parcels ++ (strings ++ last))) (all_sources m v)
+    ∙ kind_next _ _ (map point_record m.points) (map parcel_record m.parcels ++ (strings ++ last)) (all_points m v _)
+    ∙ kind_next _ _ (map parcel_record m.parcels) (strings ++ last) (all_parcels m v _)
+    ∙ kind_next _ _ strings last (all_strings m v _)
+    ∙ kind_next _ _ (map retired_record m.retired) (open_record ∷ []) (all_retired m v _)
     ∙ open_is _ _
-
--- ---- The map of the rows
-
-all_there : (m : Map) (ns : List ℕ) → AllByRecursion (λ s. IsTrue (has_source m s)) ns → missing m (sources_named ns) ≡ None
-all_there m [] all = refl
-all_there m (n ∷ ns) all = rw all.0 (all_there m ns all.1)
-
-none_missing : (m : Map) (ps : List PointRow) → AllByRecursion (λ r. AreSources m.sources r.sources) ps → missing m (points_name ps) ≡ None
-unfolding points_name
-none_missing m [] all = refl
-none_missing m (p ∷ ps) all = find-append (λ n. not (is_there m n)) (sources_named p.sources) (points_name ps) ∙ rw (all_there m p.sources all.0.known, none_missing m ps all.1) refl
-
-none_taken : (m : Map) → IsValid m → (source_taken m.sources ≡ None) × (point_taken m.points ≡ None)
-unfolding source_taken point_taken
-none_taken m valid =
-    let v = valid.sound.v1 in
-    (rw (distinct-once _ v.sources.distinct) refl, rw (distinct-once _ v.points.distinct) refl)
-
-pub built_again : (m : Map) → IsValid m → m ≡ map_of (rows_of m) → IsBuilt (rows_of m) m
-built_again m valid alone =
-    let free = none_taken m valid in
-    let known = subst (λ (n : Map). missing n (points_name m.points) ≡ None) alone (none_missing m m.points valid.sound.v1.point_sources) in
-    record { faultless = fault-none _ _ _ free.0 free.1 known; is = alone; valid = valid }
 
 -- ---- The text of the records
 
@@ -213,7 +356,26 @@ each-point : (ps : List PointRow) → AllByRecursion (λ r. read_back r ≡ r) (
 each-point [] = tt
 each-point (p ∷ ps) = (refl, each-point ps)
 
+each-parcel : (ps : List ParcelRow) → AllByRecursion (λ r. read_back r ≡ r) (map parcel_record ps)
+each-parcel [] = tt
+each-parcel (p ∷ ps) = (refl, each-parcel ps)
+
+each-string : (ss : List PlanString) → AllByRecursion (λ r. read_back r ≡ r) (map string_record ss)
+each-string [] = tt
+each-string (s ∷ ss) = (refl, each-string ss)
+
+each-retired : (ns : List ℕ) → AllByRecursion (λ r. read_back r ≡ r) (map retired_record ns)
+each-retired [] = tt
+each-retired (n ∷ ns) = (refl, each-retired ns)
+
 pub plan_text_again : (m : Map) → IsWhole (text_of (plan_records m)) (plan_records m)
 plan_text_again m =
     let P : Record → Type 0 = λ r. read_back r ≡ r in
-    whole (plan_records m) (refl, both-all P (map source_record m.sources ++ map point_record m.points) (open_record ∷ []) (both-all P (map source_record m.sources) (map point_record m.points) (each-source m.sources) (each-point m.points)) (refl, tt))
+    let strings = map (plan_string_of m) m.strings in
+    whole (plan_records m) (
+      refl,
+      both-all P (map source_record m.sources) _ (each-source m.sources)
+          (both-all P (map point_record m.points) _ (each-point m.points)
+          (both-all P (map parcel_record m.parcels) _ (each-parcel m.parcels)
+          (both-all P (map string_record strings) _ (each-string strings) (both-all P (map retired_record m.retired) (open_record ∷ []) (each-retired m.retired) (refl, tt))))),
+    )

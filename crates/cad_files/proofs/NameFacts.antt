@@ -1,15 +1,15 @@
 -- Names that are looked up one after another.
 use Rattle.std.proofs.Common.{◌≡◌, ◌∙◌, sym, ap, refl, ℕ, ◌+◌, ◌<◌, List, [], ◌∷◌, ◌++◌, length, take, drop, get_or, Bool, true, false, not, Option, Some, None, is_some, take-append-drop, drop-cons, add-one}
-use Rattle.std.specs.Prelude.{find}
+use Rattle.std.specs.Prelude.{find, flat_map}
 use Rattle.std.specs.Option.{option_or}
 use Rattle.std.proofs.lemmas.List.{take_more, map-append}
 use Rattle.std.proofs.lemmas.List.Folds.{find-append}
 use Rattle.std.proofs.lemmas.Grind.{flat_map-append}
-use Rattle.cad_rows.specs.declared.rows.PointRow.{PointRow}
+use Rattle.cad_rows.specs.declared.names.Name.{Name}
 use Rattle.cad_rows.specs.declared.names.Name.TheVariants as name
 use Rattle.cad_map.specs.Map.{Map, has_source}
 use Rattle.cad_map.specs.Refusals.{is_there}
-use Rattle.cad_files.specs.Building.{missing, sources_named, points_name}
+use Rattle.cad_files.specs.Building.{missing, sources_named}
 
 -- the element at a place, between those before it and those after it
 pub parted : {X : Type 0} (xs : List X) (i : ℕ) (x d : X) → i < length xs → x ≡ get_or xs i d → take i xs ++ (x ∷ drop (i + 1) xs) ≡ xs
@@ -37,24 +37,35 @@ missing-more m list i x d h is none there =
     ap (λ l. missing m (sources_named l)) (take_more list i d h ∙ ap (λ y. take i list ++ y ∷ []) (sym is)) ∙ ap (missing m) (map-append (λ n. name.Source n) (take i list) (x ∷ []))
     ∙ find-after (λ n. not (is_there m n)) (sources_named (take i list)) _ none ∙ rw there refl
 
-pub missing_row-none : (m : Map) → missing m (points_name []) ≡ None
-unfolding points_name
-missing_row-none m = refl
+-- rows that name others
+module _ {R : Type 0} (named : R → List Name) (m : Map) (rows : List R) (i : ℕ) (row d : R) (h : i < length rows) (is : row ≡ get_or rows i d) (none : missing m (flat_map named (take i rows)) ≡ None) where
+  pub row-found : is_some (missing m (named row)) ≡ true → missing m (flat_map named rows) ≡ missing m (named row)
+  row-found some =
+      ap (λ l. missing m (flat_map named l)) (sym (parted rows i row d h is))
+      ∙ ap (missing m) (flat_map-append named (take i rows) (row ∷ drop (i + 1) rows))
+      ∙ find-after (λ n. not (is_there m n)) (flat_map named (take i rows)) _ none
+      ∙ find-before (λ n. not (is_there m n)) (named row) _ some
 
-pub missing_row-found : (m : Map) (rows : List PointRow) (i : ℕ) (row d : PointRow) → i < length rows → row ≡ get_or rows i d → missing m (points_name (take i rows)) ≡ None
-    → is_some (missing m (sources_named row.sources)) ≡ true → missing m (points_name rows) ≡ missing m (sources_named row.sources)
-unfolding points_name
-missing_row-found m rows i row d h is none some =
-    ap (λ l. missing m (points_name l)) (sym (parted rows i row d h is))
-    ∙ ap (missing m) (flat_map-append (λ (r : PointRow). sources_named r.sources) (take i rows) (row ∷ drop (i + 1) rows))
-    ∙ find-after (λ n. not (is_there m n)) (points_name (take i rows)) _ none
-    ∙ find-before (λ n. not (is_there m n)) (sources_named row.sources) _ some
+  pub row-more : missing m (named row) ≡ None → missing m (flat_map named (take (i + 1) rows)) ≡ None
+  row-more here =
+      ap (λ l. missing m (flat_map named l)) (take_more rows i d h ∙ ap (λ y. take i rows ++ y ∷ []) (sym is))
+      ∙ ap (missing m) (flat_map-append named (take i rows) (row ∷ []))
+      ∙ find-after (λ n. not (is_there m n)) (flat_map named (take i rows)) _ none
+      ∙ find-after (λ n. not (is_there m n)) (named row) [] here
 
-pub missing_row-more : (m : Map) (rows : List PointRow) (i : ℕ) (row d : PointRow) → i < length rows → row ≡ get_or rows i d → missing m (points_name (take i rows)) ≡ None
-    → missing m (sources_named row.sources) ≡ None → missing m (points_name (take (i + 1) rows)) ≡ None
-unfolding points_name
-missing_row-more m rows i row d h is none here =
-    ap (λ l. missing m (points_name l)) (take_more rows i d h ∙ ap (λ y. take i rows ++ y ∷ []) (sym is))
-    ∙ ap (missing m) (flat_map-append (λ (r : PointRow). sources_named r.sources) (take i rows) (row ∷ []))
-    ∙ find-after (λ n. not (is_there m n)) (points_name (take i rows)) _ none
-    ∙ find-after (λ n. not (is_there m n)) (sources_named row.sources) [] here
+-- the first of two lists' names, and of a name and others
+pub missing-append : (m : Map) (a b : List Name) → missing m (a ++ b) ≡ option_or (missing m a) (missing m b)
+missing-append m a b = find-append (λ n. not (is_there m n)) a b
+
+option_or-five : {X : Type 0} (a b c d e : Option X) → option_or (option_or (option_or (option_or a b) c) d) e ≡ option_or a (option_or b (option_or c (option_or d e)))
+option_or-five (Some x) b c d e = refl
+option_or-five None (Some x) c d e = refl
+option_or-five None None (Some x) d e = refl
+option_or-five None None None d e = refl
+
+pub missing-five : (m : Map) (from to : Name) (left right sources : List Name)
+    → missing m (from ∷ to ∷ (left ++ (right ++ sources))) ≡ option_or (option_or (option_or (option_or (missing m (from ∷ [])) (missing m (to ∷ []))) (missing m left)) (missing m right)) (missing m sources)
+missing-five m from to left right sources =
+    missing-append m (from ∷ []) (to ∷ (left ++ (right ++ sources)))
+    ∙ ap (option_or (missing m (from ∷ []))) (missing-append m (to ∷ []) (left ++ (right ++ sources)) ∙ ap (option_or (missing m (to ∷ []))) (missing-append m left (right ++ sources) ∙ ap (option_or (missing m left)) (missing-append m right sources)))
+    ∙ sym (option_or-five (missing m (from ∷ [])) (missing m (to ∷ [])) (missing m left) (missing m right) (missing m sources))

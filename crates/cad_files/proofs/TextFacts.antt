@@ -14,9 +14,9 @@ text_of-more f es i e text h at =
     ∙ ap (λ (l : List ℕ). text ++ l) (flat_map-append record_text (map f (take i es)) _ ∙ ap (λ (l : List ℕ). text_of (map f (take i es)) ++ l) (append-nil _ ∙ ap (λ x. record_text (f x)) (get_or_from_slice_get es i e e at)))
     ∙ sym (append_assoc text (text_of (map f (take i es))) (record_text (f e)))
 
--- a first and a last record round two lists
-pub text_of-between : (first last : Record) (a b : List Record) → text_of ((first ∷ (a ++ b)) ++ (last ∷ [])) ≡ ((([] ++ record_text first) ++ text_of a) ++ text_of b) ++ record_text last
-text_of-between first last a b = simp (flat_map-append, append_assoc, append-nil)
+-- a first and a last record round five lists
+pub text_of-between : (first last : Record) (a b c d e : List Record) → text_of (first ∷ (a ++ (b ++ (c ++ (d ++ (e ++ last ∷ [])))))) ≡ (((((([] ++ record_text first) ++ text_of a) ++ text_of b) ++ text_of c) ++ text_of d) ++ text_of e) ++ record_text last
+text_of-between first last a b c d e = simp (flat_map-append, append_assoc, append-nil)
 
 pub some_is : {X : Type 0} (x y : X) → Some x ≡ Some y → x ≡ y
 some_is x y h = cc

@@ -2,10 +2,14 @@ pub mod Record
 pub mod Fields
 pub mod Rows
 pub mod Input
+pub mod PlanRecords
 pub mod Plan
+pub mod Follower
 pub mod Building
 pub mod Line
 pub mod Texts
 pub mod Answers
 pub mod Sinks
 pub mod FaultTexts
+pub mod Cycles
+pub mod Corners

@@ -1,57 +1,21 @@
--- What the records of a plan mean.
-use Rattle.std.specs.Prelude.{◌≡◌, ◌≢◌, ◌⊎◌, ℕ, ◌+◌, ◌&&◌, nat_le, nat_lt, Bool, true, false, List, [], ◌∷◌, ◌++◌, length, fold, codes, Option, Some, None, is_some, option_map, option_and_then, if◌then◌else◌, ℤ, pos, neg_ℤ, int_le}
-use Rattle.std.specs.Str.{bytes_eq}
+-- What a list of records is as a plan.
+use Rattle.std.specs.Prelude.{◌≡◌, ◌≢◌, ◌⊎◌, ℕ, ◌+◌, ◌&&◌, nat_le, nat_lt, Bool, true, false, List, [], ◌∷◌, ◌++◌, length, fold, Option, Some, None, option_map, option_and_then, if◌then◌else◌, ℤ, pos, neg_ℤ, int_le}
 use Rattle.geo_exact.specs.Position.{coordinate_limit}
-use Rattle.cad_rows.specs.Limits.{row_limit, source_limit}
+use Rattle.cad_rows.specs.Limits.{row_limit, string_limit, source_limit}
 use Rattle.cad_rows.specs.declared.rows.SourceRow.{SourceRow}
-use Rattle.cad_files.specs.Record.{Seven, seven_of}
-use Rattle.cad_files.specs.Fields.{number_of, coordinate_of, text_of, numbers_of, repeated, are_blank}
+use Rattle.cad_files.specs.Record.{seven_of}
+use Rattle.cad_files.specs.PlanRecords.{version_of, plan_meant}
 use Rattle.cad_files.specs.Input.{BeginsWith, IsWhole}
 use Rattle.cad_files.specs.Rows.{Rows, no_rows}
-use Rattle.cad_files.specs.declared.plan.Version.{Version}
-use Rattle.cad_files.specs.declared.plan.Version.TheVariants.{One, Two}
-use Rattle.cad_files.specs.declared.plan.PlanPoint.{PlanPoint}
-use Rattle.cad_files.specs.declared.plan.PlanRecord.{PlanRecord}
-use Rattle.cad_files.specs.declared.plan.PlanRecord.TheVariants as records
+use Rattle.cad_files.specs.declared.plan_records.Version.{Version}
+use Rattle.cad_files.specs.declared.plan_records.Version.TheVariants.{One, Two}
+use Rattle.cad_files.specs.declared.plan_records.PointRecord.{PointRecord}
+use Rattle.cad_files.specs.declared.plan_records.ParcelRecord.{ParcelRecord}
+use Rattle.cad_files.specs.declared.plan_records.StringRecord.{StringRecord}
+use Rattle.cad_files.specs.declared.plan_records.PlanRecord.{PlanRecord}
+use Rattle.cad_files.specs.declared.plan_records.PlanRecord.TheVariants as records
 use Rattle.cad_files.specs.declared.faults.PlanFault.{PlanFault}
 use Rattle.cad_files.specs.declared.faults.PlanFault.TheVariants as faults
-
--- ---- Records
-
--- the version of a plan that begins with this record
-unfoldable pub version_of : Seven → Option Version
-version_of r =
-    if bytes_eq r.kind (codes "plan") && are_blank (r.b ∷ r.c ∷ r.d ∷ r.e ∷ r.f ∷ []) then
-    (if bytes_eq r.a (codes "1") then Some One else if bytes_eq r.a (codes "2") then Some Two else None)
-    else None
-
--- a source: its number, and its text
-unfoldable pub source_meant : Seven → Option PlanRecord
-source_meant r =
-    if are_blank (r.c ∷ r.d ∷ r.e ∷ r.f ∷ []) then option_and_then (λ n. option_map (λ text. records.Source (record { number = n; text = text })) (text_of r.b)) (number_of r.a) else None
-
--- the point with this number and this position, where none of its sources stands twice
-abbrev pub point_with : ℕ → ℤ → ℤ → List ℕ → Option PlanRecord
-point_with n x y sources = if is_some (repeated [] sources) then None else Some (records.Point (record { number = n; x = x; y = y; sources = sources }))
-
--- a point: its number, its position, and its sources
-unfoldable pub point_meant : Seven → Option PlanRecord
-point_meant r =
-    if are_blank (r.e ∷ r.f ∷ []) then
-    option_and_then (λ n. option_and_then (λ x. option_and_then (λ y. option_and_then (λ sources. point_with n x y sources) (numbers_of r.d)) (coordinate_of r.c)) (coordinate_of r.b)) (number_of r.a)
-    else None
-
--- the end of the plan
-unfoldable pub open_meant : Seven → Option PlanRecord
-open_meant r = if are_blank (r.a ∷ r.b ∷ r.c ∷ r.d ∷ r.e ∷ r.f ∷ []) then Some records.Open else None
-
--- a record after the first
-unfoldable pub plan_meant : Seven → Option PlanRecord
-plan_meant r =
-    if bytes_eq r.kind (codes "source") then source_meant r
-    else if bytes_eq r.kind (codes "point") then point_meant r
-    else if bytes_eq r.kind (codes "open") then open_meant r
-    else None
 
 -- ---- The plan
 
@@ -77,23 +41,51 @@ pub data Plan : Type 0 where
   faulty : PlanFault → Plan
 
 -- the source's row last, where there is room
-abbrev pub with_source : Version → ℕ → Rows → SourceRow → Plan
-with_source version n rows row = if nat_lt (length rows.sources) row_limit then reading version n (record rows { sources = rows.sources ++ row ∷ [] }) else faulty faults.Full
+abbrev pub with_source : Rows → SourceRow → Option Rows
+with_source rows row = if nat_lt (length rows.sources) row_limit then Some (record rows { sources = rows.sources ++ row ∷ [] }) else None
 
--- the point's row last, where it is in range and there is room
-abbrev pub with_point : Version → ℕ → Rows → PlanPoint → Plan
-with_point version n rows p =
-    if is_within version p.x && is_within version p.y then
-    (if nat_le (length p.sources) source_limit && nat_lt (length rows.points) row_limit then
-    reading version n (record rows { points = rows.points ++ record { number = p.number; position = record { x = p.x; y = p.y }; sources = p.sources } ∷ [] })
-    else faulty faults.Full)
-    else faulty (faults.Range n)
+-- the point's row last, where its sources are few and there is room
+abbrev pub with_point : Rows → PointRecord → Option Rows
+with_point rows p =
+    if nat_le (length p.sources) source_limit && nat_lt (length rows.points) row_limit then
+    Some (record rows { points = rows.points ++ record { number = p.number; position = record { x = p.x; y = p.y }; sources = p.sources } ∷ [] })
+    else None
+
+-- the parcel's row last, where its sources are few and there is room
+abbrev pub with_parcel : Rows → ParcelRecord → Option Rows
+with_parcel rows p =
+    if nat_le (length p.sources) source_limit && nat_lt (length rows.parcels) row_limit then
+    Some (record rows { parcels = rows.parcels ++ record { number = p.number; label = p.label; sources = p.sources } ∷ [] })
+    else None
+
+-- the string's row last, with its two faces, where its sources are few and there is room
+abbrev pub with_string : Rows → StringRecord → Option Rows
+with_string rows s =
+    if nat_le (length s.sources) source_limit && nat_lt (length rows.strings) string_limit then
+    Some (record rows { strings = rows.strings ++ record { row = record { number = s.number; from = s.from; to = s.to; sources = s.sources }; left = s.left; right = s.right } ∷ [] })
+    else None
+
+-- the retired number last, where there is room
+abbrev pub with_retired : Rows → ℕ → Option Rows
+with_retired rows n = if nat_lt (length rows.retired) row_limit then Some (record rows { retired = rows.retired ++ n ∷ [] }) else None
+
+-- the plan goes on with these rows, or a limit is passed
+abbrev pub goes_on : Version → ℕ → Option Rows → Plan
+goes_on version n (Some rows) = reading version n rows
+goes_on version n None = faulty faults.Full
+
+-- a point is looked at for its range before its limits
+abbrev pub point_step : Version → ℕ → Rows → PointRecord → Plan
+point_step version n rows p = if is_within version p.x && is_within version p.y then goes_on version n (with_point rows p) else faulty (faults.Range n)
 
 -- record number n, after those that gave the rows
 abbrev pub record_step : Version → ℕ → Rows → Option PlanRecord → Plan
 record_step version n rows None = faulty (faults.Syntax n)
-record_step version n rows (Some (records.Source row)) = with_source version n rows row
-record_step version n rows (Some (records.Point point)) = with_point version n rows point
+record_step version n rows (Some (records.Source row)) = goes_on version n (with_source rows row)
+record_step version n rows (Some (records.Point point)) = point_step version n rows point
+record_step version n rows (Some (records.Parcel parcel)) = goes_on version n (with_parcel rows parcel)
+record_step version n rows (Some (records.String string)) = goes_on version n (with_string rows string)
+record_step version n rows (Some (records.Retired number)) = goes_on version n (with_retired rows number)
 record_step version n rows (Some records.Open) = opened rows
 
 -- the first record: whether it has seven fields, and then whether they begin a plan

@@ -1,31 +1,46 @@
 -- The rows of a plan, in the order of its records.
-use Rattle.std.specs.Prelude.{◌≡◌, ◌≤◌, ◌<◌, ℕ, ◌+◌, List, [], length, All, None}
+use Rattle.std.specs.Prelude.{◌≡◌, ◌≤◌, ◌<◌, ℕ, ◌+◌, ◌*◌, List, [], length, All, None}
 use Rattle.geo_exact.specs.Position.{OnTheMap}
-use Rattle.cad_rows.specs.Limits.{IsNumber, IsLabel, row_limit, source_limit}
+use Rattle.cad_rows.specs.Limits.{IsNumber, IsLabel, row_limit, string_limit, source_limit}
+use Rattle.cad_rows.specs.declared.names.Face.{Face}
+use Rattle.cad_rows.specs.declared.names.Face.TheVariants as face
 use Rattle.cad_rows.specs.declared.rows.PointRow.{PointRow}
+use Rattle.cad_rows.specs.declared.rows.ParcelRow.{ParcelRow}
 use Rattle.cad_rows.specs.declared.rows.SourceRow.{SourceRow}
 use Rattle.cad_files.specs.Fields.{repeated}
+use Rattle.cad_files.specs.declared.rows.PlanString.{PlanString}
 
 pub record Rows : Type 0 where
   pub sources : List SourceRow
   pub points : List PointRow
+  pub parcels : List ParcelRow
+  pub strings : List PlanString
+  pub retired : List ℕ
 
 abbrev pub no_rows : Rows
-no_rows = record { sources = []; points = [] }
+no_rows = record { sources = []; points = []; parcels = []; strings = []; retired = [] }
 
 -- how many rows there are
 abbrev pub row_count : Rows → ℕ
-row_count rows = length rows.sources + length rows.points
+row_count rows = length rows.sources + length rows.points + length rows.parcels + length rows.strings + length rows.retired
+
+-- the most rows of all kinds
+abbrev pub plan_limit : ℕ
+plan_limit = row_limit * 4 + string_limit
 
 -- one row more than before, where there was room for it
 pub record HasOneMore (old new : Rows) : Type 0 where
   pub count : row_count new ≡ row_count old + 1
-  pub room : row_count old < row_limit + row_limit
+  pub room : row_count old < plan_limit
 
 -- the sources of an item: not too many, and none twice
 pub record IsSourceList (sources : List ℕ) : Type 0 where
   pub few : length sources ≤ source_limit
   pub once : repeated [] sources ≡ None
+
+-- the outside, or a parcel whose number is in range
+abbrev pub IsFace : Face → Type 0
+IsFace f = (n : ℕ) → f ≡ face.Parcel n → IsNumber n
 
 pub record IsSourceRow (row : SourceRow) : Type 0 where
   pub number : IsNumber row.number
@@ -36,9 +51,28 @@ pub record IsPointRow (row : PointRow) : Type 0 where
   pub position : OnTheMap row.position
   pub sources : IsSourceList row.sources
 
+pub record IsParcelRow (row : ParcelRow) : Type 0 where
+  pub number : IsNumber row.number
+  pub label : IsLabel row.label
+  pub sources : IsSourceList row.sources
+
+pub record IsPlanString (string : PlanString) : Type 0 where
+  pub number : IsNumber string.row.number
+  pub from : IsNumber string.row.from
+  pub to : IsNumber string.row.to
+  pub left : IsFace string.left
+  pub right : IsFace string.right
+  pub sources : IsSourceList string.row.sources
+
 -- rows as the records of a plan may have them: each in range, and not too many of a kind
 pub record AreInRange (rows : Rows) : Type 0 where
   pub sources : All IsSourceRow rows.sources
   pub points : All IsPointRow rows.points
+  pub parcels : All IsParcelRow rows.parcels
+  pub strings : All IsPlanString rows.strings
+  pub retired : All IsNumber rows.retired
   pub few_sources : length rows.sources ≤ row_limit
   pub few_points : length rows.points ≤ row_limit
+  pub few_parcels : length rows.parcels ≤ row_limit
+  pub few_strings : length rows.strings ≤ string_limit
+  pub few_retired : length rows.retired ≤ row_limit

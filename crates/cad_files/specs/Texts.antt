@@ -7,7 +7,12 @@ use Rattle.csv.specs.Writing.{row_text, default_writer, text_written, writer_set
 use Rattle.csv.specs.declared.writer.Writer.{Writer}
 use Rattle.cad_rows.specs.declared.rows.PointRow.{PointRow}
 use Rattle.cad_rows.specs.declared.rows.SourceRow.{SourceRow}
+use Rattle.cad_rows.specs.declared.rows.ParcelRow.{ParcelRow}
+use Rattle.cad_rows.specs.declared.names.Face.{Face}
+use Rattle.cad_rows.specs.declared.names.Face.TheVariants.{Outside, Parcel}
 use Rattle.cad_map.specs.Map.{Map}
+use Rattle.cad_files.specs.Building.{plan_string_of}
+use Rattle.cad_files.specs.declared.rows.PlanString.{PlanString}
 
 abbrev pub Record : Type 0
 Record = List (List ℕ)
@@ -35,12 +40,29 @@ source_record r = codes "source" ∷ decimal r.number ∷ r.text ∷ [] ∷ [] �
 abbrev pub point_record : PointRow → Record
 point_record r = codes "point" ∷ decimal r.number ∷ signed_decimal r.position.x ∷ signed_decimal r.position.y ∷ list_field r.sources ∷ [] ∷ [] ∷ []
 
+abbrev pub parcel_record : ParcelRow → Record
+parcel_record r = codes "parcel" ∷ decimal r.number ∷ r.label ∷ list_field r.sources ∷ [] ∷ [] ∷ [] ∷ []
+
+-- the field of a face: 0 for the outside
+abbrev pub face_field : Face → List ℕ
+face_field Outside = codes "0"
+face_field (Parcel n) = decimal n
+
+-- a string with its faces
+abbrev pub string_record : PlanString → Record
+string_record s =
+    codes "string" ∷ decimal s.row.number ∷ decimal s.row.from ∷ decimal s.row.to ∷ face_field s.left ∷ face_field s.right ∷ list_field s.row.sources ∷ []
+
+abbrev pub retired_record : ℕ → Record
+retired_record n = codes "retired" ∷ decimal n ∷ [] ∷ [] ∷ [] ∷ [] ∷ [] ∷ []
+
 abbrev pub open_record : Record
 open_record = codes "open" ∷ [] ∷ [] ∷ [] ∷ [] ∷ [] ∷ [] ∷ []
 
--- sources, then points, each in order of entry
+-- sources, points, parcels, strings with their present faces, retired numbers, each in order of entry
 abbrev pub plan_records : Map → List Record
-plan_records m = (first_record ∷ (map source_record m.sources ++ map point_record m.points)) ++ open_record ∷ []
+plan_records m =
+    first_record ∷ (map source_record m.sources ++ (map point_record m.points ++ (map parcel_record m.parcels ++ (map string_record (map (plan_string_of m) m.strings) ++ (map retired_record m.retired ++ open_record ∷ [])))))
 
 -- the writer has written this text, and stands between records
 pub record HasWritten (text : List ℕ) (writer : Writer (Vec ℕ)) : Type 0 where

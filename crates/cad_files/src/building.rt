@@ -1,14 +1,19 @@
 //! Building the map of a plan.
-ghost use Rattle.std.specs.Prelude.{◌≡◌, ◌≢◌, [], IfOk, IfErr, OnOk, Some, None, option_map};
-ghost use Rattle.cad_map.specs.Map.{empty_map};
-ghost use Rattle.cad_files.specs.Building.{source_taken, point_taken, sources_named, points_name, missing, IsBuilt, IsBuildFault};
+ghost use Rattle.std.specs.Prelude.{◌≡◌, ◌≢◌, [], ◌||◌, IfOk, IfErr, OnOk, Some, None, option_map, map};
+ghost use Rattle.cad_map.specs.Map.{empty_map, has_parcel, is_retired};
+ghost use Rattle.cad_files.specs.Building.{source_taken, point_taken, parcel_taken, string_taken, retired_taken, taken, map_of, first_fault};
+ghost use Rattle.cad_files.specs.Cycles.{AreSidesOf};
 ghost use Rattle.cad_files.specs.declared.faults.PlanFault.TheVariants as faults;
 
+use crate::corners::follow_sides;
+use crate::cycles::FollowedSide;
+use crate::dangling::first_dangling;
 use crate::faults::PlanFault;
-use crate::rows::PlanRows;
+use crate::labels::{first_other_label, without_strings};
+use crate::naming::missing_row;
+use crate::rows::{PlanRows, PlanString};
 use cad_map::{MapView, PlainMap};
-use cad_rows::{Name, PointRow, SourceNo, SourceRow};
-use cad_valid::first_broken;
+use cad_rows::{Name, ParcelNo, ParcelRow, PointRow, SourceRow};
 use std::alloc::Global;
 
 // Puts the sources into an empty map, up to one whose number an earlier one has.
@@ -45,51 +50,112 @@ fn put_points(plain: &mut PlainMap, rows: &[PointRow]) -> Result<(), PlanFault>
     Ok(())
 }
 
-// The first of these sources that the map doesn't have.
-fn missing_source(plain: &PlainMap, sources: &[SourceNo]) -> Option<Name>
-    ensures { result ≡ missing plain.now (sources_named sources.now) }
-{
-    for i in 0..sources.len() {
-        let source = sources[i];
-        if plain.source(source).is_none() {
-            return Some(Name::Source(source));
-        }
-    }
-    None
-}
-
-// The first row that the points name and the map doesn't have.
-fn missing_row(plain: &PlainMap, rows: &[PointRow]) -> Option<Name>
-    ensures { result ≡ missing plain.now (points_name rows.now) }
+// Puts the parcels into a map without parcels, up to one whose number an earlier one has.
+fn put_parcels(plain: &mut PlainMap, rows: &[ParcelRow]) -> Result<(), PlanFault>
+    requires { plain.old.parcels ≡ [] }
+    ensures ok { OnOk result (plain.new ≡ record plain.old { parcels = rows.now }) }
+    ensures free { OnOk result (parcel_taken rows.now ≡ None) }
+    ensures err { IfErr result (λ fault. fault ≢ faults.Memory → option_map (λ n. faults.Taken n) (parcel_taken rows.now) ≡ Some fault) }
 {
     for i in 0..rows.len() {
-        let name = missing_source(plain, rows[i].sources.as_slice());
-        if name.is_some() {
-            return name;
+        let row = &rows[i];
+        if plain.parcel(row.number).is_some() {
+            return Err(PlanFault::Taken(Name::Parcel(row.number)));
         }
+        plain.put_parcel(row.copy()?)?;
     }
-    None
+    Ok(())
 }
 
-/// Builds the map of a plan's rows.
-pub fn build(alloc: Global, rows: &PlanRows) -> Result<PlainMap, PlanFault>
-    ensures ok { IfOk result (IsBuilt rows.now) }
-    ensures err { IfErr result (λ fault. fault ≢ faults.Memory → IsBuildFault rows.now fault) }
+// Puts the rows of the strings into a map without strings, up to one whose number an earlier one has.
+fn put_strings(plain: &mut PlainMap, rows: &[PlanString]) -> Result<(), PlanFault>
+    requires { plain.old.strings ≡ [] }
+    ensures ok { OnOk result (plain.new ≡ record plain.old { strings = map (λ s. s.row) rows.now }) }
+    ensures free { OnOk result (string_taken rows.now ≡ None) }
+    ensures err { IfErr result (λ fault. fault ≢ faults.Memory → option_map (λ n. faults.Taken n) (string_taken rows.now) ≡ Some fault) }
 {
-    let mut plain = PlainMap::empty(alloc);
-    match put_sources(&mut plain, rows.sources.as_slice()) {
+    for i in 0..rows.len() {
+        let string = &rows[i];
+        if plain.string(string.row.number).is_some() {
+            return Err(PlanFault::Taken(Name::String(string.row.number)));
+        }
+        plain.put_string(string.row.copy()?)?;
+    }
+    Ok(())
+}
+
+// Whether the map has the parcel, or its number is retired.
+fn is_used(plain: &PlainMap, no: ParcelNo) -> bool
+    ensures { result ≡ (has_parcel plain.now no || is_retired plain.now no) }
+{
+    plain.parcel(no).is_some() || plain.is_retired(no)
+}
+
+// Puts the retired numbers into a map without any, up to one that a parcel or an earlier one has.
+fn put_retired(plain: &mut PlainMap, rows: &[ParcelNo]) -> Result<(), PlanFault>
+    requires { plain.old.retired ≡ [] }
+    ensures ok { OnOk result (plain.new ≡ record plain.old { retired = rows.now }) }
+    ensures free { OnOk result (retired_taken plain.old.parcels rows.now ≡ None) }
+    ensures err { IfErr result (λ fault. fault ≢ faults.Memory → option_map (λ n. faults.Taken n) (retired_taken plain.old.parcels rows.now) ≡ Some fault) }
+{
+    for i in 0..rows.len() {
+        let no = rows[i];
+        if is_used(plain, no) {
+            return Err(PlanFault::Taken(Name::Parcel(no)));
+        }
+        plain.put_retired(no)?;
+    }
+    Ok(())
+}
+
+/// Puts the rows of a plan into an empty map, kind by kind, up to one whose number an earlier one has. The map has no
+/// rings yet.
+pub(crate) fn put_rows(plain: &mut PlainMap, rows: &PlanRows) -> Result<(), PlanFault>
+    requires { plain.old ≡ empty_map }
+    ensures ok { OnOk result (plain.new ≡ map_of rows.now) }
+    ensures free { OnOk result (taken rows.now ≡ None) }
+    ensures err { IfErr result (λ fault. fault ≢ faults.Memory → option_map (λ n. faults.Taken n) (taken rows.now) ≡ Some fault) }
+{
+    match put_sources(plain, rows.sources.as_slice()) {
         Ok(()) => {}
         Err(fault) => return Err(fault),
     }
-    match put_points(&mut plain, rows.points.as_slice()) {
+    match put_points(plain, rows.points.as_slice()) {
         Ok(()) => {}
         Err(fault) => return Err(fault),
     }
-    if let Some(name) = missing_row(&plain, rows.points.as_slice()) {
+    match put_parcels(plain, rows.parcels.as_slice()) {
+        Ok(()) => {}
+        Err(fault) => return Err(fault),
+    }
+    match put_strings(plain, rows.strings.as_slice()) {
+        Ok(()) => {}
+        Err(fault) => return Err(fault),
+    }
+    put_retired(plain, rows.retired.as_slice())
+}
+
+/// The sides of a plan's strings with their followers, where its rows have no fault.
+pub(crate) fn find_sides(
+    alloc: Global,
+    plain: &PlainMap,
+    rows: &PlanRows,
+) -> Result<Vec<FollowedSide>, PlanFault>
+    requires map { plain.now ≡ map_of rows.now }
+    requires free { taken rows.now ≡ None }
+    ensures faultless { OnOk result (first_fault rows.now ≡ None) }
+    ensures sides { IfOk result (λ sides. AreSidesOf plain.now rows.now.strings sides.items) }
+    ensures err { IfErr result (λ fault. fault ≢ faults.Memory → first_fault rows.now ≡ Some fault) }
+{
+    if let Some(name) = missing_row(plain, rows) {
         return Err(PlanFault::Unknown(name));
     }
-    if let Some(rule) = first_broken(&plain) {
-        return Err(PlanFault::Breaks(rule));
+    if let Some(string) = first_dangling(plain, rows.strings.as_slice()) {
+        return Err(PlanFault::Dangling(string));
     }
-    Ok(plain)
+    let sides = follow_sides(alloc, plain, rows.strings.as_slice())?;
+    if let Some(string) = first_other_label(sides.as_slice()) {
+        return Err(PlanFault::Labels(string));
+    }
+    Ok(without_strings(alloc, sides.as_slice())?)
 }

@@ -5,7 +5,7 @@ ghost use Rattle.cad_files.specs.Answers.{rule_name};
 ghost use Rattle.cad_files.specs.FaultTexts.{about};
 ghost use Rattle.cad_files.specs.declared.faults.PlanFault.TheVariants as faults;
 
-use cad_rows::{Memory, Name, Rule};
+use cad_rows::{Memory, Name, PointNo, Rule, StringNo};
 use std::alloc::AllocFailed;
 use std::error::Error;
 use std::fmt;
@@ -27,6 +27,14 @@ pub enum PlanFault {
     Unknown(Name),
     /// A limit is passed.
     Full,
+    /// A string has one point at both ends, one face on both sides, or an end that no other string
+    /// has.
+    Dangling(StringNo),
+    /// A side to this point equals an earlier one, has no follower or more than one, or has the
+    /// follower of an earlier side to the point.
+    Corner(PointNo),
+    /// A side of this string has a follower with another face.
+    Labels(StringNo),
     /// The map breaks this rule first.
     Breaks(Rule),
     /// The input ended before `open`.
@@ -92,6 +100,9 @@ impl fmt::Display for PlanFault {
             PlanFault::Taken(name) => write_name(f, "5 taken", *name),
             PlanFault::Unknown(name) => write_name(f, "6 unknown", *name),
             PlanFault::Full => write!(f, "7 full"),
+            PlanFault::Dangling(no) => write!(f, "8 dangling string {}", no.get()),
+            PlanFault::Corner(no) => write!(f, "9 corner point {}", no.get()),
+            PlanFault::Labels(no) => write!(f, "10 labels string {}", no.get()),
             PlanFault::Breaks(rule) => write!(f, "11 breaks {}", rule_text(*rule)),
             PlanFault::NoOpen => write!(f, "12 no-open"),
             PlanFault::Memory => write!(f, "13 memory"),

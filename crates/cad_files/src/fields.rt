@@ -3,9 +3,9 @@ ghost use Rattle.std.specs.Prelude.{◌≡◌, ◌<◌, ◌≤◌, ◌^◌, leng
 ghost use Rattle.csv.specs.Records.{fields_of};
 ghost use Rattle.cad_rows.specs.Limits.{IsNumber};
 ghost use Rattle.cad_files.specs.Record.{seven_of};
-ghost use Rattle.cad_files.specs.Fields.{digits_from, starts_well as starts_well_of, magnitude_of, number_of, coordinate_of, text_of, item_of, are_blank as are_blank_of};
+ghost use Rattle.cad_files.specs.Fields.{digits_from, starts_well as starts_well_of, magnitude_of, number_of, face_of, coordinate_of, text_of, item_of, are_blank as are_blank_of};
 
-use cad_rows::{Item, Label, Memory, ParcelNo, PointNo, SourceNo, StringNo};
+use cad_rows::{Face, Item, Label, Memory, ParcelNo, PointNo, SourceNo, StringNo};
 use csv::ByteRecord;
 use std::alloc::Global;
 use std::marker::Model;
@@ -138,8 +138,8 @@ pub(crate) fn point_no(text: &[u8]) -> Option<PointNo>
     }
 }
 
-// The number of a string.
-fn string_no(text: &[u8]) -> Option<StringNo>
+/// The number of a string.
+pub(crate) fn string_no(text: &[u8]) -> Option<StringNo>
     ensures { result ≡ number_of text.now }
 {
     match number(text) {
@@ -148,12 +148,26 @@ fn string_no(text: &[u8]) -> Option<StringNo>
     }
 }
 
-// The number of a parcel.
-fn parcel_no(text: &[u8]) -> Option<ParcelNo>
+/// The number of a parcel.
+pub(crate) fn parcel_no(text: &[u8]) -> Option<ParcelNo>
     ensures { result ≡ number_of text.now }
 {
     match number(text) {
         Some(no) => ParcelNo::new(no),
+        None => None,
+    }
+}
+
+/// A face: the outside by `0`, or a parcel by its number.
+#[tactic(auto, unfolding(crate::specs::Fields::face_of))]
+pub(crate) fn face(text: &[u8]) -> Option<Face>
+    ensures { result ≡ face_of text.now }
+{
+    if text == b"0".as_slice() {
+        return Some(Face::Outside);
+    }
+    match parcel_no(text) {
+        Some(parcel) => Some(Face::Parcel(parcel)),
         None => None,
     }
 }

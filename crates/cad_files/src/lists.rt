@@ -1,7 +1,7 @@
 //! Lists of numbers in a field.
 ghost use Rattle.std.specs.Prelude.{◌≡◌, ◌<◌, ◌==◌, ◌∷◌, [], length, is_some, None, Some, IfOk, MatchOption, if◌then◌else◌};
 ghost use Rattle.std.specs.List.{list_any, slice_split};
-ghost use Rattle.cad_files.specs.Fields.{numbers_of, is_space, repeated};
+ghost use Rattle.cad_files.specs.Fields.{numbers_of, distinct_of, is_space, repeated};
 
 use crate::fields::source_no;
 use cad_rows::{Memory, Numbers, SourceNo};
@@ -21,9 +21,9 @@ fn first_part(text: &[u8]) -> (&[u8], Option<&[u8]>)
     (text, None)
 }
 
-/// The numbers of sources, with one space between them.
+// The numbers of sources, with one space between them.
 #[tactic(auto, unfolding(crate::specs::Fields::numbers_of))]
-pub(crate) fn source_list(alloc: Global, text: &[u8]) -> Result<Option<Numbers<SourceNo>>, Memory>
+fn source_list(alloc: Global, text: &[u8]) -> Result<Option<Numbers<SourceNo>>, Memory>
     ensures { IfOk result (λ list. list ≡ numbers_of text.now) }
 {
     let mut sources = Numbers::new(alloc);
@@ -87,7 +87,7 @@ impl Model for DistinctSources {
 
 impl DistinctSources {
     // The same sources, or `None` where one stands twice.
-    pub(crate) fn new(list: Numbers<SourceNo>) -> Option<DistinctSources>
+    fn new(list: Numbers<SourceNo>) -> Option<DistinctSources>
         ensures { result ≡ (if is_some (repeated [] list) then None else Some list) }
     {
         if has_repeated(list.as_slice()) {
@@ -109,5 +109,19 @@ impl DistinctSources {
         ensures distinct { repeated [] result ≡ None }
     {
         self.list
+    }
+}
+
+/// The sources of an item, with one space between them, where none stands twice.
+#[tactic(auto, unfolding(crate::specs::Fields::distinct_of))]
+pub(crate) fn distinct_sources(
+    alloc: Global,
+    text: &[u8],
+) -> Result<Option<DistinctSources>, Memory>
+    ensures { IfOk result (λ sources. sources ≡ distinct_of text.now) }
+{
+    match source_list(alloc, text)? {
+        Some(list) => Ok(DistinctSources::new(list)),
+        None => Ok(None),
     }
 }

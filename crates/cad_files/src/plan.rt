@@ -1,141 +1,28 @@
 //! Reading a plan.
-ghost use Rattle.std.specs.Prelude.{◌≡◌, ◌≢◌, ◌+◌, ◌<◌, ◌^◌, [], ℕ, List, true, IfOk, IfErr, OnOk, if◌then◌else◌};
+ghost use Rattle.std.specs.Prelude.{◌≡◌, ◌≢◌, ◌+◌, ◌<◌, ◌^◌, [], ℕ, List, Some, None, true, IfOk, IfErr, OnOk, if◌then◌else◌};
 ghost use Rattle.csv.specs.Records.{fields_of};
 ghost use Rattle.cad_files.specs.Input.{HasRead};
 ghost use Rattle.cad_files.specs.Rows.{no_rows, HasOneMore};
-ghost use Rattle.cad_files.specs.Plan.{beginning, reading, opened, faulty, version_of, source_meant, point_meant, open_meant, plan_meant, is_within as is_within_of, with_point, record_step, plan_step, plan_of, IsPlanFault};
+ghost use Rattle.cad_files.specs.Plan.{beginning, reading, opened, faulty, is_within as is_within_of, with_source, with_parcel, with_string, with_retired, point_step, record_step, plan_step, plan_of, IsPlanFault};
 ghost use Rattle.cad_files.specs.declared.faults.PlanFault.TheVariants as faults;
 
 use crate::faults::PlanFault;
-use crate::fields::{Fields, are_blank, coordinate, point_no, seven, source_no, text};
+use crate::fields::seven;
 use crate::input::{InputFault, next_row};
-use crate::lists::{DistinctSources, source_list};
-use crate::rows::PlanRows;
-use cad_rows::{Memory, PointNo, PointRow, ROW_LIMIT, SOURCE_LIMIT, SourceRow};
+use crate::plan_records::{
+    ParcelRecord, PlanRecord, PointRecord, StringRecord, Version, plan_record, plan_version,
+};
+use crate::rows::{PlanRows, PlanString};
+use cad_rows::{
+    ParcelNo, ParcelRow, PointRow, ROW_LIMIT, SOURCE_LIMIT, STRING_LIMIT, SourceRow, StringRow,
+};
 use csv::{ByteRecord, Reader};
 use geo_exact::{COORDINATE_LIMIT, Pt};
 use std::alloc::Global;
 use std::io::Read;
 
-/// The version of a plan.
-#[derive(Clone, Copy, Debug, PartialEq, Eq)]
-pub enum Version {
-    One,
-    Two,
-}
-
-/// A point of a plan, whose coordinates may be out of range.
-#[derive(Debug, Drop)]
-pub struct PlanPoint {
-    pub number: PointNo,
-    pub x: i64,
-    pub y: i64,
-    pub sources: DistinctSources,
-}
-
-/// A record of a plan after the first.
-#[derive(Debug, Drop)]
-pub enum PlanRecord {
-    Source(SourceRow),
-    Point(PlanPoint),
-    Open,
-}
-
 /// The farthest that a coordinate may lie from zero in a plan of version 1, either way.
 const FIRST_LIMIT: i64 = 1_000_000_000;
-
-// The version of a plan that begins with this record.
-#[tactic(auto, unfolding(crate::specs::Plan::version_of))]
-fn plan_version(r: &Fields<'_>) -> Option<Version>
-    ensures { result ≡ version_of r.now }
-{
-    if r.kind != b"plan".as_slice() || !are_blank(&[r.b, r.c, r.d, r.e, r.f]) {
-        return None;
-    }
-    if r.a == b"1".as_slice() {
-        Some(Version::One)
-    } else if r.a == b"2".as_slice() {
-        Some(Version::Two)
-    } else {
-        None
-    }
-}
-
-// A source: its number, and its text.
-#[tactic(auto, unfolding(crate::specs::Plan::source_meant))]
-fn source_record(alloc: Global, r: &Fields<'_>) -> Result<Option<PlanRecord>, Memory>
-    ensures { IfOk result (λ o. o ≡ source_meant r.now) }
-{
-    if !are_blank(&[r.c, r.d, r.e, r.f]) {
-        return Ok(None);
-    }
-    let Some(number) = source_no(r.a) else {
-        return Ok(None);
-    };
-    let Some(text) = text(alloc, r.b)? else {
-        return Ok(None);
-    };
-    Ok(Some(PlanRecord::Source(SourceRow { number, text })))
-}
-
-// A point: its number, its position, and its sources.
-#[tactic(auto, unfolding(crate::specs::Plan::point_meant))]
-fn point_record(alloc: Global, r: &Fields<'_>) -> Result<Option<PlanRecord>, Memory>
-    ensures { IfOk result (λ o. o ≡ point_meant r.now) }
-{
-    if !are_blank(&[r.e, r.f]) {
-        return Ok(None);
-    }
-    let Some(number) = point_no(r.a) else {
-        return Ok(None);
-    };
-    let Some(x) = coordinate(r.b) else {
-        return Ok(None);
-    };
-    let Some(y) = coordinate(r.c) else {
-        return Ok(None);
-    };
-    let Some(sources) = source_list(alloc, r.d)? else {
-        return Ok(None);
-    };
-    let Some(sources) = DistinctSources::new(sources) else {
-        return Ok(None);
-    };
-    Ok(Some(PlanRecord::Point(PlanPoint {
-        number,
-        x,
-        y,
-        sources,
-    })))
-}
-
-// The end of the plan.
-#[tactic(auto, unfolding(crate::specs::Plan::open_meant))]
-fn open_record(r: &Fields<'_>) -> Option<PlanRecord>
-    ensures { result ≡ open_meant r.now }
-{
-    if are_blank(&[r.a, r.b, r.c, r.d, r.e, r.f]) {
-        Some(PlanRecord::Open)
-    } else {
-        None
-    }
-}
-
-// A record after the first.
-#[tactic(auto, unfolding(crate::specs::Plan::plan_meant))]
-fn plan_record(alloc: Global, r: &Fields<'_>) -> Result<Option<PlanRecord>, Memory>
-    ensures { IfOk result (λ o. o ≡ plan_meant r.now) }
-{
-    if r.kind == b"source".as_slice() {
-        source_record(alloc, r)
-    } else if r.kind == b"point".as_slice() {
-        point_record(alloc, r)
-    } else if r.kind == b"open".as_slice() {
-        Ok(open_record(r))
-    } else {
-        Ok(None)
-    }
-}
 
 // Whether a coordinate is within the limit of the version.
 fn is_within(version: Version, z: i64) -> bool
@@ -147,15 +34,29 @@ fn is_within(version: Version, z: i64) -> bool
     }
 }
 
+// Takes a source into the rows.
+fn take_source(rows: &mut PlanRows, row: SourceRow) -> Result<(), PlanFault>
+    ensures ok { OnOk result (with_source rows.old row ≡ Some rows.new) }
+    ensures full { IfErr result (λ fault. fault ≢ faults.Memory → with_source rows.old row ≡ None) }
+    ensures err { IfErr result (λ fault. fault ≢ faults.Memory → fault ≡ faults.Full) }
+    ensures grows { OnOk result (HasOneMore rows.old rows.new) }
+{
+    if rows.sources.len() >= ROW_LIMIT {
+        return Err(PlanFault::Full);
+    }
+    rows.put_source(row)?;
+    Ok(())
+}
+
 // Takes the point of the record with this number into the rows.
 fn take_point(
     version: Version,
     count: u64,
     rows: &mut PlanRows,
-    point: PlanPoint,
+    point: PointRecord,
 ) -> Result<(), PlanFault>
-    ensures ok { OnOk result (with_point version count rows.old point ≡ reading version count rows.new) }
-    ensures err { IfErr result (λ fault. fault ≢ faults.Memory → with_point version count rows.old point ≡ faulty fault) }
+    ensures ok { OnOk result (point_step version count rows.old point ≡ reading version count rows.new) }
+    ensures err { IfErr result (λ fault. fault ≢ faults.Memory → point_step version count rows.old point ≡ faulty fault) }
     ensures grows { OnOk result (HasOneMore rows.old rows.new) }
 {
     if !is_within(version, point.x) || !is_within(version, point.y) {
@@ -177,6 +78,65 @@ fn take_point(
     Ok(())
 }
 
+// Takes a parcel into the rows.
+fn take_parcel(rows: &mut PlanRows, parcel: ParcelRecord) -> Result<(), PlanFault>
+    ensures ok { OnOk result (with_parcel rows.old parcel ≡ Some rows.new) }
+    ensures full { IfErr result (λ fault. fault ≢ faults.Memory → with_parcel rows.old parcel ≡ None) }
+    ensures err { IfErr result (λ fault. fault ≢ faults.Memory → fault ≡ faults.Full) }
+    ensures grows { OnOk result (HasOneMore rows.old rows.new) }
+{
+    if parcel.sources.len() > SOURCE_LIMIT || rows.parcels.len() >= ROW_LIMIT {
+        return Err(PlanFault::Full);
+    }
+    let number = parcel.number;
+    let label = parcel.label;
+    let sources = parcel.sources.into_numbers();
+    rows.put_parcel(ParcelRow {
+        number,
+        label,
+        sources,
+    })?;
+    Ok(())
+}
+
+// Takes a string into the rows, with the faces on its two sides.
+fn take_string(rows: &mut PlanRows, string: StringRecord) -> Result<(), PlanFault>
+    ensures ok { OnOk result (with_string rows.old string ≡ Some rows.new) }
+    ensures full { IfErr result (λ fault. fault ≢ faults.Memory → with_string rows.old string ≡ None) }
+    ensures err { IfErr result (λ fault. fault ≢ faults.Memory → fault ≡ faults.Full) }
+    ensures grows { OnOk result (HasOneMore rows.old rows.new) }
+{
+    if string.sources.len() > SOURCE_LIMIT || rows.strings.len() >= STRING_LIMIT {
+        return Err(PlanFault::Full);
+    }
+    let row = StringRow {
+        number: string.number,
+        from: string.from,
+        to: string.to,
+        sources: string.sources.into_numbers(),
+    };
+    rows.put_string(PlanString {
+        row,
+        left: string.left,
+        right: string.right,
+    })?;
+    Ok(())
+}
+
+// Takes a retired number into the rows.
+fn take_retired(rows: &mut PlanRows, parcel: ParcelNo) -> Result<(), PlanFault>
+    ensures ok { OnOk result (with_retired rows.old parcel ≡ Some rows.new) }
+    ensures full { IfErr result (λ fault. fault ≢ faults.Memory → with_retired rows.old parcel ≡ None) }
+    ensures err { IfErr result (λ fault. fault ≢ faults.Memory → fault ≡ faults.Full) }
+    ensures grows { OnOk result (HasOneMore rows.old rows.new) }
+{
+    if rows.retired.len() >= ROW_LIMIT {
+        return Err(PlanFault::Full);
+    }
+    rows.put_retired(parcel)?;
+    Ok(())
+}
+
 // Takes what the record with this number means into the rows, and says whether the plan goes on.
 fn take_record(
     version: Version,
@@ -188,21 +148,18 @@ fn take_record(
     ensures err { IfErr result (λ fault. fault ≢ faults.Memory → record_step version count rows.old found ≡ faulty fault) }
     ensures grows { IfOk result (λ more. more ≡ true → HasOneMore rows.old rows.new) }
 {
-    match found {
-        None => Err(PlanFault::Syntax(count)),
-        Some(PlanRecord::Open) => Ok(false),
-        Some(PlanRecord::Source(row)) => {
-            if rows.sources.len() >= ROW_LIMIT {
-                return Err(PlanFault::Full);
-            }
-            rows.put_source(row)?;
-            Ok(true)
-        }
-        Some(PlanRecord::Point(point)) => {
-            take_point(version, count, rows, point)?;
-            Ok(true)
-        }
+    let Some(record) = found else {
+        return Err(PlanFault::Syntax(count));
+    };
+    match record {
+        PlanRecord::Open => return Ok(false),
+        PlanRecord::Source(row) => take_source(rows, row)?,
+        PlanRecord::Point(point) => take_point(version, count, rows, point)?,
+        PlanRecord::Parcel(parcel) => take_parcel(rows, parcel)?,
+        PlanRecord::String(string) => take_string(rows, string)?,
+        PlanRecord::Retired(parcel) => take_retired(rows, parcel)?,
     }
+    Ok(true)
 }
 
 // Takes a record after the first into the rows, and says whether the plan goes on.

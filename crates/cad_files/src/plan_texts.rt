@@ -1,15 +1,15 @@
 //! The text of a map's plan.
-ghost use Rattle.std.specs.Prelude.{◌≡◌, ◌++◌, ℕ, List, OnOk, IfOk, map};
-ghost use Rattle.cad_files.specs.Texts.{HasWritten, record_text, text_of, list_field, source_record, point_record, plan_records};
+ghost use Rattle.std.specs.Prelude.{◌≡◌, ◌++◌, ℕ, List, OnOk, IfOk, map, decimal};
+ghost use Rattle.cad_files.specs.Texts.{HasWritten, record_text, text_of, list_field, face_field, source_record, point_record, parcel_record, string_record, retired_record, plan_records};
 ghost use Rattle.cad_map.specs.Map.{Map};
 ghost use Rattle.cad_map.specs.Valid.{IsValid};
 ghost use Rattle.cad_files.specs.Input.{IsWhole};
 ghost use Rattle.cad_files.specs.Plan.{plan_of, opened};
-ghost use Rattle.cad_files.specs.Building.{map_of, rows_of, IsBuilt};
+ghost use Rattle.cad_files.specs.Building.{plan_string_of, rows_of, IsBuilt};
 
 use crate::writing::write_record;
 use cad_map::MapView;
-use cad_rows::{Memory, PointRow, SourceNo, SourceRow};
+use cad_rows::{Face, Memory, ParcelNo, ParcelRow, PointRow, SourceNo, SourceRow, StringRow};
 use csv::{Writer, WriterBuilder};
 use std::alloc::Global;
 
@@ -53,6 +53,66 @@ fn write_point(alloc: Global, writer: &mut Writer<Vec<u8>>, row: &PointRow) -> R
     write_record(writer, &[b"point", number, x, y, sources, b"", b""])
 }
 
+// Writes the record of a parcel.
+fn write_parcel(alloc: Global, writer: &mut Writer<Vec<u8>>, row: &ParcelRow) -> Result<(), Memory>
+    ensures { OnOk result ((text : List ℕ) → HasWritten text writer.old → HasWritten (text ++ record_text (parcel_record row.now)) writer.new) }
+{
+    let number = row.number.get().to_string(alloc)?;
+    let sources = list_text(alloc, row.sources.as_slice())?;
+    let number = number.as_bytes();
+    let label = row.label.as_str().as_bytes();
+    let sources = sources.as_slice();
+    write_record(writer, &[b"parcel", number, label, sources, b"", b"", b""])
+}
+
+// The number that stands for a face.
+fn face_number(face: Face) -> u32
+    ensures { decimal result ≡ face_field face }
+{
+    match face {
+        Face::Outside => 0,
+        Face::Parcel(parcel) => parcel.get(),
+    }
+}
+
+// Writes the record of a string with these faces.
+fn write_string(
+    alloc: Global,
+    writer: &mut Writer<Vec<u8>>,
+    row: &StringRow,
+    left: Face,
+    right: Face,
+) -> Result<(), Memory>
+    ensures { OnOk result ((text : List ℕ) → HasWritten text writer.old → HasWritten (text ++ record_text (string_record (record { row = row.now; left = left; right = right }))) writer.new) }
+{
+    let number = row.number.get().to_string(alloc)?;
+    let from = row.from.get().to_string(alloc)?;
+    let to = row.to.get().to_string(alloc)?;
+    let left = face_number(left).to_string(alloc)?;
+    let right = face_number(right).to_string(alloc)?;
+    let sources = list_text(alloc, row.sources.as_slice())?;
+    let number = number.as_bytes();
+    let from = from.as_bytes();
+    let to = to.as_bytes();
+    let left = left.as_bytes();
+    let right = right.as_bytes();
+    let sources = sources.as_slice();
+    write_record(writer, &[b"string", number, from, to, left, right, sources])
+}
+
+// Writes the record of a retired number.
+fn write_retired_number(
+    alloc: Global,
+    writer: &mut Writer<Vec<u8>>,
+    parcel: ParcelNo,
+) -> Result<(), Memory>
+    ensures { OnOk result ((text : List ℕ) → HasWritten text writer.old → HasWritten (text ++ record_text (retired_record parcel)) writer.new) }
+{
+    let number = parcel.get().to_string(alloc)?;
+    let number = number.as_bytes();
+    write_record(writer, &[b"retired", number, b"", b"", b"", b"", b""])
+}
+
 // Writes a record for each source.
 fn write_sources<M: MapView>(
     alloc: Global,
@@ -83,14 +143,66 @@ fn write_points<M: MapView>(
     Ok(())
 }
 
-/// The text of the plan of a map: its rows in order of entry, sources before points.
+// Writes a record for each parcel.
+fn write_parcels<M: MapView>(
+    alloc: Global,
+    writer: &mut Writer<Vec<u8>>,
+    view: &M,
+) -> Result<(), Memory>
+    ensures { OnOk result ((text : List ℕ) → HasWritten text writer.old → HasWritten (text ++ text_of (map parcel_record (M.map view.now).parcels)) writer.new) }
+{
+    for place in 0..view.counts().parcels {
+        let row = view.parcel_at(place).unwrap();
+        write_parcel(alloc, writer, row)?;
+    }
+    Ok(())
+}
+
+// Writes a record for each string, with its present faces.
+fn write_strings<M: MapView>(
+    alloc: Global,
+    writer: &mut Writer<Vec<u8>>,
+    view: &M,
+) -> Result<(), Memory>
+    requires { IsValid (M.map view.now) }
+    ensures { OnOk result ((text : List ℕ) → HasWritten text writer.old → HasWritten (text ++ text_of (map (λ s. string_record (plan_string_of (M.map view.now) s)) (M.map view.now).strings)) writer.new) }
+{
+    for place in 0..view.counts().strings {
+        let row = view.string_at(place).unwrap();
+        let (left, right) = view.left_right(row.number).unwrap();
+        write_string(alloc, writer, row, left, right)?;
+    }
+    Ok(())
+}
+
+// Writes a record for each retired number.
+fn write_retired<M: MapView>(
+    alloc: Global,
+    writer: &mut Writer<Vec<u8>>,
+    view: &M,
+) -> Result<(), Memory>
+    ensures { OnOk result ((text : List ℕ) → HasWritten text writer.old → HasWritten (text ++ text_of (map retired_record (M.map view.now).retired)) writer.new) }
+{
+    for place in 0..view.counts().retired {
+        let parcel = view.retired_at(place).unwrap();
+        write_retired_number(alloc, writer, parcel)?;
+    }
+    Ok(())
+}
+
+/// The text of the plan of a valid map: sources, points, parcels, strings with their present faces, and
+/// retired numbers, each in order of entry. `Err` where memory runs out.
 pub fn plan_text<M: MapView>(alloc: Global, view: &M) -> Result<Vec<u8>, Memory>
+    requires { IsValid (M.map view.now) }
     ensures { IfOk result (λ text. text.items ≡ text_of (plan_records (M.map view.now))) }
 {
     let mut writer = WriterBuilder::new().from_writer(Vec::new(alloc));
     write_record(&mut writer, &[b"plan", b"2", b"", b"", b"", b"", b""])?;
     write_sources(alloc, &mut writer, view)?;
     write_points(alloc, &mut writer, view)?;
+    write_parcels(alloc, &mut writer, view)?;
+    write_strings(alloc, &mut writer, view)?;
+    write_retired(alloc, &mut writer, view)?;
     write_record(&mut writer, &[b"open", b"", b"", b"", b"", b"", b""])?;
     match writer.into_inner() {
         Ok(text) => Ok(text),
@@ -99,9 +211,9 @@ pub fn plan_text<M: MapView>(alloc: Global, view: &M) -> Result<Vec<u8>, Memory>
 }
 
 /// The text of a map's plan is read as its records; those of a valid map give its rows again, in their
-/// order, and the rows the map, where it has sources and points alone.
+/// order, and the rows the map.
 pub fn plans_again()
     ensures text { (m : Map) → IsWhole (text_of (plan_records m)) (plan_records m) }
     ensures read { (m : Map) → IsValid m → plan_of (plan_records m) ≡ opened (rows_of m) }
-    ensures built { (m : Map) → IsValid m → m ≡ map_of (rows_of m) → IsBuilt (rows_of m) m }
+    ensures built { (m : Map) → IsValid m → IsBuilt (rows_of m) m }
 {}

@@ -1,11 +1,19 @@
 //! The rows of a plan.
 ghost use Rattle.std.specs.Prelude.{◌≡◌, ◌∷◌, ◌++◌, ◌<◌, length, OnOk, OnErr, []};
-ghost use Rattle.cad_rows.specs.Limits.{row_limit};
+ghost use Rattle.cad_rows.specs.Limits.{row_limit, string_limit};
 ghost use Rattle.cad_files.specs.Rows.{no_rows, IsSourceList, HasOneMore};
 
-use cad_rows::{Memory, PointRow, SourceRow};
+use cad_rows::{Face, Memory, ParcelNo, ParcelRow, PointRow, SourceRow, StringRow};
 use std::alloc::Global;
 use std::marker::Model;
+
+/// A string of a plan, with the faces on its two sides, seen from its first to its second point.
+#[derive(Debug, Drop)]
+pub struct PlanString {
+    pub row: StringRow,
+    pub left: Face,
+    pub right: Face,
+}
 
 /// The rows of a plan, in the order of its records: each in range, none of its lists of sources too
 /// long or with a number twice, and not too many rows of a kind.
@@ -13,6 +21,9 @@ use std::marker::Model;
 pub struct PlanRows {
     pub sources: Vec<SourceRow>,
     pub points: Vec<PointRow>,
+    pub parcels: Vec<ParcelRow>,
+    pub strings: Vec<PlanString>,
+    pub retired: Vec<ParcelNo>,
 }
 
 impl Model for PlanRows {
@@ -20,9 +31,21 @@ impl Model for PlanRows {
 
     ghost Value = { Rows };
 
-    ghost view = { λ a. record { sources = a.sources.items; points = a.points.items } };
+    ghost view = { λ a. record {
+      sources = a.sources.items;
+      points = a.points.items;
+      parcels = a.parcels.items;
+      strings = a.strings.items;
+      retired = a.retired.items;
+    } };
 
-    ghost invariant = { λ a. AreInRange (record { sources = a.sources.items; points = a.points.items }) };
+    ghost invariant = { λ a. AreInRange (record {
+      sources = a.sources.items;
+      points = a.points.items;
+      parcels = a.parcels.items;
+      strings = a.strings.items;
+      retired = a.retired.items;
+    }) };
 }
 
 impl PlanRows {
@@ -33,6 +56,9 @@ impl PlanRows {
         PlanRows {
             sources: Vec::new(alloc),
             points: Vec::new(alloc),
+            parcels: Vec::new(alloc),
+            strings: Vec::new(alloc),
+            retired: Vec::new(alloc),
         }
     }
 
@@ -56,6 +82,41 @@ impl PlanRows {
         ensures more { OnOk result (HasOneMore self.old self.new) }
     {
         self.points.push(row)?;
+        Ok(())
+    }
+
+    // Puts a parcel last.
+    pub(crate) fn put_parcel(&mut self, row: ParcelRow) -> Result<(), Memory>
+        requires room { length self.old.parcels < row_limit }
+        requires sources { IsSourceList row.sources }
+        ensures ok { OnOk result (self.new ≡ record self.old { parcels = self.old.parcels ++ row ∷ [] }) }
+        ensures err { OnErr result (self.new ≡ self.old) }
+        ensures more { OnOk result (HasOneMore self.old self.new) }
+    {
+        self.parcels.push(row)?;
+        Ok(())
+    }
+
+    // Puts a string last.
+    pub(crate) fn put_string(&mut self, string: PlanString) -> Result<(), Memory>
+        requires room { length self.old.strings < string_limit }
+        requires sources { IsSourceList string.row.sources }
+        ensures ok { OnOk result (self.new ≡ record self.old { strings = self.old.strings ++ string ∷ [] }) }
+        ensures err { OnErr result (self.new ≡ self.old) }
+        ensures more { OnOk result (HasOneMore self.old self.new) }
+    {
+        self.strings.push(string)?;
+        Ok(())
+    }
+
+    // Puts a retired number last.
+    pub(crate) fn put_retired(&mut self, parcel: ParcelNo) -> Result<(), Memory>
+        requires { length self.old.retired < row_limit }
+        ensures ok { OnOk result (self.new ≡ record self.old { retired = self.old.retired ++ parcel ∷ [] }) }
+        ensures err { OnErr result (self.new ≡ self.old) }
+        ensures more { OnOk result (HasOneMore self.old self.new) }
+    {
+        self.retired.push(parcel)?;
         Ok(())
     }
 }

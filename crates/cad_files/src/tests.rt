@@ -1,31 +1,47 @@
 use crate::{
-    Line, LineFault, MemSink, OutSink, PlanFault, Sink, SinkFault, answer_text, build, next_row,
-    plan_text, read_line, read_plan, syntax_text, write_all,
+    Line, LineFault, MemSink, OutSink, PlanFault, PlanRows, Sink, SinkFault, answer_text, build,
+    next_row, plan_text, read_line, read_plan, syntax_text, write_all,
 };
 use cad_history::{Answer, Command};
-use cad_rows::{Edit, Item, Memory, Name, ParcelNo, PointNo, Refusal, Rule, SourceNo, StringNo};
+use cad_rows::{
+    Edit, Face, Item, Memory, Name, ParcelNo, PointNo, Refusal, Rule, SourceNo, StringNo,
+};
 use csv::{ByteRecord, ReaderBuilder};
 use std::alloc::{AllocError, Global};
 use std::test::Fail;
 
-// The plan text of a plan's map, or the text of its fault.
-fn plan_or_fault(alloc: Global, plan: &str) -> Result<Vec<u8>, AllocError> {
+// The rows of a plan, or its fault.
+fn plan_rows(alloc: Global, plan: &str) -> Result<PlanRows, PlanFault> {
     let mut reader = ReaderBuilder::new()
         .has_headers(false)
         .from_reader(alloc, plan.as_bytes());
-    let built = match read_plan(alloc, &mut reader) {
-        Ok(rows) => build(alloc, &rows),
-        Err(fault) => Err(fault),
+    read_plan(alloc, &mut reader)
+}
+
+// The fault of a plan's records, where they have one.
+fn fault_of(alloc: Global, plan: &str) -> Option<PlanFault> {
+    plan_rows(alloc, plan).err()
+}
+
+// The text of a fault.
+fn text_of(alloc: Global, fault: PlanFault) -> Result<Vec<u8>, AllocError> {
+    let text = fault.to_string(alloc)?;
+    Vec::from_slice(alloc, text.as_bytes())
+}
+
+// The plan text of a plan's map, or the text of its fault.
+fn plan_or_fault(alloc: Global, plan: &str) -> Result<Vec<u8>, AllocError> {
+    let rows = match plan_rows(alloc, plan) {
+        Ok(rows) => rows,
+        Err(fault) => return text_of(alloc, fault),
     };
-    match built {
-        Ok(map) => match plan_text(alloc, &map) {
-            Ok(text) => Ok(text),
-            Err(Memory) => Err(AllocError),
-        },
-        Err(fault) => {
-            let text = fault.to_string(alloc)?;
-            Vec::from_slice(alloc, text.as_bytes())
-        }
+    let map = match build(alloc, &rows) {
+        Ok(map) => map,
+        Err(fault) => return text_of(alloc, fault),
+    };
+    match plan_text(alloc, &map) {
+        Ok(text) => Ok(text),
+        Err(Memory) => Err(AllocError),
     }
 }
 
@@ -89,12 +105,158 @@ fn plans(rt: HostRuntime) -> Result<(), Fail> {
     Ok(())
 }
 
+// What a face is, as a number.
+fn face_number(face: Face) -> u32 {
+    match face {
+        Face::Outside => 0,
+        Face::Parcel(parcel) => parcel.get(),
+    }
+}
+
+#[test]
+fn rows_of_parcels_and_strings(rt: HostRuntime) -> Result<(), Fail> {
+    let plan =
+        "plan,1,,,,,\nretired,7,,,,,\nstring,14,4,1,0,2,1 3\nparcel,2,\"North, B\",3 1,,,\nstring,11,1,1,999999999,0,\nretired,999999999,,,,,\nparcel,1,A,,,,\nopen,,,,,,\n";
+    let rows = match plan_rows(rt.alloc(), plan) {
+        Ok(rows) => rows,
+        Err(_) => {
+            assert!(rt; false, "a fault");
+            return Ok(());
+        }
+    };
+    assert_eq!(rt; rows.parcels.len(), 2);
+    for (parcel, (number, label, sources)) in rows
+        .parcels
+        .iter()
+        .zip([(2, "North, B", 2), (1, "A", 0)])
+    {
+        assert_eq!(rt; parcel.number.get(), number);
+        assert!(rt; parcel.label.as_str() == label, "{label}");
+        assert_eq!(rt; parcel.sources.len(), sources);
+    }
+    assert_eq!(rt; rows.strings.len(), 2);
+    for (string, (number, from, to, left, right, sources)) in rows
+        .strings
+        .iter()
+        .zip([(14, 4, 1, 0, 2, 2), (11, 1, 1, 999_999_999, 0, 0)])
+    {
+        assert_eq!(rt; string.row.number.get(), number);
+        assert_eq!(rt; string.row.from.get(), from);
+        assert_eq!(rt; string.row.to.get(), to);
+        assert_eq!(rt; face_number(string.left), left);
+        assert_eq!(rt; face_number(string.right), right);
+        assert_eq!(rt; string.row.sources.len(), sources);
+    }
+    assert_eq!(rt; rows.retired.len(), 2);
+    for (parcel, number) in rows.retired.iter().zip([7, 999_999_999]) {
+        assert_eq!(rt; parcel.get(), number);
+    }
+    Ok(())
+}
+
+#[test]
+fn records_of_parcels_and_strings(rt: HostRuntime) -> Result<(), Fail> {
+    for (record, want) in [
+        ("parcel,0,A,,,,", PlanFault::Syntax(2)),
+        ("parcel,1,,,,,", PlanFault::Syntax(2)),
+        (
+            "parcel,1,12345678901234567890123456789012345678901234567890123456789012345678901234567890,,,,",
+            PlanFault::NoOpen,
+        ),
+        (
+            "parcel,1,123456789012345678901234567890123456789012345678901234567890123456789012345678901,,,,",
+            PlanFault::Syntax(2),
+        ),
+        ("parcel,1,A,1 1,,,", PlanFault::Syntax(2)),
+        ("parcel,1,A,1,1,,", PlanFault::Syntax(2)),
+        (
+            "parcel,1,A,1 2 3 4 5 6 7 8 9 10 11 12 13 14 15 16,,,",
+            PlanFault::NoOpen,
+        ),
+        (
+            "parcel,1,A,1 2 3 4 5 6 7 8 9 10 11 12 13 14 15 16 17,,,",
+            PlanFault::Full,
+        ),
+        (
+            "parcel,1,A,1 2 3 4 5 6 7 8 9 10 11 12 13 14 15 16 17 1,,,",
+            PlanFault::Syntax(2),
+        ),
+        ("Parcel,1,A,,,,", PlanFault::Syntax(2)),
+        ("string,1,2,2,1,1,", PlanFault::NoOpen),
+        ("string,0,1,2,1,0,", PlanFault::Syntax(2)),
+        ("string,1,0,2,1,0,", PlanFault::Syntax(2)),
+        ("string,1,1,,1,0,", PlanFault::Syntax(2)),
+        ("string,1,1,2,00,0,", PlanFault::Syntax(2)),
+        ("string,1,1,2,0,,", PlanFault::Syntax(2)),
+        ("string,1,1,2,1,-0,", PlanFault::Syntax(2)),
+        ("string,1,1,2,1000000000,0,", PlanFault::Syntax(2)),
+        ("string,1,1,2,1,0,1  2", PlanFault::Syntax(2)),
+        ("string,1,1,2,1,0,2 2", PlanFault::Syntax(2)),
+        (
+            "string,1,1,2,1,0,1 2 3 4 5 6 7 8 9 10 11 12 13 14 15 16 17",
+            PlanFault::Full,
+        ),
+        ("retired,1,,,,,", PlanFault::NoOpen),
+        ("retired,0,,,,,", PlanFault::Syntax(2)),
+        ("retired,1,,,,,1", PlanFault::Syntax(2)),
+        ("retired,,,,,,", PlanFault::Syntax(2)),
+    ] {
+        match format!(in rt.alloc(); "plan,1,,,,,\n{record}\n") {
+            Ok(plan) => {
+                assert_eq!(rt; fault_of(rt.alloc(), plan.as_str()), Some(want), "{record}");
+            }
+            Err(AllocError) => assert!(rt; false, "memory"),
+        }
+    }
+    Ok(())
+}
+
+// A plan of so many copies of a record.
+fn plan_of_copies(alloc: Global, record: &str, copies: u32) -> Result<String, AllocError> {
+    let mut plan = String::new(alloc);
+    plan.push_str("plan,1,,,,,\n")?;
+    for _ in 0..copies {
+        plan.push_str(record)?;
+    }
+    plan.push_str("open,,,,,,\n")?;
+    Ok(plan)
+}
+
+#[test]
+fn most_rows(rt: HostRuntime) -> Result<(), Fail> {
+    for (record, copies, want) in [
+        ("parcel,1,A,,,,\n", 100_001, Some(PlanFault::Full)),
+        ("string,1,1,2,0,0,\n", 200_000, None),
+        ("string,1,1,2,0,0,\n", 200_001, Some(PlanFault::Full)),
+        ("retired,1,,,,,\n", 100_001, Some(PlanFault::Full)),
+    ] {
+        match plan_of_copies(rt.alloc(), record, copies) {
+            Ok(plan) => {
+                assert_eq!(rt;
+                    fault_of(rt.alloc(), plan.as_str()),
+                    want,
+                    "{copies} {record}"
+                );
+            }
+            Err(AllocError) => assert!(rt; false, "memory"),
+        }
+    }
+    Ok(())
+}
+
 #[test]
 fn fault_texts(rt: HostRuntime) -> Result<(), Fail> {
-    let (Some(string), Some(parcel)) = (StringNo::new(4), ParcelNo::new(4)) else {
+    let (Some(point), Some(string), Some(parcel)) = (
+        PointNo::new(4),
+        StringNo::new(4),
+        ParcelNo::new(4),
+    ) else {
         return Ok(());
     };
     for (fault, want) in [
+        (PlanFault::Dangling(string), "8 dangling string 4"),
+        (PlanFault::Corner(point), "9 corner point 4"),
+        (PlanFault::Labels(string), "10 labels string 4"),
         (PlanFault::Taken(Name::String(string)), "5 taken string 4"),
         (
             PlanFault::Unknown(Name::Parcel(parcel)),

@@ -46,6 +46,9 @@ fault_job X (plan_faults.Syntax n) text depth h = let a : (plan_faults.Syntax n)
 fault_job X (plan_faults.Range n) text depth h = let a : (plan_faults.Range n) ≢ plan_faults.Read = λ e. cc e in let b : (plan_faults.Range n) ≢ plan_faults.Memory = λ e. cc e in (refl, a, b, h a b)
 fault_job X (plan_faults.Taken n) text depth h = let a : (plan_faults.Taken n) ≢ plan_faults.Read = λ e. cc e in let b : (plan_faults.Taken n) ≢ plan_faults.Memory = λ e. cc e in (refl, a, b, h a b)
 fault_job X (plan_faults.Unknown n) text depth h = let a : (plan_faults.Unknown n) ≢ plan_faults.Read = λ e. cc e in let b : (plan_faults.Unknown n) ≢ plan_faults.Memory = λ e. cc e in (refl, a, b, h a b)
+fault_job X (plan_faults.Dangling n) text depth h = let a : (plan_faults.Dangling n) ≢ plan_faults.Read = λ e. cc e in let b : (plan_faults.Dangling n) ≢ plan_faults.Memory = λ e. cc e in (refl, a, b, h a b)
+fault_job X (plan_faults.Corner n) text depth h = let a : (plan_faults.Corner n) ≢ plan_faults.Read = λ e. cc e in let b : (plan_faults.Corner n) ≢ plan_faults.Memory = λ e. cc e in (refl, a, b, h a b)
+fault_job X (plan_faults.Labels n) text depth h = let a : (plan_faults.Labels n) ≢ plan_faults.Read = λ e. cc e in let b : (plan_faults.Labels n) ≢ plan_faults.Memory = λ e. cc e in (refl, a, b, h a b)
 fault_job X (plan_faults.Breaks r) text depth h = let a : (plan_faults.Breaks r) ≢ plan_faults.Read = λ e. cc e in let b : (plan_faults.Breaks r) ≢ plan_faults.Memory = λ e. cc e in (refl, a, b, h a b)
 
 -- no fault of a plan is told as a write fault
@@ -59,6 +62,9 @@ not_write (plan_faults.Syntax n) h = cc
 not_write (plan_faults.Range n) h = cc
 not_write (plan_faults.Taken n) h = cc
 not_write (plan_faults.Unknown n) h = cc
+not_write (plan_faults.Dangling n) h = cc
+not_write (plan_faults.Corner n) h = cc
+not_write (plan_faults.Labels n) h = cc
 not_write (plan_faults.Breaks r) h = cc
 
 -- all of a job text begins it

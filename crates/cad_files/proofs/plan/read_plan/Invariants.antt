@@ -1,7 +1,6 @@
 use Rattle.std.proofs.Common.{◌≡◌, ◌+◌, ◌-◌, [], ℕ, List}
-use Rattle.cad_rows.specs.Limits.{row_limit}
 use Rattle.cad_files.specs.Input.{HasRead}
-use Rattle.cad_files.specs.Rows.{row_count}
+use Rattle.cad_files.specs.Rows.{row_count, plan_limit}
 use Rattle.cad_files.specs.Plan.{reading, plan_of}
 use Rattle.cad_files.proofs.plan.read_plan.Given as goal
 
@@ -13,4 +12,4 @@ invariant-loop-rows g l = record {
 }
 
 abbrev pub decreases-loop-rows : goal.decreases-loop-rows
-decreases-loop-rows g l = row_limit + row_limit - row_count l.rows
+decreases-loop-rows g l = plan_limit - row_count l.rows

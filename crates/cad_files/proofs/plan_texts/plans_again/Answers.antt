@@ -1,4 +1,5 @@
-use Rattle.cad_files.proofs.AgainFacts.{plan_text_again, plan_again, built_again}
+use Rattle.cad_files.proofs.AgainFacts.{plan_text_again, plan_again}
+use Rattle.cad_files.proofs.BuiltAgain.{built_again}
 use Rattle.cad_files.proofs.plan_texts.plans_again.Goals as goal
 
 pub returns-clause-text : goal.returns-clause-text

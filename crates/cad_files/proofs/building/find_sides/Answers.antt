@@ -1,0 +1,40 @@
+use Rattle.std.proofs.Common.{◌≡◌, ◌∙◌, sym, ap, Some, None}
+use Rattle.std.specs.Prelude.{option_map}
+use Rattle.cad_files.specs.Building.{taken, unknown, dangling, bad_corner, other_label, map_of}
+use Rattle.cad_files.specs.Rows.{Rows}
+use Rattle.cad_files.specs.declared.faults.PlanFault.TheVariants as faults
+use Rattle.cad_files.proofs.FaultFacts.{labels-left}
+use Rattle.cad_files.proofs.LabelFacts.{other_label-is, sides-of}
+use Rattle.cad_files.proofs.building.find_sides.Goals as goal
+
+pub returns-in-Some-first_other_label-clause-err : goal.returns-in-Some-first_other_label-clause-err
+returns-in-Some-first_other_label-clause-err c = λ nm.
+    let rows = c.args.rows.now in
+    let m = map_of rows in
+    let here = ap (λ (r : Rows). r.strings) c.rows.view_is in
+    let u : unknown rows ≡ None = rw c.requires.map at (sym c.missing_row.ensures ∙ c.in_default.is) in
+    let d : dangling m rows.strings ≡ None = rw (c.requires.map, c.as_slice.ensures.value, here) at (sym c.first_dangling.ensures ∙ c.in_default-first_dangling.is) in
+    let b : bad_corner m rows.strings ≡ None = rw (c.requires.map, c.as_slice-2.ensures.value, here) at c.in_ok-sides.ensures.free in
+    let same = rw (c.as_slice-2.ensures.value, here) at c.in_ok-sides.ensures.sides in
+    let told = rw c.as_slice-3.ensures.value at c.first_other_label.ensures in
+    let l : other_label m rows.strings ≡ Some c.in-Some-first_other_label.string = rw c.requires.map at (sym (other_label-is c.args.plain.now rows.strings c.in_ok-sides.sides.items c.in_ok-sides.ensures.each same) ∙ sym told ∙ c.in-Some-first_other_label.is) in
+    labels-left (taken rows) (unknown rows) (dangling m rows.strings) (bad_corner m rows.strings) (other_label m rows.strings) c.requires.free u d b ∙ ap (option_map (λ n. faults.Labels n)) l
+
+pub returns-clause-faultless : goal.returns-clause-faultless
+returns-clause-faultless c =
+    let rows = c.args.rows.now in
+    let m = map_of rows in
+    let here = ap (λ (r : Rows). r.strings) c.rows.view_is in
+    let u : unknown rows ≡ None = rw c.requires.map at (sym c.missing_row.ensures ∙ c.in_default.is) in
+    let d : dangling m rows.strings ≡ None = rw (c.requires.map, c.as_slice.ensures.value, here) at (sym c.first_dangling.ensures ∙ c.in_default-first_dangling.is) in
+    let b : bad_corner m rows.strings ≡ None = rw (c.requires.map, c.as_slice-2.ensures.value, here) at c.in_ok-sides.ensures.free in
+    let same = rw (c.as_slice-2.ensures.value, here) at c.in_ok-sides.ensures.sides in
+    let told = rw c.as_slice-3.ensures.value at c.first_other_label.ensures in
+    let l : other_label m rows.strings ≡ None = rw c.requires.map at (sym (other_label-is c.args.plain.now rows.strings c.in_ok-sides.sides.items c.in_ok-sides.ensures.each same) ∙ sym told ∙ c.in_default-first_other_label.is) in
+    labels-left (taken rows) (unknown rows) (dangling m rows.strings) (bad_corner m rows.strings) (other_label m rows.strings) c.requires.free u d b ∙ ap (option_map (λ n. faults.Labels n)) l
+
+pub returns-clause-sides : goal.returns-clause-sides
+returns-clause-sides c =
+    let here = ap (λ (r : Rows). r.strings) c.rows.view_is in
+    rw (c.in_ok-without_strings.ensures, c.as_slice-4.ensures.value)
+    (sides-of c.args.plain.now c.args.rows.now.strings c.in_ok-sides.sides.items c.in_ok-sides.ensures.each (rw (c.as_slice-2.ensures.value, here) at c.in_ok-sides.ensures.sides))

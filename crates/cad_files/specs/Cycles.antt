@@ -1,0 +1,64 @@
+-- Sides, each with the point that follows it, and the rings that they make.
+use Rattle.std.specs.Prelude.{◌≡◌, ◌≢◌, List, [], ◌∷◌, map}
+use Rattle.std.specs.List.{flat_map, AllByRecursion, Contains}
+use Rattle.cad_rows.specs.declared.names.Face.{Face}
+use Rattle.cad_rings.specs.Cycle.{Side, Corner, corners_of}
+use Rattle.cad_map.specs.declared.boundary.Boundary.{Boundary}
+use Rattle.cad_map.specs.Map.{Map}
+use Rattle.cad_map.specs.Valid.{EachPair}
+use Rattle.cad_files.specs.Follower.{followers, LabelledSide, labelled_sides}
+use Rattle.cad_files.specs.declared.cycles.FollowedSide.{FollowedSide}
+use Rattle.cad_files.specs.declared.rows.PlanString.{PlanString}
+
+-- ---- Sides and the points that follow them
+
+abbrev pub side_of : FollowedSide → Side
+side_of s = (s.from, s.to)
+
+-- the side that comes after it
+abbrev pub side_behind : FollowedSide → Side
+side_behind s = (s.to, s.after)
+
+-- the corner at its end
+abbrev pub corner_of : FollowedSide → Corner
+corner_of s = record { before = s.from; at = s.to; after = s.after }
+
+-- the side after this one is among these, with the same face
+pub record HasNext (sides : List FollowedSide) (s : FollowedSide) : Type 0 where
+  pub next : FollowedSide
+  pub among : Contains sides next
+  pub behind : side_of next ≡ side_behind s
+  pub face : next.face ≡ s.face
+
+-- sides of which each leads to another one with its face, and no two to the same one
+pub record AreFollowed (sides : List FollowedSide) : Type 0 where
+  -- no side stands twice
+  pub once : EachPair (λ a b. a ≢ b) (map side_of sides)
+  -- two sides to the same point have different followers
+  pub apart : EachPair (λ a b. a ≢ b) (map side_behind sides)
+  pub next : AllByRecursion (HasNext sides) sides
+  pub ends : AllByRecursion (λ s. s.from ≢ s.to) sides
+
+-- ---- The sides of a plan
+
+-- a side with its face
+abbrev pub faced : FollowedSide → Side × Face
+faced s = (side_of s, s.face)
+
+abbrev pub faced_as : LabelledSide → Side × Face
+faced_as s = (s.side, s.face)
+
+-- both sides of each string in their order, each with its face and its one follower
+pub record AreSidesOf (m : Map) (strings : List PlanString) (sides : List FollowedSide) : Type 0 where
+  pub labels : map faced sides ≡ map faced_as (labelled_sides strings)
+  pub followers : AllByRecursion (λ s. followers m (side_of s) ≡ s.after ∷ []) sides
+
+-- ---- Rings
+
+-- the sides of a ring, each with the point after it and the ring's face
+abbrev pub followed_of : Boundary → List FollowedSide
+followed_of b = map (λ (c : Corner). record { from = c.before; to = c.at; after = c.after; face = b.face }) (corners_of b.ring)
+
+-- those of all these rings
+abbrev pub followed_in : List Boundary → List FollowedSide
+followed_in bs = flat_map followed_of bs

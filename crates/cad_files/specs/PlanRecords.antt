@@ -1,0 +1,61 @@
+-- What the records of a plan mean, each by itself.
+use Rattle.std.specs.Prelude.{◌&&◌, [], ◌∷◌, codes, Option, Some, None, option_map, option_and_then, if◌then◌else◌}
+use Rattle.std.specs.Str.{bytes_eq}
+use Rattle.cad_files.specs.Record.{Seven}
+use Rattle.cad_files.specs.Fields.{number_of, face_of, coordinate_of, text_of, distinct_of, are_blank}
+use Rattle.cad_files.specs.declared.plan_records.Version.{Version}
+use Rattle.cad_files.specs.declared.plan_records.Version.TheVariants.{One, Two}
+use Rattle.cad_files.specs.declared.plan_records.PlanRecord.{PlanRecord}
+use Rattle.cad_files.specs.declared.plan_records.PlanRecord.TheVariants as records
+
+-- the version of a plan that begins with this record
+unfoldable pub version_of : Seven → Option Version
+version_of r =
+    if bytes_eq r.kind (codes "plan") && are_blank (r.b ∷ r.c ∷ r.d ∷ r.e ∷ r.f ∷ []) then
+    (if bytes_eq r.a (codes "1") then Some One else if bytes_eq r.a (codes "2") then Some Two else None)
+    else None
+
+-- a source: its number, and its text
+unfoldable pub source_meant : Seven → Option PlanRecord
+source_meant r =
+    if are_blank (r.c ∷ r.d ∷ r.e ∷ r.f ∷ []) then option_and_then (λ n. option_map (λ text. records.Source (record { number = n; text = text })) (text_of r.b)) (number_of r.a) else None
+
+-- a point: its number, its position, and its sources
+unfoldable pub point_meant : Seven → Option PlanRecord
+point_meant r =
+    if are_blank (r.e ∷ r.f ∷ []) then
+    option_and_then (λ n. option_and_then (λ x. option_and_then (λ y. option_map (λ sources. records.Point (record { number = n; x = x; y = y; sources = sources })) (distinct_of r.d)) (coordinate_of r.c)) (coordinate_of r.b)) (number_of r.a)
+    else None
+
+-- a parcel: its number, its label, and its sources
+unfoldable pub parcel_meant : Seven → Option PlanRecord
+parcel_meant r =
+    if are_blank (r.d ∷ r.e ∷ r.f ∷ []) then
+    option_and_then (λ n. option_and_then (λ label. option_map (λ sources. records.Parcel (record { number = n; label = label; sources = sources })) (distinct_of r.c)) (text_of r.b)) (number_of r.a)
+    else None
+
+-- a string: its number, the points that it runs from and to, the faces to its left and right, and its sources
+unfoldable pub string_meant : Seven → Option PlanRecord
+string_meant r =
+    option_and_then (λ n. option_and_then (λ from. option_and_then (λ to. option_and_then (λ left. option_and_then (λ right. option_map (λ sources.
+    records.String (record { number = n; from = from; to = to; left = left; right = right; sources = sources }))
+    (distinct_of r.f)) (face_of r.e)) (face_of r.d)) (number_of r.c)) (number_of r.b)) (number_of r.a)
+
+-- a retired number of a parcel
+unfoldable pub retired_meant : Seven → Option PlanRecord
+retired_meant r = if are_blank (r.b ∷ r.c ∷ r.d ∷ r.e ∷ r.f ∷ []) then option_map (λ n. records.Retired n) (number_of r.a) else None
+
+-- the end of the plan
+unfoldable pub open_meant : Seven → Option PlanRecord
+open_meant r = if are_blank (r.a ∷ r.b ∷ r.c ∷ r.d ∷ r.e ∷ r.f ∷ []) then Some records.Open else None
+
+-- a record after the first
+unfoldable pub plan_meant : Seven → Option PlanRecord
+plan_meant r =
+    if bytes_eq r.kind (codes "source") then source_meant r
+    else if bytes_eq r.kind (codes "point") then point_meant r
+    else if bytes_eq r.kind (codes "parcel") then parcel_meant r
+    else if bytes_eq r.kind (codes "string") then string_meant r
+    else if bytes_eq r.kind (codes "retired") then retired_meant r
+    else if bytes_eq r.kind (codes "open") then open_meant r
+    else None

@@ -1,0 +1,47 @@
+//! Building the map of a plan.
+ghost use Rattle.std.specs.Prelude.{◌≢◌, IfOk, IfErr};
+ghost use Rattle.cad_files.specs.Rows.{AreInRange};
+ghost use Rattle.cad_files.specs.Building.{IsBuilt, IsBuildFault};
+ghost use Rattle.cad_files.specs.declared.faults.PlanFault.TheVariants as faults;
+
+use crate::building::{find_sides, put_rows};
+use crate::cycles::rings_of;
+use crate::faults::PlanFault;
+use crate::rows::PlanRows;
+use cad_map::PlainMap;
+use cad_valid::first_broken;
+use std::alloc::Global;
+
+/// Builds the map of a plan's rows: the rows in their order, and the rings that its strings make, found by followers as
+/// in de Berg et al., Computational Geometry, chapter 2.
+///
+/// A fault is the first in the rows, or the first rule that their map breaks. Takes time by the number of strings,
+/// squared.
+pub fn build(alloc: Global, rows: &PlanRows) -> Result<PlainMap, PlanFault>
+    ensures ok { IfOk result (IsBuilt rows.now) }
+    ensures err { IfErr result (λ fault. fault ≢ faults.Memory → IsBuildFault rows.now fault) }
+{
+    are_in_range(rows);
+    let mut plain = PlainMap::empty(alloc);
+    match put_rows(&mut plain, rows) {
+        Ok(()) => {}
+        Err(fault) => return Err(fault),
+    }
+    let sides = match find_sides(alloc, &plain, rows) {
+        Ok(sides) => sides,
+        Err(fault) => return Err(fault),
+    };
+    let rings = rings_of(alloc, sides.as_slice())?;
+    plain.set_boundaries(rings);
+    if let Some(rule) = first_broken(&plain) {
+        return Err(PlanFault::Breaks(rule));
+    }
+    Ok(plain)
+}
+
+// The rows are in range, by their type.
+fn are_in_range(rows: &PlanRows)
+    ensures { AreInRange rows.now }
+{
+    let _ = rows.sources.len();
+}

@@ -1,0 +1,224 @@
+//! The records of a plan, each by itself.
+ghost use Rattle.std.specs.Prelude.{◌≡◌, IfOk};
+ghost use Rattle.cad_files.specs.PlanRecords.{version_of, source_meant, point_meant, parcel_meant, string_meant, retired_meant, open_meant, plan_meant};
+
+use crate::fields::{
+    Fields, are_blank, coordinate, face, parcel_no, point_no, source_no, string_no, text,
+};
+use crate::lists::{DistinctSources, distinct_sources};
+use cad_rows::{Face, Label, Memory, ParcelNo, PointNo, SourceRow, StringNo};
+use std::alloc::Global;
+
+/// The version of a plan.
+#[derive(Clone, Copy, Debug, PartialEq, Eq)]
+pub enum Version {
+    One,
+    Two,
+}
+
+/// A point of a plan, whose coordinates may be out of range and whose sources may be too many.
+#[derive(Debug, Drop)]
+pub struct PointRecord {
+    pub number: PointNo,
+    pub x: i64,
+    pub y: i64,
+    pub sources: DistinctSources,
+}
+
+/// A parcel of a plan, whose sources may be too many.
+#[derive(Debug, Drop)]
+pub struct ParcelRecord {
+    pub number: ParcelNo,
+    pub label: Label,
+    pub sources: DistinctSources,
+}
+
+/// A string of a plan with the faces on its two sides, seen from its first to its second point; its
+/// sources may be too many.
+#[derive(Debug, Drop)]
+pub struct StringRecord {
+    pub number: StringNo,
+    pub from: PointNo,
+    pub to: PointNo,
+    pub left: Face,
+    pub right: Face,
+    pub sources: DistinctSources,
+}
+
+/// A record of a plan after the first.
+#[derive(Debug, Drop)]
+pub enum PlanRecord {
+    Source(SourceRow),
+    Point(PointRecord),
+    Parcel(ParcelRecord),
+    String(StringRecord),
+    Retired(ParcelNo),
+    Open,
+}
+
+/// The version of a plan that begins with this record.
+#[tactic(auto, unfolding(crate::specs::PlanRecords::version_of))]
+pub(crate) fn plan_version(r: &Fields<'_>) -> Option<Version>
+    ensures { result ≡ version_of r.now }
+{
+    if r.kind != b"plan".as_slice() || !are_blank(&[r.b, r.c, r.d, r.e, r.f]) {
+        return None;
+    }
+    if r.a == b"1".as_slice() {
+        Some(Version::One)
+    } else if r.a == b"2".as_slice() {
+        Some(Version::Two)
+    } else {
+        None
+    }
+}
+
+// A source: its number, and its text.
+#[tactic(auto, unfolding(crate::specs::PlanRecords::source_meant))]
+fn source_record(alloc: Global, r: &Fields<'_>) -> Result<Option<PlanRecord>, Memory>
+    ensures { IfOk result (λ o. o ≡ source_meant r.now) }
+{
+    if !are_blank(&[r.c, r.d, r.e, r.f]) {
+        return Ok(None);
+    }
+    let Some(number) = source_no(r.a) else {
+        return Ok(None);
+    };
+    let Some(text) = text(alloc, r.b)? else {
+        return Ok(None);
+    };
+    Ok(Some(PlanRecord::Source(SourceRow { number, text })))
+}
+
+// A point: its number, its position, and its sources.
+#[tactic(auto, unfolding(crate::specs::PlanRecords::point_meant))]
+fn point_record(alloc: Global, r: &Fields<'_>) -> Result<Option<PlanRecord>, Memory>
+    ensures { IfOk result (λ o. o ≡ point_meant r.now) }
+{
+    if !are_blank(&[r.e, r.f]) {
+        return Ok(None);
+    }
+    let Some(number) = point_no(r.a) else {
+        return Ok(None);
+    };
+    let Some(x) = coordinate(r.b) else {
+        return Ok(None);
+    };
+    let Some(y) = coordinate(r.c) else {
+        return Ok(None);
+    };
+    let Some(sources) = distinct_sources(alloc, r.d)? else {
+        return Ok(None);
+    };
+    Ok(Some(PlanRecord::Point(PointRecord {
+        number,
+        x,
+        y,
+        sources,
+    })))
+}
+
+// A parcel: its number, its label, and its sources.
+#[tactic(auto, unfolding(crate::specs::PlanRecords::parcel_meant))]
+fn parcel_record(alloc: Global, r: &Fields<'_>) -> Result<Option<PlanRecord>, Memory>
+    ensures { IfOk result (λ o. o ≡ parcel_meant r.now) }
+{
+    if !are_blank(&[r.d, r.e, r.f]) {
+        return Ok(None);
+    }
+    let Some(number) = parcel_no(r.a) else {
+        return Ok(None);
+    };
+    let Some(label) = text(alloc, r.b)? else {
+        return Ok(None);
+    };
+    let Some(sources) = distinct_sources(alloc, r.c)? else {
+        return Ok(None);
+    };
+    Ok(Some(PlanRecord::Parcel(ParcelRecord {
+        number,
+        label,
+        sources,
+    })))
+}
+
+// A string: its number, its points, the faces to its left and right, and its sources.
+#[tactic(auto, unfolding(crate::specs::PlanRecords::string_meant))]
+fn string_record(alloc: Global, r: &Fields<'_>) -> Result<Option<PlanRecord>, Memory>
+    ensures { IfOk result (λ o. o ≡ string_meant r.now) }
+{
+    let Some(number) = string_no(r.a) else {
+        return Ok(None);
+    };
+    let Some(from) = point_no(r.b) else {
+        return Ok(None);
+    };
+    let Some(to) = point_no(r.c) else {
+        return Ok(None);
+    };
+    let Some(left) = face(r.d) else {
+        return Ok(None);
+    };
+    let Some(right) = face(r.e) else {
+        return Ok(None);
+    };
+    let Some(sources) = distinct_sources(alloc, r.f)? else {
+        return Ok(None);
+    };
+    Ok(Some(PlanRecord::String(StringRecord {
+        number,
+        from,
+        to,
+        left,
+        right,
+        sources,
+    })))
+}
+
+// A retired number of a parcel.
+#[tactic(auto, unfolding(crate::specs::PlanRecords::retired_meant))]
+fn retired_record(r: &Fields<'_>) -> Option<PlanRecord>
+    ensures { result ≡ retired_meant r.now }
+{
+    if !are_blank(&[r.b, r.c, r.d, r.e, r.f]) {
+        return None;
+    }
+    match parcel_no(r.a) {
+        Some(parcel) => Some(PlanRecord::Retired(parcel)),
+        None => None,
+    }
+}
+
+// The end of the plan.
+#[tactic(auto, unfolding(crate::specs::PlanRecords::open_meant))]
+fn open_record(r: &Fields<'_>) -> Option<PlanRecord>
+    ensures { result ≡ open_meant r.now }
+{
+    if are_blank(&[r.a, r.b, r.c, r.d, r.e, r.f]) {
+        Some(PlanRecord::Open)
+    } else {
+        None
+    }
+}
+
+/// What a record after the first means, or `None` where it is none of a plan.
+#[tactic(auto, unfolding(crate::specs::PlanRecords::plan_meant))]
+pub(crate) fn plan_record(alloc: Global, r: &Fields<'_>) -> Result<Option<PlanRecord>, Memory>
+    ensures { IfOk result (λ o. o ≡ plan_meant r.now) }
+{
+    if r.kind == b"source".as_slice() {
+        source_record(alloc, r)
+    } else if r.kind == b"point".as_slice() {
+        point_record(alloc, r)
+    } else if r.kind == b"parcel".as_slice() {
+        parcel_record(alloc, r)
+    } else if r.kind == b"string".as_slice() {
+        string_record(alloc, r)
+    } else if r.kind == b"retired".as_slice() {
+        Ok(retired_record(r))
+    } else if r.kind == b"open".as_slice() {
+        Ok(open_record(r))
+    } else {
+        Ok(None)
+    }
+}
