@@ -2,14 +2,30 @@
 #![tactic(auto)]
 
 #[cfg(test)]
+mod adjusting;
+#[cfg(test)]
 mod arguments;
+#[cfg(test)]
+mod bases;
 #[cfg(test)]
 mod cases;
 #[cfg(test)]
+mod chains;
+#[cfg(test)]
+mod dividing;
+#[cfg(test)]
+mod enclosing;
+#[cfg(test)]
 mod faults;
+#[cfg(test)]
+mod history;
+#[cfg(test)]
+mod merging;
 #[cfg(test)]
 mod plans;
 #[cfg(test)]
 mod points;
 #[cfg(test)]
 mod records;
+#[cfg(test)]
+mod reports;

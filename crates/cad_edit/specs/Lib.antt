@@ -1,0 +1,3 @@
+pub mod SourceChange
+pub mod Cut
+pub mod Merging

@@ -1,14 +1,23 @@
 //! Why an edit of a valid map is refused before anything is tried: one function for each reason, asked in order.
-ghost use Rattle.std.specs.Prelude.{◌≡◌, IsTrue, ◌↔◌, unwrap_or, option_map, [], nat_le, length, if◌then◌else◌};
+ghost use Rattle.std.specs.Prelude.{◌≡◌, IsTrue, ◌∷◌, unwrap_or, [], ◌+◌, ◌||◌, nat_lt, nat_le, length};
 ghost use Rattle.std.specs.Option.{option_copied};
-ghost use Rattle.cad_rows.specs.Limits.{source_limit};
+ghost use Rattle.cad_rows.specs.Limits.{row_limit, string_limit, source_limit};
 ghost use Rattle.geo_exact.specs.Position.{in_range};
-ghost use Rattle.cad_map.specs.Map.{Map, point_of};
-ghost use Rattle.cad_map.specs.Valid.{IsValid};
-ghost use Rattle.cad_map.specs.Refusals.{range, unknown, taken, not_free, already_attached, full, first_refusal as first_refusal_of, is_there, item_named, sources_at, is_attached};
+ghost use Rattle.cad_map.specs.Map.{Map, has_point, position_of};
+ghost use Rattle.cad_map.specs.Valid.{IsValid, is_same_position};
+ghost use Rattle.cad_map.specs.Refusals.{first_of, range, unknown, no_change, has_label, not_degree_two, bad_chain, not_in_parcel, chain_joins_rings, same_parcel, not_neighbours, not_one_chain, already_attached, not_attached, full, first_refusal as first_refusal_of, sources_at, is_attached};
 
+use crate::chains::{
+    bad_chain_row, chain_joins_rings_row, not_free_row, not_in_parcel_row, retired_row,
+};
+use crate::meeting::joined_source_count;
+use crate::naming::{taken_row, unknown_row};
+use crate::parcels::{not_neighbours_row, not_one_chain_row, outside_row, same_parcel_row};
 use cad_map::MapView;
-use cad_rows::{Edit, Item, Name, Numbers, ROW_LIMIT, Refusal, SOURCE_LIMIT, SourceNo};
+use cad_rows::{
+    Edit, Item, Label, Numbers, ParcelNo, PointNo, ROW_LIMIT, Refusal, SOURCE_LIMIT, STRING_LIMIT,
+    SourceNo,
+};
 use geo_exact::COORDINATE_LIMIT;
 
 /// The first reason to refuse an edit of a valid map before anything is tried, if there is one. Takes no memory.
@@ -26,10 +35,56 @@ pub fn first_refusal<M: MapView>(map: &M, edit: &Edit) -> Option<Refusal>
     if let Some(refusal) = taken_row(map, edit) {
         return Some(refusal);
     }
+    if let Some(refusal) = retired_row(map, edit) {
+        return Some(refusal);
+    }
+    if let Some(refusal) = outside_row(edit) {
+        return Some(refusal);
+    }
+    if let Some(refusal) = no_change_row(map, edit) {
+        return Some(refusal);
+    }
     if let Some(refusal) = not_free_row(map, edit) {
         return Some(refusal);
     }
+    if let Some(refusal) = not_degree_two_row(map, edit) {
+        return Some(refusal);
+    }
+    if let Some(refusal) = bad_chain_row(edit) {
+        return Some(refusal);
+    }
+    later_refusal(map, edit)
+}
+
+/// The first reason of those that look at rings, at sources and at limits, where none before them applies.
+fn later_refusal<M: MapView>(map: &M, edit: &Edit) -> Option<Refusal>
+    requires valid { IsValid (M.map map.now) }
+    requires unknown { unknown (M.map map.now) edit.now ≡ None }
+    requires two { not_degree_two (M.map map.now) edit.now ≡ None }
+    requires chain { bad_chain edit.now ≡ None }
+    ensures { result ≡ first_of (not_in_parcel (M.map map.now) edit.now ∷ chain_joins_rings (M.map map.now) edit.now ∷ same_parcel edit.now
+        ∷ not_neighbours (M.map map.now) edit.now ∷ not_one_chain (M.map map.now) edit.now ∷ already_attached (M.map map.now) edit.now
+        ∷ not_attached (M.map map.now) edit.now ∷ full (M.map map.now) edit.now ∷ []) }
+{
+    if let Some(refusal) = not_in_parcel_row(map, edit) {
+        return Some(refusal);
+    }
+    if let Some(refusal) = chain_joins_rings_row(map, edit) {
+        return Some(refusal);
+    }
+    if let Some(refusal) = same_parcel_row(edit) {
+        return Some(refusal);
+    }
+    if let Some(refusal) = not_neighbours_row(map, edit) {
+        return Some(refusal);
+    }
+    if let Some(refusal) = not_one_chain_row(map, edit) {
+        return Some(refusal);
+    }
     if let Some(refusal) = already_attached_row(map, edit) {
+        return Some(refusal);
+    }
+    if let Some(refusal) = not_attached_row(map, edit) {
         return Some(refusal);
     }
     full_row(map, edit)
@@ -46,7 +101,7 @@ fn range_row(edit: &Edit) -> Option<Refusal>
     ensures { result ≡ range edit.now }
 {
     match edit {
-        Edit::AddPoint { x, y, .. } => {
+        Edit::AddPoint { x, y, .. } | Edit::Split { x, y, .. } | Edit::Move { x, y, .. } => {
             if is_in_range(*x) && is_in_range(*y) {
                 None
             } else {
@@ -57,97 +112,53 @@ fn range_row(edit: &Edit) -> Option<Refusal>
     }
 }
 
-fn is_known<M: MapView>(map: &M, name: &Name) -> bool
-    ensures { result ≡ is_there (M.map map.now) name.now }
+/// The point is at this position.
+fn is_at<M: MapView>(map: &M, point: PointNo, x: i64, y: i64) -> bool
+    requires { IsTrue (has_point (M.map map.now) point) }
+    ensures { result ≡ is_same_position (position_of (M.map map.now) point) (record { x = x; y = y }) }
 {
-    match name {
-        Name::Point(no) => map.point(*no).is_some(),
-        Name::String(no) => map.string(*no).is_some(),
-        Name::Parcel(no) => map.parcel(*no).is_some(),
-        Name::Source(no) => map.source(*no).is_some(),
+    let position = cad_map::position(map, point);
+    position.x == x && position.y == y
+}
+
+/// The parcel has this label.
+fn is_called<M: MapView>(map: &M, parcel: ParcelNo, label: &Label) -> bool
+    ensures { result ≡ has_label (M.map map.now) parcel label.now }
+{
+    match map.parcel(parcel) {
+        Some(row) => row.label.as_str() == label.as_str(),
+        None => false,
     }
 }
 
-fn name_of(item: Item) -> Name
-    ensures { result ≡ item_named item }
+/// The edit changes nothing.
+fn no_change_row<M: MapView>(map: &M, edit: &Edit) -> Option<Refusal>
+    requires { unknown (M.map map.now) edit.now ≡ None }
+    ensures { result ≡ no_change (M.map map.now) edit.now }
 {
-    match item {
-        Item::Point(no) => Name::Point(no),
-        Item::String(no) => Name::String(no),
-        Item::Parcel(no) => Name::Parcel(no),
-    }
-}
-
-/// The refusal of an edit that names this row, where it isn't there.
-fn unless_known<M: MapView>(map: &M, name: Name) -> Option<Refusal>
-    ensures { result ≡ (if is_there (M.map map.now) name then None else Some (Refusal.Unknown name)) }
-{
-    if is_known(map, &name) {
-        None
-    } else {
-        Some(Refusal::Unknown(name))
-    }
-}
-
-/// A row that the edit names isn't there.
-fn unknown_row<M: MapView>(map: &M, edit: &Edit) -> Option<Refusal>
-    ensures { result ≡ unknown (M.map map.now) edit.now }
-{
-    match edit {
-        Edit::AddSource { .. } | Edit::AddPoint { .. } => None,
-        Edit::DropPoint { point } => {
-            let no = *point;
-            unless_known(map, Name::Point(no))
-        }
-        Edit::Attach { item, source } => {
-            let no = *source;
-            if let Some(refusal) = unless_known(map, name_of(*item)) {
-                return Some(refusal);
-            }
-            unless_known(map, Name::Source(no))
-        }
-    }
-}
-
-/// The refusal of an edit that gives this number, where it is in use.
-fn if_known<M: MapView>(map: &M, name: Name) -> Option<Refusal>
-    ensures { result ≡ (if is_there (M.map map.now) name then Some (Refusal.Taken name) else None) }
-{
-    if is_known(map, &name) {
-        Some(Refusal::Taken(name))
+    let is_same = match edit {
+        Edit::Move { point, x, y } => is_at(map, *point, *x, *y),
+        Edit::Rename { parcel, label } => is_called(map, *parcel, label),
+        _ => false,
+    };
+    if is_same {
+        Some(Refusal::NoChange)
     } else {
         None
     }
 }
 
-/// A number that the edit gives is in use.
-fn taken_row<M: MapView>(map: &M, edit: &Edit) -> Option<Refusal>
-    ensures { result ≡ taken (M.map map.now) edit.now }
+/// A point that has to be on two strings isn't.
+fn not_degree_two_row<M: MapView>(map: &M, edit: &Edit) -> Option<Refusal>
+    ensures { result ≡ not_degree_two (M.map map.now) edit.now }
 {
     match edit {
-        Edit::AddSource { source, .. } => {
-            let no = *source;
-            if_known(map, Name::Source(no))
-        }
-        Edit::AddPoint { point, .. } => {
+        Edit::Join { point, .. } => {
             let no = *point;
-            if_known(map, Name::Point(no))
-        }
-        Edit::DropPoint { .. } | Edit::Attach { .. } => None,
-    }
-}
-
-/// A point that has to be on no string is on one.
-fn not_free_row<M: MapView>(map: &M, edit: &Edit) -> Option<Refusal>
-    ensures { result ≡ not_free (M.map map.now) edit.now }
-{
-    match edit {
-        Edit::DropPoint { point } => {
-            let no = *point;
-            if map.degree(no) == 0 {
+            if map.degree(no) == 2 {
                 None
             } else {
-                Some(Refusal::NotFree(no))
+                Some(Refusal::NotDegreeTwo(no))
             }
         }
         _ => None,
@@ -199,6 +210,22 @@ fn already_attached_row<M: MapView>(map: &M, edit: &Edit) -> Option<Refusal>
     }
 }
 
+/// The item doesn't have the source.
+fn not_attached_row<M: MapView>(map: &M, edit: &Edit) -> Option<Refusal>
+    ensures { result ≡ not_attached (M.map map.now) edit.now }
+{
+    match edit {
+        Edit::Detach { item, source } => {
+            if has_source(map, *item, *source) {
+                None
+            } else {
+                Some(Refusal::NotAttached)
+            }
+        }
+        _ => None,
+    }
+}
+
 fn has_all_sources<M: MapView>(map: &M, item: Item) -> bool
     ensures { result ≡ nat_le source_limit (length (sources_at (M.map map.now) item)) }
 {
@@ -208,15 +235,35 @@ fn has_all_sources<M: MapView>(map: &M, item: Item) -> bool
     }
 }
 
+/// Whether so many strings more, or one parcel more, would pass a limit.
+fn has_no_room_for_parcel<M: MapView>(map: &M, strings: usize) -> bool
+    requires { IsValid (M.map map.now) }
+    ensures { result ≡ (nat_lt string_limit (length (M.map map.now).strings + strings) || nat_le row_limit (length (M.map map.now).parcels)) }
+{
+    let counts = map.counts();
+    STRING_LIMIT - counts.strings < strings || ROW_LIMIT <= counts.parcels
+}
+
 /// A limit would be passed.
 fn full_row<M: MapView>(map: &M, edit: &Edit) -> Option<Refusal>
+    requires valid { IsValid (M.map map.now) }
+    requires two { not_degree_two (M.map map.now) edit.now ≡ None }
     ensures { result ≡ full (M.map map.now) edit.now }
 {
     let is_full = match edit {
         Edit::AddSource { .. } => ROW_LIMIT <= map.counts().sources,
         Edit::AddPoint { .. } => ROW_LIMIT <= map.counts().points,
+        Edit::Split { .. } => {
+            ROW_LIMIT <= map.counts().points || STRING_LIMIT <= map.counts().strings
+        }
+        Edit::Join { point, .. } => SOURCE_LIMIT < joined_source_count(map, *point),
+        Edit::Divide { strings, .. } | Edit::Enclose { strings, .. } => {
+            has_no_room_for_parcel(map, strings.len())
+        }
+        Edit::Merge { .. } => ROW_LIMIT <= map.counts().retired,
         Edit::Attach { item, .. } => has_all_sources(map, *item),
-        Edit::DropPoint { .. } => false,
+        Edit::DropPoint { .. } | Edit::Move { .. } | Edit::Detach { .. } | Edit::Rename { .. } =>
+            false,
     };
     if is_full { Some(Refusal::Full) } else { None }
 }

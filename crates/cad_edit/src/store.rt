@@ -1,18 +1,14 @@
 //! A plain map that can be edited. Its records are two whole maps.
-ghost use Rattle.std.specs.Prelude.{◌≡◌, ◌++◌, ◌∷◌, [], None, IfOk, OnOk};
-ghost use Rattle.cad_map.specs.Refusals.{first_refusal as first_refusal_of};
-ghost use Rattle.cad_map.specs.Changes.{change_sources, change_point, change_string, change_parcel};
-ghost use Rattle.cad_map.specs.Effects.{after};
-ghost use Rattle.cad_map.specs.Asked.{GivesInRange};
+ghost use Rattle.std.specs.Prelude.{◌≡◌};
 
+use crate::made::{are_in_range, made_by};
 use crate::refusal::first_refusal;
 use cad_map::{Counts, MapStore, MapView, PlainMap};
 use cad_rows::{
-    Edit, Face, Item, Memory, Numbers, ParcelNo, ParcelRow, PointNo, PointRow, Refusal, SourceNo,
-    SourceRow, StringNo, StringRow,
+    Edit, Face, Memory, ParcelNo, ParcelRow, PointNo, PointRow, Refusal, SourceNo, SourceRow,
+    StringNo, StringRow,
 };
 use cad_valid::first_broken;
-use geo_exact::Pt;
 
 /// The maps before and after an edit.
 #[derive(Drop)]
@@ -138,94 +134,4 @@ impl MapStore for PlainStore {
         self.map = change.after.copy()?;
         Ok(())
     }
-}
-
-/// The numbers and texts in an edit are in range, by their types.
-fn are_in_range(edit: &Edit)
-    ensures { GivesInRange edit.now }
-{
-    match edit {
-        Edit::AddSource { source, text } => {
-            let _ = source.get();
-            let _ = text.as_str();
-        }
-        Edit::AddPoint { point, .. } => {
-            let _ = point.get();
-        }
-        Edit::DropPoint { .. } | Edit::Attach { .. } => {}
-    }
-}
-
-/// The map that an edit makes of a map.
-#[tactic(auto, unfolding(cad_map::specs::Effects::after))]
-fn made_by(map: &PlainMap, edit: &Edit) -> Result<PlainMap, Memory>
-    requires { first_refusal_of map.now edit.now ≡ None }
-    ensures { IfOk result (λ made. made ≡ after map.now edit.now) }
-{
-    let mut made = map.copy()?;
-    match edit {
-        Edit::AddSource { source, text } => {
-            let text = text.copy()?;
-            made.put_source(SourceRow {
-                number: *source,
-                text,
-            })?;
-        }
-        Edit::AddPoint { point, x, y } => {
-            let sources = Numbers::new(map.allocator());
-            let position = Pt::new(*x, *y).unwrap();
-            made.put_point(PointRow {
-                number: *point,
-                position,
-                sources,
-            })?;
-        }
-        Edit::DropPoint { point } => made.take_point(*point),
-        Edit::Attach { item, source } => attach(&mut made, *item, *source)?,
-    }
-    Ok(made)
-}
-
-/// Puts a source last among those of an item.
-fn attach(map: &mut PlainMap, item: Item, source: SourceNo) -> Result<(), Memory>
-    ensures { OnOk result (map.new ≡ change_sources item (λ sources. sources ++ source ∷ []) map.old) }
-{
-    match item {
-        Item::Point(no) => attach_to_point(map, no, source),
-        Item::String(no) => attach_to_string(map, no, source),
-        Item::Parcel(no) => attach_to_parcel(map, no, source),
-    }
-}
-
-fn attach_to_point(map: &mut PlainMap, no: PointNo, source: SourceNo) -> Result<(), Memory>
-    ensures { OnOk result (map.new ≡ change_point no (λ row. record row { sources = row.sources ++ source ∷ [] }) map.old) }
-{
-    let Some(row) = map.point(no) else {
-        return Ok(());
-    };
-    let mut row = row.copy()?;
-    row.sources.push(source)?;
-    map.set_point(row)
-}
-
-fn attach_to_string(map: &mut PlainMap, no: StringNo, source: SourceNo) -> Result<(), Memory>
-    ensures { OnOk result (map.new ≡ change_string no (λ row. record row { sources = row.sources ++ source ∷ [] }) map.old) }
-{
-    let Some(row) = map.string(no) else {
-        return Ok(());
-    };
-    let mut row = row.copy()?;
-    row.sources.push(source)?;
-    map.set_string(row)
-}
-
-fn attach_to_parcel(map: &mut PlainMap, no: ParcelNo, source: SourceNo) -> Result<(), Memory>
-    ensures { OnOk result (map.new ≡ change_parcel no (λ row. record row { sources = row.sources ++ source ∷ [] }) map.old) }
-{
-    let Some(row) = map.parcel(no) else {
-        return Ok(());
-    };
-    let mut row = row.copy()?;
-    row.sources.push(source)?;
-    map.set_parcel(row)
 }

@@ -17,7 +17,6 @@ pub mod FollowerFacts
 pub mod CornerFacts
 pub mod LabelFacts
 pub mod FaultFacts
-pub mod ElementFacts
 pub mod Faces
 pub mod SameDirection
 pub mod RingCorners
@@ -31,3 +30,4 @@ pub mod NoBadCorner
 pub mod NoOtherLabel
 pub mod BuiltAgain
 pub mod BuiltMap
+mod OutlineFacts

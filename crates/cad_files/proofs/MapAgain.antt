@@ -12,8 +12,8 @@ use Rattle.cad_map.proofs.Elements.{All-from_each, Contains-first}
 use Rattle.cad_files.specs.Follower.{followers}
 use Rattle.cad_files.specs.Building.{map_of, IsMapOf, plan_string_of, rows_of}
 use Rattle.cad_files.specs.declared.rows.PlanString.{PlanString}
-use Rattle.cad_files.proofs.ElementFacts.{map-Contains}
-use Rattle.cad_files.proofs.Faces.{both_sides, in_all, side-face}
+use Rattle.cad_map.proofs.ElementFacts.{map-Contains}
+use Rattle.cad_map.proofs.FacesBeside.{both_sides, in_all, side-face}
 use Rattle.cad_files.proofs.OneFollower.{one_follower}
 
 -- the rows of the plan's strings are the map's

@@ -12,8 +12,8 @@ use Rattle.cad_map.proofs.Elements.{Contains-cases, Contains-map, All-from_each}
 use Rattle.cad_map.proofs.Lists.{All-filter}
 use Rattle.cad_map.proofs.Walks.{side_before, side_behind}
 use Rattle.cad_files.specs.Follower.{once_each, may_follow, followers}
-use Rattle.cad_files.proofs.ElementFacts.{list_all-at, list_all-from, filter-Contains, Contains-filter, map-Contains}
-use Rattle.cad_files.proofs.Faces.{IsSideOf, of_string}
+use Rattle.cad_map.proofs.ElementFacts.{list_all-at, list_all-from, filter-Contains, Contains-filter, map-Contains}
+use Rattle.cad_map.proofs.FacesBeside.{IsSideOf, of_string}
 use Rattle.cad_files.proofs.StringEnds.{IsString, Joins, joins-end, joins-far_end, joins-far, side-joins, two_ends, first_met}
 use Rattle.cad_files.proofs.RingCorners.{before-in, behind-in_all, turns_on}
 

@@ -16,8 +16,8 @@ use Rattle.cad_rings.specs.Cycle.{Side}
 use Rattle.cad_map.specs.Map.{Map, has_point, point_of, position_of, is_end, far_end, origin}
 use Rattle.cad_map.specs.Valid.{IsValid, is_same_position, LiesOnlyAsEnd}
 use Rattle.cad_map.proofs.Elements.{All-at_each}
-use Rattle.cad_files.proofs.ElementFacts.{EachPair-two, EachPair-from_test, find-Contains}
-use Rattle.cad_files.proofs.Faces.{IsSideOf}
+use Rattle.cad_map.proofs.ElementFacts.{EachPair-two, EachPair-from_test, find-Contains}
+use Rattle.cad_map.proofs.FacesBeside.{IsSideOf}
 use Rattle.cad_files.proofs.SameDirection.{on_segment}
 
 -- ---- Ends

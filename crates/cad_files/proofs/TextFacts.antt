@@ -47,3 +47,7 @@ unfolding list_field
 list_field-more ns i x d some h is =
     let long : 0 < length (map decimal (take i ns)) = simp (length-map, length-take) (omega arith) in
     sym (ap (join_with_byte 32) (map_more decimal ns i d h) ∙ rw (← is) (join-some 32 (map decimal (take i ns)) (decimal x) long))
+
+-- two lists and a last record
+pub text_of-two : (last : Record) (a b : List Record) → text_of (a ++ (b ++ last ∷ [])) ≡ (([] ++ text_of a) ++ text_of b) ++ record_text last
+text_of-two last a b = simp (flat_map-append, append_assoc, append-nil)

@@ -13,3 +13,4 @@ pub mod Sinks
 pub mod FaultTexts
 pub mod Cycles
 pub mod Corners
+pub mod Reports

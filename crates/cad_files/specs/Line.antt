@@ -5,7 +5,7 @@ use Rattle.cad_rows.specs.declared.edits.Edit.{Edit}
 use Rattle.cad_rows.specs.declared.edits.Edit.TheVariants as edits
 use Rattle.cad_history.specs.declared.commands.Command.TheVariants as commands
 use Rattle.cad_files.specs.Record.{Seven, seven_of}
-use Rattle.cad_files.specs.Fields.{number_of, coordinate_of, text_of, item_of, are_blank}
+use Rattle.cad_files.specs.Fields.{number_of, coordinate_of, text_of, item_of, face_of, are_blank, numbers_of}
 use Rattle.cad_files.specs.declared.line.Line.{Line}
 use Rattle.cad_files.specs.declared.line.Line.TheVariants as lines
 
@@ -29,24 +29,85 @@ add_point_meant r =
 unfoldable pub drop_point_meant : Seven → Option Line
 drop_point_meant r = if are_blank (r.b ∷ r.c ∷ r.d ∷ r.e ∷ r.f ∷ []) then option_map (λ n. edit_line (edits.DropPoint n)) (number_of r.a) else None
 
+-- a string, a new point and its position, and the numbers of the string's two halves
+unfoldable pub split_meant : Seven → Option Line
+split_meant r =
+    option_and_then (λ s. option_and_then (λ p. option_and_then (λ x. option_and_then (λ y. option_and_then (λ first. option_map (λ second. edit_line (edits.Split s p x y first second))
+    (number_of r.f)) (number_of r.e)) (coordinate_of r.d)) (coordinate_of r.c)) (number_of r.b)) (number_of r.a)
+
+-- a point, and the number of the joined string
+unfoldable pub join_meant : Seven → Option Line
+join_meant r = if are_blank (r.c ∷ r.d ∷ r.e ∷ r.f ∷ []) then option_and_then (λ p. option_map (λ s. edit_line (edits.Join p s)) (number_of r.b)) (number_of r.a) else None
+
+-- a face, the points of a chain, the strings along it, and the new parcel's number, label and source
+unfoldable pub divide_meant : Seven → Option Line
+divide_meant r =
+    option_and_then (λ face. option_and_then (λ chain. option_and_then (λ strings. option_and_then (λ parcel. option_and_then (λ label. option_map (λ source. edit_line (edits.Divide face chain strings parcel label source))
+    (number_of r.f)) (text_of r.e)) (number_of r.d)) (numbers_of r.c)) (numbers_of r.b)) (face_of r.a)
+
+-- the face that is kept, and the one that ends
+unfoldable pub merge_meant : Seven → Option Line
+merge_meant r = if are_blank (r.c ∷ r.d ∷ r.e ∷ r.f ∷ []) then option_and_then (λ kept. option_map (λ ended. edit_line (edits.Merge kept ended)) (face_of r.b)) (face_of r.a) else None
+
+-- a face, the points round the island, the strings between them, and the new parcel's number, label and source
+unfoldable pub enclose_meant : Seven → Option Line
+enclose_meant r =
+    option_and_then (λ face. option_and_then (λ points. option_and_then (λ strings. option_and_then (λ parcel. option_and_then (λ label. option_map (λ source. edit_line (edits.Enclose face points strings parcel label source))
+    (number_of r.f)) (text_of r.e)) (number_of r.d)) (numbers_of r.c)) (numbers_of r.b)) (face_of r.a)
+
+-- a point, and its new position
+unfoldable pub move_meant : Seven → Option Line
+move_meant r =
+    if are_blank (r.d ∷ r.e ∷ r.f ∷ []) then
+    option_and_then (λ p. option_and_then (λ x. option_map (λ y. edit_line (edits.Move p x y)) (coordinate_of r.c)) (coordinate_of r.b)) (number_of r.a)
+    else None
+
 -- an item, and a source's number
 unfoldable pub attach_meant : Seven → Option Line
 attach_meant r = if are_blank (r.d ∷ r.e ∷ r.f ∷ []) then option_and_then (λ i. option_map (λ s. edit_line (edits.Attach i s)) (number_of r.c)) (item_of r.a r.b) else None
+
+-- a face
+unfoldable pub outline_meant : Seven → Option Line
+outline_meant r = if are_blank (r.b ∷ r.c ∷ r.d ∷ r.e ∷ r.f ∷ []) then option_map (λ f. lines.Outline f) (face_of r.a) else None
+
+-- an item, and a source's number
+unfoldable pub detach_meant : Seven → Option Line
+detach_meant r = if are_blank (r.d ∷ r.e ∷ r.f ∷ []) then option_and_then (λ i. option_map (λ s. edit_line (edits.Detach i s)) (number_of r.c)) (item_of r.a r.b) else None
+
+-- a parcel, and its new label
+unfoldable pub rename_meant : Seven → Option Line
+rename_meant r =
+    if are_blank (r.c ∷ r.d ∷ r.e ∷ r.f ∷ []) then option_and_then (λ p. option_map (λ label. edit_line (edits.Rename p label)) (text_of r.b)) (number_of r.a) else None
 
 -- a line whose record has its kind alone
 unfoldable pub bare_meant : Line → Seven → Option Line
 bare_meant line r = if are_blank (r.a ∷ r.b ∷ r.c ∷ r.d ∷ r.e ∷ r.f ∷ []) then Some line else None
 
-unfoldable pub line_meant : Seven → Option Line
-line_meant r =
+-- a line that asks for an edit
+unfoldable pub edit_meant : Seven → Option Line
+edit_meant r =
     if bytes_eq r.kind (codes "add-source") then add_source_meant r
     else if bytes_eq r.kind (codes "add-point") then add_point_meant r
     else if bytes_eq r.kind (codes "drop-point") then drop_point_meant r
+    else if bytes_eq r.kind (codes "split") then split_meant r
+    else if bytes_eq r.kind (codes "join") then join_meant r
+    else if bytes_eq r.kind (codes "divide") then divide_meant r
+    else if bytes_eq r.kind (codes "merge") then merge_meant r
+    else if bytes_eq r.kind (codes "move") then move_meant r
     else if bytes_eq r.kind (codes "attach") then attach_meant r
-    else if bytes_eq r.kind (codes "undo") then bare_meant (lines.Command commands.Undo) r
-    else if bytes_eq r.kind (codes "redo") then bare_meant (lines.Command commands.Redo) r
-    else if bytes_eq r.kind (codes "print") then bare_meant lines.Print r
+    else if bytes_eq r.kind (codes "detach") then detach_meant r
+    else if bytes_eq r.kind (codes "rename") then rename_meant r
+    else if bytes_eq r.kind (codes "enclose") then enclose_meant r
     else None
+
+unfoldable pub line_meant : Seven → Option Line
+line_meant r =
+    if bytes_eq r.kind (codes "undo") then bare_meant (lines.Command commands.Undo) r
+    else if bytes_eq r.kind (codes "redo") then bare_meant (lines.Command commands.Redo) r
+    else if bytes_eq r.kind (codes "areas") then bare_meant lines.Areas r
+    else if bytes_eq r.kind (codes "outline") then outline_meant r
+    else if bytes_eq r.kind (codes "print") then bare_meant lines.Print r
+    else edit_meant r
 
 -- what a record of a script asks for, where it is one
 abbrev pub line_of : List (List ℕ) → Option Line

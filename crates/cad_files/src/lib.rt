@@ -2,18 +2,22 @@
 #![tactic(auto)]
 
 mod answers;
+mod areas;
 mod building;
 mod corners;
 mod cycles;
 mod dangling;
+mod edit_lines;
 mod faults;
 mod fields;
 mod input;
 mod labels;
 mod line;
+mod list_texts;
 mod lists;
 mod naming;
 mod out;
+mod outline_texts;
 mod plan;
 mod plan_map;
 mod plan_records;
@@ -23,12 +27,14 @@ mod sink;
 mod writing;
 
 pub use answers::{answer_text, syntax_text};
+pub use areas::{area_text, hundredths};
 pub use faults::PlanFault;
 pub use fields::numbers_again;
 pub use input::{InputFault, next_row, one_reading};
 pub use line::{Line, LineFault, read_line};
 pub use lists::DistinctSources;
 pub use out::OutSink;
+pub use outline_texts::outline_text;
 pub use plan::read_plan;
 pub use plan_map::build;
 pub use plan_records::{ParcelRecord, PlanRecord, PointRecord, StringRecord, Version};

@@ -1,11 +1,12 @@
 //! The lines of a script.
 ghost use Rattle.std.specs.Prelude.{◌≡◌, Some, None, IfOk, IsErrOf};
 ghost use Rattle.csv.specs.Records.{fields_of};
-ghost use Rattle.cad_files.specs.Line.{add_source_meant, add_point_meant, drop_point_meant, attach_meant, bare_meant, line_meant, line_of};
+ghost use Rattle.cad_files.specs.Line.{outline_meant, bare_meant, line_meant, line_of};
 
-use crate::fields::{Fields, are_blank, coordinate, item, point_no, seven, source_no, text};
+use crate::edit_lines::edit_record;
+use crate::fields::{Fields, are_blank, face, seven};
 use cad_history::Command;
-use cad_rows::{Edit, Memory};
+use cad_rows::{Face, Memory};
 use csv::ByteRecord;
 use std::alloc::Global;
 
@@ -14,6 +15,10 @@ use std::alloc::Global;
 pub enum Line {
     /// An edit, an undo or a redo.
     Command(Command),
+    /// The areas of the parcels.
+    Areas,
+    /// The outline of a face.
+    Outline(Face),
     /// The plan of the map.
     Print,
 }
@@ -27,73 +32,18 @@ pub enum LineFault {
     Memory,
 }
 
-// A source: its number, and its text.
-#[tactic(auto, unfolding(crate::specs::Line::add_source_meant))]
-fn add_source(alloc: Global, r: &Fields<'_>) -> Result<Option<Line>, Memory>
-    ensures { IfOk result (λ line. line ≡ add_source_meant r.now) }
-{
-    if !are_blank(&[r.c, r.d, r.e, r.f]) {
-        return Ok(None);
-    }
-    let Some(source) = source_no(r.a) else {
-        return Ok(None);
-    };
-    let Some(text) = text(alloc, r.b)? else {
-        return Ok(None);
-    };
-    let edit = Edit::AddSource { source, text };
-    Ok(Some(Line::Command(Command::Edit(edit))))
-}
-
-// A point: its number, and its position.
-#[tactic(auto, unfolding(crate::specs::Line::add_point_meant))]
-fn add_point(r: &Fields<'_>) -> Option<Line>
-    ensures { result ≡ add_point_meant r.now }
-{
-    if !are_blank(&[r.d, r.e, r.f]) {
-        return None;
-    }
-    let Some(point) = point_no(r.a) else {
-        return None;
-    };
-    let Some(x) = coordinate(r.b) else {
-        return None;
-    };
-    let Some(y) = coordinate(r.c) else {
-        return None;
-    };
-    Some(Line::Command(Command::Edit(Edit::AddPoint { point, x, y })))
-}
-
-// A point's number.
-#[tactic(auto, unfolding(crate::specs::Line::drop_point_meant))]
-fn drop_point(r: &Fields<'_>) -> Option<Line>
-    ensures { result ≡ drop_point_meant r.now }
+// A face.
+#[tactic(auto, unfolding(crate::specs::Line::outline_meant))]
+fn outline(r: &Fields<'_>) -> Option<Line>
+    ensures { result ≡ outline_meant r.now }
 {
     if !are_blank(&[r.b, r.c, r.d, r.e, r.f]) {
         return None;
     }
-    let Some(point) = point_no(r.a) else {
+    let Some(face) = face(r.a) else {
         return None;
     };
-    Some(Line::Command(Command::Edit(Edit::DropPoint { point })))
-}
-
-// An item, and a source's number.
-#[tactic(auto, unfolding(crate::specs::Line::attach_meant))]
-fn attach(r: &Fields<'_>) -> Option<Line>
-    ensures { result ≡ attach_meant r.now }
-{
-    if !are_blank(&[r.d, r.e, r.f]) {
-        return None;
-    }
-    let Some(item) = item(r.a, r.b) else {
-        return None;
-    };
-    let Some(source) = source_no(r.c) else {
-        return None;
-    };
-    Some(Line::Command(Command::Edit(Edit::Attach { item, source })))
+    Some(Line::Outline(face))
 }
 
 // A line whose record has its kind alone.
@@ -113,22 +63,18 @@ fn bare(line: Line, r: &Fields<'_>) -> Option<Line>
 fn line_record(alloc: Global, r: &Fields<'_>) -> Result<Option<Line>, Memory>
     ensures { IfOk result (λ line. line ≡ line_meant r.now) }
 {
-    if r.kind == b"add-source".as_slice() {
-        add_source(alloc, r)
-    } else if r.kind == b"add-point".as_slice() {
-        Ok(add_point(r))
-    } else if r.kind == b"drop-point".as_slice() {
-        Ok(drop_point(r))
-    } else if r.kind == b"attach".as_slice() {
-        Ok(attach(r))
-    } else if r.kind == b"undo".as_slice() {
+    if r.kind == b"undo".as_slice() {
         Ok(bare(Line::Command(Command::Undo), r))
     } else if r.kind == b"redo".as_slice() {
         Ok(bare(Line::Command(Command::Redo), r))
+    } else if r.kind == b"areas".as_slice() {
+        Ok(bare(Line::Areas, r))
+    } else if r.kind == b"outline".as_slice() {
+        Ok(outline(r))
     } else if r.kind == b"print".as_slice() {
         Ok(bare(Line::Print, r))
     } else {
-        Ok(None)
+        edit_record(alloc, r)
     }
 }
 

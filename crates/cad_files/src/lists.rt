@@ -3,8 +3,8 @@ ghost use Rattle.std.specs.Prelude.{◌≡◌, ◌<◌, ◌==◌, ◌∷◌, [],
 ghost use Rattle.std.specs.List.{list_any, slice_split};
 ghost use Rattle.cad_files.specs.Fields.{numbers_of, distinct_of, is_space, repeated};
 
-use crate::fields::source_no;
-use cad_rows::{Memory, Numbers, SourceNo};
+use crate::fields::{point_no, source_no, string_no};
+use cad_rows::{Memory, Numbers, PointNo, SourceNo, StringNo};
 use std::alloc::Global;
 use std::marker::Model;
 
@@ -40,6 +40,54 @@ fn source_list(alloc: Global, text: &[u8]) -> Result<Option<Numbers<SourceNo>>, 
         match more {
             Some(more) => rest = more,
             None => return Ok(Some(sources)),
+        }
+    }
+}
+
+/// The numbers of points, with one space between them. `None` where the field is no such list. An error where memory runs
+/// out.
+#[tactic(auto, unfolding(crate::specs::Fields::numbers_of))]
+pub(crate) fn point_list(alloc: Global, text: &[u8]) -> Result<Option<Numbers<PointNo>>, Memory>
+    ensures { IfOk result (λ list. list ≡ numbers_of text.now) }
+{
+    let mut points = Numbers::new(alloc);
+    if text.is_empty() {
+        return Ok(Some(points));
+    }
+    let mut rest = text;
+    loop {
+        let (part, more) = first_part(rest);
+        let Some(point) = point_no(part) else {
+            return Ok(None);
+        };
+        points.push(point)?;
+        match more {
+            Some(more) => rest = more,
+            None => return Ok(Some(points)),
+        }
+    }
+}
+
+/// The numbers of strings, with one space between them. `None` where the field is no such list. An error where memory runs
+/// out.
+#[tactic(auto, unfolding(crate::specs::Fields::numbers_of))]
+pub(crate) fn string_list(alloc: Global, text: &[u8]) -> Result<Option<Numbers<StringNo>>, Memory>
+    ensures { IfOk result (λ list. list ≡ numbers_of text.now) }
+{
+    let mut strings = Numbers::new(alloc);
+    if text.is_empty() {
+        return Ok(Some(strings));
+    }
+    let mut rest = text;
+    loop {
+        let (part, more) = first_part(rest);
+        let Some(string) = string_no(part) else {
+            return Ok(None);
+        };
+        strings.push(string)?;
+        match more {
+            Some(more) => rest = more,
+            None => return Ok(Some(strings)),
         }
     }
 }

@@ -1,32 +1,18 @@
 //! The text of a map's plan.
 ghost use Rattle.std.specs.Prelude.{◌≡◌, ◌++◌, ℕ, List, OnOk, IfOk, map, decimal};
-ghost use Rattle.cad_files.specs.Texts.{HasWritten, record_text, text_of, list_field, face_field, source_record, point_record, parcel_record, string_record, retired_record, plan_records};
+ghost use Rattle.cad_files.specs.Texts.{HasWritten, record_text, text_of, face_field, source_record, point_record, parcel_record, string_record, retired_record, plan_records};
 ghost use Rattle.cad_map.specs.Map.{Map};
 ghost use Rattle.cad_map.specs.Valid.{IsValid};
 ghost use Rattle.cad_files.specs.Input.{IsWhole};
 ghost use Rattle.cad_files.specs.Plan.{plan_of, opened};
 ghost use Rattle.cad_files.specs.Building.{plan_string_of, rows_of, IsBuilt};
 
+use crate::list_texts::sources_text;
 use crate::writing::write_record;
 use cad_map::MapView;
-use cad_rows::{Face, Memory, ParcelNo, ParcelRow, PointRow, SourceNo, SourceRow, StringRow};
+use cad_rows::{Face, Memory, ParcelNo, ParcelRow, PointRow, SourceRow, StringRow};
 use csv::{Writer, WriterBuilder};
 use std::alloc::Global;
-
-// The field of a list of sources.
-fn list_text(alloc: Global, sources: &[SourceNo]) -> Result<Vec<u8>, Memory>
-    ensures { IfOk result (λ text. text.items ≡ list_field sources.now) }
-{
-    let mut text = Vec::new(alloc);
-    for i in 0..sources.len() {
-        if i > 0 {
-            text.push(b' ')?;
-        }
-        let number = sources[i].get().to_string(alloc)?;
-        text.extend_from_slice(number.as_bytes())?;
-    }
-    Ok(text)
-}
 
 // Writes the record of a source.
 fn write_source(alloc: Global, writer: &mut Writer<Vec<u8>>, row: &SourceRow) -> Result<(), Memory>
@@ -45,7 +31,7 @@ fn write_point(alloc: Global, writer: &mut Writer<Vec<u8>>, row: &PointRow) -> R
     let number = row.number.get().to_string(alloc)?;
     let x = row.position.x.to_string(alloc)?;
     let y = row.position.y.to_string(alloc)?;
-    let sources = list_text(alloc, row.sources.as_slice())?;
+    let sources = sources_text(alloc, row.sources.as_slice())?;
     let number = number.as_bytes();
     let x = x.as_bytes();
     let y = y.as_bytes();
@@ -58,15 +44,15 @@ fn write_parcel(alloc: Global, writer: &mut Writer<Vec<u8>>, row: &ParcelRow) ->
     ensures { OnOk result ((text : List ℕ) → HasWritten text writer.old → HasWritten (text ++ record_text (parcel_record row.now)) writer.new) }
 {
     let number = row.number.get().to_string(alloc)?;
-    let sources = list_text(alloc, row.sources.as_slice())?;
+    let sources = sources_text(alloc, row.sources.as_slice())?;
     let number = number.as_bytes();
     let label = row.label.as_str().as_bytes();
     let sources = sources.as_slice();
     write_record(writer, &[b"parcel", number, label, sources, b"", b"", b""])
 }
 
-// The number that stands for a face.
-fn face_number(face: Face) -> u32
+/// The number that stands for a face.
+pub(crate) fn face_number(face: Face) -> u32
     ensures { decimal result ≡ face_field face }
 {
     match face {
@@ -90,7 +76,7 @@ fn write_string(
     let to = row.to.get().to_string(alloc)?;
     let left = face_number(left).to_string(alloc)?;
     let right = face_number(right).to_string(alloc)?;
-    let sources = list_text(alloc, row.sources.as_slice())?;
+    let sources = sources_text(alloc, row.sources.as_slice())?;
     let number = number.as_bytes();
     let from = from.as_bytes();
     let to = to.as_bytes();

@@ -1,8 +1,9 @@
 use crate::{
     Line, LineFault, MemSink, OutSink, PlanFault, PlanRows, Sink, SinkFault, answer_text, build,
-    next_row, plan_text, read_line, read_plan, syntax_text, write_all,
+    hundredths, next_row, plan_text, read_line, read_plan, syntax_text, write_all,
 };
 use cad_history::{Answer, Command};
+use cad_map::PlainMap;
 use cad_rows::{
     Edit, Face, Item, Memory, Name, ParcelNo, PointNo, Refusal, Rule, SourceNo, StringNo,
 };
@@ -369,6 +370,8 @@ fn answers(rt: HostRuntime) -> Result<(), Fail> {
 // What a script's record is read as: a letter of its kind and the number that it names first.
 fn letter(line: &Result<Line, LineFault>) -> (char, u32) {
     match line {
+        Ok(Line::Areas) => ('a', 0),
+        Ok(Line::Outline(face)) => ('o', face_number(*face)),
         Ok(Line::Print) => ('p', 0),
         Ok(Line::Command(Command::Undo)) => ('u', 0),
         Ok(Line::Command(Command::Redo)) => ('r', 0),
@@ -376,6 +379,18 @@ fn letter(line: &Result<Line, LineFault>) -> (char, u32) {
             Edit::AddSource { source, .. } => ('S', source.get()),
             Edit::AddPoint { point, .. } => ('P', point.get()),
             Edit::DropPoint { point } => ('D', point.get()),
+            Edit::Split { string, .. } => ('s', string.get()),
+            Edit::Join { point, .. } => ('j', point.get()),
+            Edit::Move { point, .. } => ('m', point.get()),
+            Edit::Rename { parcel, .. } => ('n', parcel.get()),
+            Edit::Divide { parcel, .. } => ('v', parcel.get()),
+            Edit::Merge { kept, .. } => ('g', face_number(*kept)),
+            Edit::Enclose { parcel, .. } => ('c', parcel.get()),
+            Edit::Detach { item, .. } => match item {
+                Item::Point(no) => ('d', no.get()),
+                Item::String(no) => ('e', no.get()),
+                Item::Parcel(no) => ('f', no.get()),
+            },
             Edit::Attach { item, .. } => match item {
                 Item::Point(no) => ('A', no.get()),
                 Item::String(no) => ('B', no.get()),
@@ -383,7 +398,7 @@ fn letter(line: &Result<Line, LineFault>) -> (char, u32) {
             },
         },
         Err(LineFault::Syntax) => ('x', 0),
-        Err(LineFault::Memory) => ('m', 0),
+        Err(LineFault::Memory) => ('?', 0),
     }
 }
 
@@ -393,12 +408,42 @@ fn lines(rt: HostRuntime) -> Result<(), Fail> {
         ("add-source,7,\"a, b\",,,,\n", ('S', 7)),
         ("add-point,5,0,-999999999999999999,,,\n", ('P', 5)),
         ("drop-point,999999999,,,,,\n", ('D', 999_999_999)),
+        ("split,11,5,500,-500,22,23\n", ('s', 11)),
+        ("split,11,5,500,0,22,\n", ('x', 0)),
+        ("split,011,5,500,0,22,23\n", ('x', 0)),
+        ("join,2,21,,,,\n", ('j', 2)),
+        ("join,2,21,,,,1\n", ('x', 0)),
+        ("move,3,-1000,1200,,,\n", ('m', 3)),
+        ("move,3,-1000,+1200,,,\n", ('x', 0)),
+        ("detach,point,1,2,,,\n", ('d', 1)),
+        ("detach,string,3,2,,,\n", ('e', 3)),
+        ("detach,parcel,4,2,,,\n", ('f', 4)),
+        ("detach,source,4,2,,,\n", ('x', 0)),
+        ("rename,1,\"North, B\",,,,\n", ('n', 1)),
+        ("rename,0,X,,,,\n", ('x', 0)),
+        ("divide,1,1 3,21,2,C,1\n", ('v', 2)),
+        ("divide,1,,,2,C,1\n", ('v', 2)),
+        ("divide,1,1 3 ,21,2,C,1\n", ('x', 0)),
+        ("divide,1,1 03,21,2,C,1\n", ('x', 0)),
+        ("divide,1,1 3,21,0,C,1\n", ('x', 0)),
+        ("merge,1,0,,,,\n", ('g', 1)),
+        ("merge,1,2,,,,1\n", ('x', 0)),
+        ("enclose,0,1 2 3,11 12 13,7,A,1\n", ('c', 7)),
+        ("enclose,0,0,11,7,A,1\n", ('x', 0)),
+        ("rename,1,,,,,\n", ('x', 0)),
         ("attach,point,1,2,,,\n", ('A', 1)),
         ("attach,string,3,2,,,\n", ('B', 3)),
         ("attach,parcel,4,2,,,\n", ('C', 4)),
         ("undo,,,,,,\n", ('u', 0)),
         ("redo,,,,,,\n", ('r', 0)),
         ("print,,,,,,\n", ('p', 0)),
+        ("areas,,,,,,\n", ('a', 0)),
+        ("outline,0,,,,,\n", ('o', 0)),
+        ("outline,4,,,,,\n", ('o', 4)),
+        ("areas,0,,,,,\n", ('x', 0)),
+        ("outline,,,,,,\n", ('x', 0)),
+        ("outline,00,,,,,\n", ('x', 0)),
+        ("outline,4,4,,,,\n", ('x', 0)),
         ("attach,source,1,1,,,\n", ('x', 0)),
         ("add-point,5,1000000000000000000,0,,,\n", ('x', 0)),
         ("add-point,5,+5,0,,,\n", ('x', 0)),
@@ -416,6 +461,47 @@ fn lines(rt: HostRuntime) -> Result<(), Fail> {
         assert_eq!(rt; next_row(&mut reader, &mut row), Ok(true));
         let line = read_line(rt.alloc(), &row);
         assert_eq!(rt; letter(&line), want, "{text}");
+    }
+    Ok(())
+}
+
+// The plan of a square with an island, printed of a copy of its map.
+fn copied(alloc: Global, plan: &str) -> Result<Vec<u8>, Memory> {
+    let Ok(rows) = plan_rows(alloc, plan) else {
+        return Err(Memory);
+    };
+    let Ok(map) = build(alloc, &rows) else {
+        return Err(Memory);
+    };
+    let copied = PlainMap::of_view(alloc, &map)?;
+    plan_text(alloc, &copied)
+}
+
+#[test]
+fn a_map_copied_from_a_view(rt: HostRuntime) -> Result<(), Fail> {
+    let plan =
+        "plan,2,,,,,\nsource,1,Plan 7,,,,\npoint,1,0,0,1,,\npoint,2,1000,0,,,\npoint,3,1000,1000,,,\npoint,4,0,1000,,,\npoint,6,700,300,,,\npoint,7,800,300,,,\npoint,8,800,500,,,\nparcel,1,A,,,,\nparcel,2,B,,,,\nstring,11,1,2,1,0,\nstring,12,2,3,1,0,\nstring,13,3,4,1,0,\nstring,14,4,1,1,0,\nstring,31,6,7,2,1,\nstring,32,7,8,2,1,\nstring,33,8,6,2,1,\nretired,9,,,,,\nopen,,,,,,\n";
+    match copied(rt.alloc(), plan) {
+        Ok(text) => assert!(rt; text.as_slice() == plan.as_bytes()),
+        Err(Memory) => assert!(rt; false, "memory"),
+    }
+    Ok(())
+}
+
+#[test]
+fn hundredths_of_areas(rt: HostRuntime) -> Result<(), Fail> {
+    for (doubled, want) in [
+        (0, 0),
+        (9_999, 0),
+        (10_000, 1),
+        (2_000_000, 100),
+        (-10_000, 0),
+        (-10_001, -1),
+        (-30_000, -1),
+        (8_000_000_000_000_000_000, 400_000_000_000_000),
+        (800_000_000_000_000_000_000, 40_000_000_000_000_000),
+    ] {
+        assert_eq!(rt; hundredths(doubled), want, "{doubled}");
     }
     Ok(())
 }

@@ -2,4 +2,3 @@ pub mod Depth
 pub mod History
 pub mod Steps
 pub mod Standing
-pub mod Sources

@@ -5,10 +5,6 @@ mod commands;
 mod editor;
 mod laws;
 mod sequence;
-#[cfg(test)]
-mod source_store;
-#[cfg(test)]
-mod tests;
 
 pub use commands::{Answer, Command, DEPTH_LIMIT, Depth, UndoFault};
 pub use editor::Editor;

@@ -1,6 +1,7 @@
 -- What a job does with an input.
 use Rattle.std.specs.Prelude.{◌≡◌, ◌≢◌, ◌⊎◌, ℕ, List, [], ◌∷◌, ◌++◌, length, All, Option, Some, None, Result, Ok, Err}
 use Rattle.cad_rows.specs.declared.refusals.Refusal.TheVariants as refusal
+use Rattle.cad_rows.specs.declared.names.Face.{Face}
 use Rattle.cad_map.specs.Map.{Map}
 use Rattle.cad_history.specs.History.{History, beginning, shown}
 use Rattle.cad_history.specs.Steps.{Step}
@@ -14,6 +15,7 @@ use Rattle.cad_files.specs.Plan.{plan_of, opened, HasPlanFault}
 use Rattle.cad_files.specs.Building.{IsBuilt, IsBuildFault}
 use Rattle.cad_files.specs.Line.{line_of}
 use Rattle.cad_files.specs.Texts.{text_of, plan_records}
+use Rattle.cad_files.specs.Reports.{area_records, outline_answer}
 use Rattle.cad_files.specs.Answers.{answer_record, syntax_record}
 use Rattle.cad_files.specs.declared.line.Line.{Line}
 use Rattle.cad_files.specs.declared.line.Line.TheVariants as line
@@ -31,6 +33,10 @@ pub data IsAnswered (h : History) : Option Line → List ℕ → History → Typ
   -- the history answers the command, and not by want of memory
   by_history : {c : Command} {a : Answer} {after : History} {text : List ℕ} → Step h c a after → ¬ (a ≡ answer.Refused refusal.Memory)
       → text ≡ text_of (answer_record a ∷ []) → IsAnswered h (Some (line.Command c)) text after
+  -- the areas of the parcels of the map that is shown
+  told_areas : {m : Map} {text : List ℕ} → shown h ≡ Some m → text ≡ text_of (area_records m) → IsAnswered h (Some line.Areas) text h
+  -- the outline of a face of the map that is shown, or that the parcel is unknown
+  told_outline : {m : Map} {f : Face} {text : List ℕ} → shown h ≡ Some m → text ≡ text_of (outline_answer m f) → IsAnswered h (Some (line.Outline f)) text h
   -- the plan of the map that is shown
   printed : {m : Map} {text : List ℕ} → shown h ≡ Some m → text ≡ text_of (plan_records m) → IsAnswered h (Some line.Print) text h
 

@@ -16,8 +16,8 @@ ghost use Rattle.cad_job.specs.Jobs.{IsAnswered, DoesScript, DoesJob, job_fault}
 use crate::faults::JobFault;
 use cad_edit::PlainStore;
 use cad_files::{
-    InputFault, Line, LineFault, PlanFault, Sink, answer_text, build, next_row, plan_text,
-    read_line, read_plan, syntax_text, write_all,
+    InputFault, Line, LineFault, PlanFault, Sink, answer_text, area_text, build, next_row,
+    outline_text, plan_text, read_line, read_plan, syntax_text, write_all,
 };
 use cad_history::{Answer, Command, Depth, Editor, step};
 use cad_map::{MapStore, MapView};
@@ -132,6 +132,8 @@ fn answer_of_row<M: MapStore>(
 {
     match read_line(alloc, row) {
         Ok(Line::Command(command)) => answer_of_command(alloc, editor, &command),
+        Ok(Line::Areas) => area_text(alloc, editor.map()),
+        Ok(Line::Outline(face)) => outline_text(alloc, editor.map(), face),
         Ok(Line::Print) => plan_text(alloc, editor.map()),
         Err(LineFault::Syntax) => syntax_text(alloc),
         Err(LineFault::Memory) => Err(Memory),

@@ -19,12 +19,12 @@ use Rattle.cad_map.specs.Table.{row_with}
 use Rattle.cad_map.specs.Valid.{EachPair, IsSound}
 use Rattle.cad_map.specs.Sums.{total, sum_of_faces, IsBalanced}
 use Rattle.cad_map.proofs.Looks.{is_face-refl}
-use Rattle.cad_map.proofs.Kept.{sides-from_ends}
+use Rattle.cad_map.proofs.ChainFacts.{sides-from_ends}
 
 -- ---- Each ring is of one face
 
 -- how many of these faces it is
-abbrev is_among : Face → List Face → Bool
+abbrev pub is_among : Face → List Face → Bool
 is_among g [] = false
 is_among g (f ∷ fs) = if is_face f g then true else is_among g fs
 
@@ -35,11 +35,11 @@ same-face (Parcel m) Outside h = absurd (true≢false (sym h))
 same-face (Parcel m) (Parcel n) h = ap Parcel (eqb-true m n h)
 
 module _ (f : Measure) (position : ℕ → Position) where
-  abbrev sum : List Side → ℤ
+  abbrev pub sum : List Side → ℤ
   sum sides = sum_over f (placed position sides)
 
   -- what the rings of one face come to
-  abbrev part : List Boundary → Face → ℤ
+  abbrev pub part : List Boundary → Face → ℤ
   part bs g = sum (flat_map sides_of (rings_at g bs))
 
   -- one ring more changes no face but its own
@@ -84,11 +84,11 @@ parcels-differ : (n : ℕ) (rows : List ParcelRow) → AllByRecursion (λ k. n �
 parcels-differ n [] all = tt
 parcels-differ n (r ∷ rows) all = ((λ same. let e : n ≡ r.number = cc in all.0 e), parcels-differ n rows all.1)
 
-outside-differs : (rows : List ParcelRow) → AllByRecursion (λ g. Outside ≢ g) (map (λ p. Parcel p.number) rows)
+pub outside-differs : (rows : List ParcelRow) → AllByRecursion (λ g. Outside ≢ g) (map (λ p. Parcel p.number) rows)
 outside-differs [] = tt
 outside-differs (r ∷ rows) = ((λ same. cc), outside-differs rows)
 
-parcels-distinct : (rows : List ParcelRow) → EachPair (λ a b. a ≢ b) (map (λ r. r.number) rows) → EachPair (λ g h. g ≢ h) (map (λ p. Parcel p.number) rows)
+pub parcels-distinct : (rows : List ParcelRow) → EachPair (λ a b. a ≢ b) (map (λ r. r.number) rows) → EachPair (λ g h. g ≢ h) (map (λ p. Parcel p.number) rows)
 parcels-distinct [] each = tt
 parcels-distinct (r ∷ rows) each = (parcels-differ r.number rows each.0, parcels-distinct rows each.1)
 
@@ -104,7 +104,7 @@ face-among : (m : Map) (g : Face) → has_face m g ≡ true → is_among g (face
 face-among m Outside known = refl
 face-among m (Parcel n) known = parcel-among n m.parcels known
 
-faces-among : (m : Map) (bs : List Boundary) → AllByRecursion (λ b. IsTrue (has_face m b.face)) bs → AllByRecursion (λ b. is_among b.face (faces m) ≡ true) bs
+pub faces-among : (m : Map) (bs : List Boundary) → AllByRecursion (λ b. IsTrue (has_face m b.face)) bs → AllByRecursion (λ b. is_among b.face (faces m) ≡ true) bs
 faces-among m [] known = tt
 faces-among m (b ∷ bs) known = (face-among m b.face known.0, faces-among m bs known.1)
 

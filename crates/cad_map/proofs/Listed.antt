@@ -204,11 +204,11 @@ listed-from_sort bs ys p up = listed-is bs ys p (in_order-from ys (λ i j d le l
 shown-put : (a : Boundary) (bs : List Boundary) → shown a ≡ a → AllByRecursion (λ b. shown b ≡ b) bs → AllByRecursion (λ b. shown b ≡ b) (put_in_order a bs)
 shown-put a bs h all = All-put (λ b. shown b ≡ b) a bs h all
 
-each_shown : (bs : List Boundary) → AllByRecursion (λ b. shown b ≡ b) (listed bs)
+pub each_shown : (bs : List Boundary) → AllByRecursion (λ b. shown b ≡ b) (listed bs)
 each_shown [] = tt
 each_shown (b ∷ bs) = shown-put (shown b) (listed bs) (ap (bounding b.face) (least_rotation-least_rotation b.ring)) (each_shown bs)
 
-map-shown : (bs : List Boundary) → AllByRecursion (λ b. shown b ≡ b) bs → map shown bs ≡ bs
+pub map-shown : (bs : List Boundary) → AllByRecursion (λ b. shown b ≡ b) bs → map shown bs ≡ bs
 map-shown [] all = refl
 map-shown (b ∷ bs) all = λ i. all.0 i ∷ map-shown bs all.1 i
 

@@ -31,14 +31,14 @@ module _ (E : List Boundary → List Boundary → Type 0) (stands : StandsListin
       stands.through (b ∷ bs) (shown b ∷ bs) (listed (b ∷ bs)) (stands.as_shown b bs)
       (stands.through (shown b ∷ bs) (shown b ∷ listed bs) (listed (b ∷ bs)) (stands.more (shown b) bs (listed bs) (listed-related bs)) (put (shown b) (listed bs)))
 
-module _ {A : Type 0} (parts : Boundary → List A) (kept : (b : Boundary) → IsPermutation (parts b) (parts (shown b))) where
-  -- two lists before a third may change places
-  front_exchanged : (xs ys zs : List A) → IsPermutation (xs ++ (ys ++ zs)) (ys ++ (xs ++ zs))
-  front_exchanged xs ys zs =
-      subst (λ (l : List A). IsPermutation l (ys ++ (xs ++ zs))) (append_assoc xs ys zs)
-      (subst (λ (l : List A). IsPermutation ((xs ++ ys) ++ zs) l) (append_assoc ys xs zs)
-      (IsPermutation-append_left zs (xs ++ ys) (ys ++ xs) (IsPermutation-append_comm xs ys)))
+-- two lists before a third may change places
+pub front_exchanged : {A : Type 0} (xs ys zs : List A) → IsPermutation (xs ++ (ys ++ zs)) (ys ++ (xs ++ zs))
+front_exchanged {A = A} xs ys zs =
+    subst (λ (l : List A). IsPermutation l (ys ++ (xs ++ zs))) (append_assoc xs ys zs)
+    (subst (λ (l : List A). IsPermutation ((xs ++ ys) ++ zs) l) (append_assoc ys xs zs)
+    (IsPermutation-append_left zs (xs ++ ys) (ys ++ xs) (IsPermutation-append_comm xs ys)))
 
+module _ {A : Type 0} (parts : Boundary → List A) (kept : (b : Boundary) → IsPermutation (parts b) (parts (shown b))) where
   -- what rings have wherever they are written from, they have as they are listed
   pub parts-listed : (bs : List Boundary) → IsPermutation (flat_map parts bs) (flat_map parts (listed bs))
   parts-listed bs = listed-related (λ bs cs. IsPermutation (flat_map parts bs) (flat_map parts cs)) stands bs

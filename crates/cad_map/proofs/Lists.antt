@@ -1,8 +1,9 @@
 -- Facts of each element, and of each pair, where a list grows, shrinks or changes in one place.
 use Rattle.std.proofs.Common.{◌≡◌, ◌≢◌, ℕ, zero, suc, ◌≤◌, ◌<◌, subst, slice_index_or, slice_get, drop, ◌+◌, add-one, List, [], ◌∷◌, ◌++◌, length, Bool, true, false, cond, nat_eq, map, filter, Option, Some, None, is_some, refl, sym, ap, ◌∙◌, true≢false, arith}
 use Rattle.std.specs.Prelude.{IsTrue, IsPermutation, if◌then◌else◌}
+use Rattle.std.proofs.lemmas.List.{drop_all}
 use Rattle.std.proofs.lemmas.List.Sorted.{IsPermutation-sym, Contains-permutation}
-use Rattle.std.specs.List.{AllByRecursion, Contains, flat_map}
+use Rattle.std.specs.List.{AllByRecursion, Contains, flat_map, list_any}
 use Rattle.std.proofs.lemmas.Bool.{eqb-true}
 use Rattle.std.proofs.lemmas.Cmp.{nat_eq_equiv}
 use Rattle.cad_map.specs.Table.{row_with, without_row, with_row}
@@ -214,6 +215,19 @@ drop-at [] i x at = cc
 drop-at (y ∷ xs) zero x at = let same : y ≡ x = cc in ap (λ (z : _). z ∷ xs) same
 drop-at (y ∷ xs) (suc i) x at = rw (add-one (suc i)) (drop-at xs i x at ∙ ap (λ (n : ℕ). x ∷ drop n xs) (add-one i))
 
+-- what is left decides whether any passes a test
+
+module _ {X : Type 0} (test : X → Bool) (xs : List X) (i : ℕ) (x : X) (at : slice_get xs i ≡ Some x) where
+  pub any-stops : test x ≡ true → list_any test (drop i xs) ≡ true
+  any-stops passes = rw (drop-at xs i x at, passes) refl
+
+  pub any-goes : test x ≡ false → list_any test (drop i xs) ≡ list_any test (drop (i + 1) xs)
+  any-goes fails = rw (drop-at xs i x at, fails) refl
+
+-- past the last element none has passed
+pub any-done : {X : Type 0} (test : X → Bool) (xs : List X) (i : ℕ) → length xs ≤ i → list_any test (drop i xs) ≡ false
+any-done test xs i past = rw (drop_all i xs past) refl
+
 -- how many elements from a place on pass a test: the one at the place, and those after it
 pub count-at : {X : Type 0} (test : X → Bool) (xs : List X) (i : ℕ) (x : X) → slice_get xs i ≡ Some x → length (filter test (drop i xs)) ≡ cond (test x) 1 0 + length (filter test (drop (i + 1) xs))
 count-at test xs i x at = rw (drop-at xs i x at) (by (test x))
@@ -221,6 +235,13 @@ count-at test xs i x at = rw (drop-at xs i x at) (by (test x))
     by : (b : Bool) → length (cond b (x ∷ filter test (drop (i + 1) xs)) (filter test (drop (i + 1) xs))) ≡ cond b 1 0 + length (filter test (drop (i + 1) xs))
     by true = omega arith
     by false = omega arith
+
+-- those from a place on that pass a test: where the element there does, it and those after it, and else those after it
+pub filter-at : {X : Type 0} (test : X → Bool) (xs : List X) (i : ℕ) (x : X) → slice_get xs i ≡ Some x → test x ≡ true → filter test (drop i xs) ≡ x ∷ filter test (drop (i + 1) xs)
+filter-at test xs i x at passes = ap (filter test) (drop-at xs i x at) ∙ rw passes refl
+
+pub filter-past : {X : Type 0} (test : X → Bool) (xs : List X) (i : ℕ) (x : X) → slice_get xs i ≡ Some x → test x ≡ false → filter test (drop i xs) ≡ filter test (drop (i + 1) xs)
+filter-past test xs i x at fails = ap (filter test) (drop-at xs i x at) ∙ rw fails refl
 
 -- a count up to a place, and the one that it is at the next place
 pub count-next : {X : Type 0} (test : X → Bool) (xs : List X) (i : ℕ) (x : X) (count one all : ℕ) → slice_get xs i ≡ Some x → one ≡ cond (test x) 1 0 → (count ≤ i) × (count + length (filter test (drop i xs)) ≡ all)
@@ -230,3 +251,9 @@ count-next test xs i x count one all at is before = by (test x) refl
     by : (b : Bool) → test x ≡ b → (count + one ≤ i + 1) × ((count + one) + length (filter test (drop (i + 1) xs)) ≡ all)
     by true it = let more = count-at test xs i x at in let e : one ≡ 1 = is ∙ simp it in let m = rw it at more in (omega (arith, e, before.0), omega (arith, e, m, before.1))
     by false it = let more = count-at test xs i x at in let e : one ≡ 0 = is ∙ simp it in let m = rw it at more in (omega (arith, e, before.0), omega (arith, e, m, before.1))
+
+-- what holds of each element holds of the one at a place
+pub all-at : {X : Type 0} (P : X → Type 0) (xs : List X) (i : ℕ) (x : X) → slice_get xs i ≡ Some x → AllByRecursion P xs → P x
+all-at P [] i x at all = cc
+all-at P (y ∷ xs) zero x at all = let same : y ≡ x = cc in subst P same all.0
+all-at P (y ∷ xs) (suc i) x at all = all-at P xs i x at all.1

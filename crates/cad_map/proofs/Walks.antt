@@ -61,6 +61,9 @@ begins_with first [] is = cc
 begins_with first (a ∷ []) is = let e : (a, a) ≡ first = cc in ([], ap (λ (f : Side). f ∷ []) e)
 begins_with first (a ∷ b ∷ points) is = let e : (a, b) ≡ first = cc in (sides_along b points a, ap (λ (f : Side). f ∷ sides_along b points a) e)
 
+pub first-there : (first : Side) (ring : Ring) → first_side ring ≡ Some first → Contains (sides_of ring) first
+first-there first ring is = let begun = begins_with first ring is in subst (λ (l : List Side). Contains l first) (sym begun.1) (Contains-first first begun.0)
+
 -- ---- Rings of which no side stands twice
 
 -- no side stands twice in these rings, each of two points or more
@@ -94,7 +97,7 @@ once-from_pairs (t ∷ sides) pairs s = by (is_side s t) refl (once-from_pairs s
 
 module _ (bs : List Boundary) (distinct : HaveDistinctSides bs) where
   -- a side has one corner after it
-  corner-once : (s : Side) → count_by (λ c. is_side s (side_before c)) (corners_in bs) ≤ 1
+  pub corner-once : (s : Side) → count_by (λ c. is_side s (side_before c)) (corners_in bs) ≤ 1
   corner-once s =
       let e = count-map side_before (is_side s) (corners_in bs) in
       let k = ap (λ (l : List Side). count_by (is_side s) l) (sides_in-before bs distinct.two) in
@@ -114,7 +117,7 @@ module _ (bs : List Boundary) (distinct : HaveDistinctSides bs) where
     two : 2 ≤ length b.ring
     two = All-at_each (λ b. 2 ≤ length b.ring) bs b distinct.two there
 
-    once-in_ring : (s : Side) → count_by (is_side s) (sides_of b.ring) ≤ 1
+    pub once-in_ring : (s : Side) → count_by (is_side s) (sides_of b.ring) ≤ 1
     once-in_ring s = le_part bs there (distinct.once s)
       where
         le_part : (cs : List Boundary) → Contains cs b → count_by (is_side s) (sides_in cs) ≤ 1 → count_by (is_side s) (sides_of b.ring) ≤ 1

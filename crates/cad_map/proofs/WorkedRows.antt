@@ -100,7 +100,7 @@ taken_by_island = refl
 
 -- ---- An enclosure round the island
 
-abbrev round_it : Map
+abbrev pub round_it : Map
 round_it = with_points (point 9 (pos 600) (pos 100) ∷ point 10 (pos 900) (pos 100) ∷ point 11 (pos 900) (pos 700) ∷ point 12 (pos 600) (pos 700) ∷ []) island
 
 abbrev enclosed : Face → Map

@@ -3,6 +3,7 @@ pub mod Boundaries
 pub mod Map
 pub mod Valid
 pub mod Chain
+pub mod Choice
 pub mod Division
 pub mod Merger
 pub mod Changes
@@ -13,3 +14,7 @@ pub mod Asked
 pub mod Sums
 pub mod Views
 pub mod Walk
+pub mod Crossings
+pub mod Rings
+pub mod Outline
+pub mod Trails

@@ -1,14 +1,17 @@
 //! The laws of maps. Each function does nothing, and its contract holds for all maps.
-ghost use Rattle.std.specs.Prelude.{◌≡◌, List, map, IsPermutation};
+ghost use Rattle.std.specs.Prelude.{◌≡◌, ℕ, List, map, IsPermutation};
 ghost use Rattle.geo_exact.specs.Measure.{Measure, IsOdd};
+ghost use Rattle.cad_rows.specs.declared.names.Face.{Face};
 ghost use Rattle.cad_rows.specs.declared.edits.Edit.{Edit};
+ghost use Rattle.cad_rows.specs.declared.edits.Edit.TheVariants.{Divide, Merge, Enclose};
 ghost use Rattle.cad_rows.specs.declared.refusals.Refusal.{Refusal};
 ghost use Rattle.cad_rows.specs.declared.refusals.Rule.{Rule};
 ghost use Rattle.cad_map.specs.Map.{Map};
 ghost use Rattle.cad_map.specs.declared.boundary.Boundary.{Boundary};
 ghost use Rattle.cad_map.specs.Boundaries.{shown, listed, sides_in, corners_in};
-ghost use Rattle.cad_map.specs.Sums.{IsBalanced};
+ghost use Rattle.cad_map.specs.Sums.{IsBalanced, IsSharedOut, IsTakenIn};
 ghost use Rattle.cad_map.specs.Valid.{IsValid, FirstBroken};
+ghost use Rattle.cad_map.specs.Asked.{GivesInRange};
 ghost use Rattle.cad_map.specs.Outcome.{LeadsTo, IsRefused};
 
 /// An edit leads to one map at most, is refused in one way at most, and never both; and a map breaks one rule first
@@ -24,6 +27,17 @@ pub fn one_outcome()
 /// the parcels are what the outside has, with the other sign.
 pub fn faces_balance()
     ensures { (f : Measure) → IsOdd f → (m : Map) → IsValid m → IsBalanced f m }
+{}
+
+/// What an edit makes of parcels adds up, for every measure: a new parcel and what is left of the face have what the face
+/// had, and the kept parcel of a merger has what both had. So it holds of doubled areas, and of the winding at every
+/// location.
+pub fn parcels_add_up()
+    ensures divided { (f : Measure) → IsOdd f → (m new : Map) (face : Face) (chain strings : List ℕ) (parcel : ℕ) (label : List ℕ) (source : ℕ) → IsValid m
+        → GivesInRange (Divide face chain strings parcel label source) → LeadsTo m (Divide face chain strings parcel label source) new → IsSharedOut f m face parcel new }
+    ensures enclosed { (f : Measure) → IsOdd f → (m new : Map) (face : Face) (points strings : List ℕ) (parcel : ℕ) (label : List ℕ) (source : ℕ) → IsValid m
+        → GivesInRange (Enclose face points strings parcel label source) → LeadsTo m (Enclose face points strings parcel label source) new → IsSharedOut f m face parcel new }
+    ensures merged { (f : Measure) → IsOdd f → (m new : Map) (kept ended : Face) → IsValid m → LeadsTo m (Merge kept ended) new → IsTakenIn f m kept ended new }
 {}
 
 /// Boundaries have one list, however they are kept: the list is listed as itself, and boundaries in another order are

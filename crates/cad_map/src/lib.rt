@@ -2,17 +2,29 @@
 #![tactic(auto)]
 
 mod boundary;
+mod copying;
+mod corner;
 mod laws;
 mod listing;
 mod look;
+mod outlines;
 mod plain;
+mod rings;
+mod seam;
 mod store;
+mod sums;
 mod table;
 mod walk;
 
 pub use boundary::Boundary;
-pub use laws::{faces_balance, one_list, one_outcome};
+pub use corner::{Corner, are_in_one_ring, chosen_corner};
+pub use laws::{faces_balance, one_list, one_outcome, parcels_add_up};
+pub use look::is_face;
+pub use outlines::outline;
 pub use plain::PlainMap;
+pub use rings::{position, ring_count, ring_sum};
+pub use seam::{has_seam, is_shared, shared_count};
 pub use store::{Counts, MapStore, MapView};
+pub use sums::sum_of;
 pub use table::{Numbered, Table};
 pub use walk::Walk;

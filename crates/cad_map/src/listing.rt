@@ -48,11 +48,21 @@ fn show_each(boundaries: &mut [Boundary])
     }
 }
 
-/// Lists boundaries as a map does. Takes no memory.
-pub(crate) fn list(boundaries: &mut [Boundary])
+// Lists boundaries as a map does.
+fn list(boundaries: &mut [Boundary])
     ensures listed { boundaries.new ≡ listed boundaries.old }
     ensures two { AllByRecursion (λ b. 2 ≤ length b.ring) boundaries.new }
 {
     show_each(boundaries);
     boundaries.sort_unstable_by(listing_order);
+}
+
+/// These boundaries, as a map lists them. Takes no memory.
+pub(crate) fn in_order(boundaries: Vec<Boundary>) -> Vec<Boundary>
+    ensures listed { result.items ≡ listed boundaries.items }
+    ensures two { AllByRecursion (λ b. 2 ≤ length b.ring) result.items }
+{
+    let mut boundaries = boundaries;
+    list(boundaries.as_mut_slice());
+    boundaries
 }

@@ -17,7 +17,8 @@ fn is_end(row: &StringRow, point: PointNo) -> bool
     row.from.get() == point.get() || row.to.get() == point.get()
 }
 
-fn one_if(test: bool) -> usize
+/// One where a test passes, and otherwise zero.
+pub(crate) fn one_if(test: bool) -> usize
     ensures { result ≡ (if test then 1 else 0) }
 {
     if test { 1 } else { 0 }
@@ -59,7 +60,8 @@ pub(crate) fn point_after(boundaries: &[Boundary], from: PointNo, to: PointNo) -
     None
 }
 
-fn is_face(a: &Face, b: &Face) -> bool
+/// Whether two faces are one.
+pub fn is_face(a: &Face, b: &Face) -> bool
     ensures { result ≡ is_face_of a.now b.now }
 {
     face_place(a) == face_place(b)

@@ -7,7 +7,7 @@ ghost use Rattle.cad_map.specs.Table.{without_row, with_row};
 ghost use Rattle.cad_map.specs.Valid.{IsValid};
 
 use crate::boundary::Boundary;
-use crate::listing::list;
+use crate::listing::in_order;
 use crate::look;
 use crate::store::{Counts, MapView};
 use crate::table::{Numbered, Table};
@@ -338,14 +338,4 @@ fn copies(alloc: Global, boundaries: &[Boundary]) -> Result<Vec<Boundary>, Memor
         copied.push(boundary.copy()?)?;
     }
     Ok(copied)
-}
-
-// These boundaries, as a map lists them.
-fn in_order(boundaries: Vec<Boundary>) -> Vec<Boundary>
-    ensures listed { result.items ≡ listed boundaries.items }
-    ensures two { AllByRecursion (λ b. 2 ≤ length b.ring) result.items }
-{
-    let mut boundaries = boundaries;
-    list(boundaries.as_mut_slice());
-    boundaries
 }

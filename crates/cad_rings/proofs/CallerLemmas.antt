@@ -11,7 +11,7 @@ pub use Rattle.cad_rings.proofs.CutElsewhere.{stretch-same, left_ring-same, righ
 pub use Rattle.cad_rings.proofs.JoinLemmas.{IsJoined, is_joined, sides_of-joined, ring_sum-joined, length-joined, HaveChainInCommon-cut, joined-cut, IsCutBack, cut-joined}
 pub use Rattle.cad_rings.proofs.CutCorners.{corners_of-cut, corners_of-joined}
 pub use Rattle.cad_rings.proofs.AnchorLemmas.{anchor_of-same, anchor_of-least_rotation, anchor_of-reversed, anchor_of-at_most, anchor_of-Contains}
-pub use Rattle.cad_rings.proofs.PutOn.{is_side-same, sides_of-put_on, sides_of-put_on_once, length-put_on, put_on-same}
-pub use Rattle.cad_rings.proofs.Without.{times_through-same, without-none, length-without, without-same, without-put_on, sides_of-without, put_on-without}
+pub use Rattle.cad_rings.proofs.PutOn.{is_side-same, sides_of-put_on, halves_none, halves_once, sides_of-put_on_once, length-put_on, put_on-same}
+pub use Rattle.cad_rings.proofs.Without.{FromCorner, from_corner, times_through-same, without-none, length-without, without-same, without-put_on, sides_of-without, put_on-without}
 pub use Rattle.cad_rings.proofs.PointCorners.{corners_of-without, corners_of-put_on}
 pub use Rattle.cad_rings.proofs.Placed.{placed_same, ring_sum-same}

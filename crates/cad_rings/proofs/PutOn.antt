@@ -81,13 +81,13 @@ module _ (s : Side) (p : ℕ) where
   sides_of-put_on [] = refl
   sides_of-put_on (a ∷ points) = ap sides_of (put_along a points a) ∙ halves_along a points a
 
-  halves_none : (sides : List Side) → count_by (is_side s) sides ≡ 0 → flat_map (halves_by s p) sides ≡ sides
+  pub halves_none : (sides : List Side) → count_by (is_side s) sides ≡ 0 → flat_map (halves_by s p) sides ≡ sides
   halves_none [] h = refl
   halves_none (t ∷ sides) h =
       let n = none_first s t sides h in
       (λ i. (if n.0 i then (t.0, p) ∷ (p, t.1) ∷ [] else t ∷ []) ++ halves_none sides n.1 i)
 
-  halves_once : (sides : List Side) → count_by (is_side s) sides ≡ 1 → IsPermutation (s ∷ flat_map (halves_by s p) sides) ((s.0, p) ∷ (p, s.1) ∷ sides)
+  pub halves_once : (sides : List Side) → count_by (is_side s) sides ≡ 1 → IsPermutation (s ∷ flat_map (halves_by s p) sides) ((s.0, p) ∷ (p, s.1) ∷ sides)
   halves_once [] h = absurd (let e : 0 ≡ 1 = h in omega arith)
   halves_once (t ∷ sides) h = go (once_first s t sides h) (halves_once sides)
     where

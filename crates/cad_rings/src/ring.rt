@@ -1,14 +1,14 @@
 //! Rings in memory.
-ghost use Rattle.std.specs.Prelude.{◌≡◌, ◌≤◌, length, IfOk};
-ghost use Rattle.cad_rings.specs.Cycle.{sides_of, has_side as has_side_of, after_side as after_side_of, anchor_of};
+ghost use Rattle.std.specs.Prelude.{◌≡◌, ◌≤◌, ◌<◌, length, position, slice_index, IfOk};
+ghost use Rattle.cad_rings.specs.Cycle.{sides_of, is_side, has_side as has_side_of, after_side as after_side_of, anchor_of, turned};
 ghost use Rattle.cad_rings.specs.Shown.{least_rotation};
 ghost use Rattle.cad_rings.specs.SidesLeft.{sides_left};
 
 mod sum;
 mod surgery;
 
-use crate::corners::{after_side, has_side};
-use crate::shown::least_place;
+use crate::corners::{after_side, has_side, place_of};
+use crate::shown::{least_place, turned_at};
 use crate::sides::Sides;
 use cad_rows::{Memory, PointNo};
 use std::alloc::Global;
@@ -58,6 +58,15 @@ impl Ring {
         self.points.len()
     }
 
+    /// The point at a place of the ring as it is written from another place on.
+    pub fn turned_at(&self, start: usize, place: usize) -> PointNo
+        requires start { start ≤ length self.now }
+        requires place { place < length self.now }
+        ensures { result ≡ slice_index (turned start self.now) place }
+    {
+        turned_at(self.points.as_slice(), start, place)
+    }
+
     /// The points as a slice, in the order in which they were given.
     pub fn points(&self) -> &[PointNo]
         ensures { result.now ≡ self.now }
@@ -87,6 +96,14 @@ impl Ring {
         ensures { result ≡ has_side_of (from, to) (sides_of self.now) }
     {
         has_side(self.points.as_slice(), from, to)
+    }
+
+    /// The place of the side from one point to another, and so of the point that it leaves, and `None` where the ring
+    /// doesn't have that side. Of several times that the ring goes along the side, it is the first place.
+    pub fn place_of(&self, from: PointNo, to: PointNo) -> Option<usize>
+        ensures { result ≡ position (is_side (from, to)) (sides_of self.now) }
+    {
+        place_of(self.points.as_slice(), from, to)
     }
 
     /// The point that comes after the side from one point to another, and `None` where the ring doesn't have that side.

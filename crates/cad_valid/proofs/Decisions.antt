@@ -1,5 +1,5 @@
 -- Tests that answer true exactly where a statement holds, of one element and of what is left of a list from a place on.
-use Rattle.std.proofs.Common.{◌≡◌, ℕ, zero, suc, ◌+◌, ◌≤◌, sym, subst, List, [], ◌∷◌, length, Bool, true, false, not, drop, slice_get, Some}
+use Rattle.std.proofs.Common.{◌≡◌, ℕ, ◌+◌, ◌≤◌, sym, subst, List, [], ◌∷◌, length, Bool, true, false, not, drop, slice_get, Some}
 use Rattle.std.specs.Prelude.{◌↔◌, IsTrue}
 use Rattle.std.specs.List.{AllByRecursion}
 use Rattle.std.proofs.lemmas.Bool.{true≢false, iff_false, not-true, not_from_false, false_from_ne_true}
@@ -14,12 +14,6 @@ pub iff-trans : {P Q R : Type 0} → P ↔ Q → Q ↔ R → P ↔ R
 iff-trans h k = ((λ p. k.0 (h.0 p)), (λ r. h.1 (k.1 r)))
 
 -- ---- What is left of a list
-
--- what holds of each element holds of the one at a place
-pub all-at : {X : Type 0} (P : X → Type 0) (xs : List X) (i : ℕ) (x : X) → slice_get xs i ≡ Some x → AllByRecursion P xs → P x
-all-at P [] i x at all = cc
-all-at P (y ∷ xs) zero x at all = let same : y ≡ x = cc in subst P same all.0
-all-at P (y ∷ xs) (suc i) x at all = all-at P xs i x at all.1
 
 -- a statement on a list is one on its first element and those behind it, and the same one on those behind it
 pub record IsStepwise {X : Type 0} (Here : X → List X → Type 0) (Each : List X → Type 0) : Type 0 where

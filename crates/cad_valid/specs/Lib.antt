@@ -1,5 +1,3 @@
 pub mod Corners
-pub mod Crossings
 pub mod Holes
 pub mod Outlines
-pub mod Rings

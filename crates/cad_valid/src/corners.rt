@@ -3,11 +3,10 @@ ghost use Rattle.std.specs.Prelude.{◌≡◌, IsTrue};
 ghost use Rattle.cad_rings.specs.Surgery.{corner};
 ghost use Rattle.cad_map.specs.Map.{has_point};
 ghost use Rattle.cad_map.specs.Valid.{HasSoundRows, is_empty_corner as is_empty_corner_of, has_empty_corners as has_empty_corners_of};
-ghost use Rattle.cad_valid.specs.Rings.{HasWholeRings};
+ghost use Rattle.cad_map.specs.Rings.{HasWholeRings};
 ghost use Rattle.cad_valid.specs.Corners.{is_clear_of as is_clear_of_corner, is_empty_after as is_empty_after_side, are_empty_beside as are_empty_beside_string};
 
-use crate::points::position;
-use cad_map::MapView;
+use cad_map::{MapView, position};
 use cad_rows::{PointNo, StringRow};
 use geo_exact::in_sector;
 

@@ -4,10 +4,9 @@ ghost use Rattle.std.specs.Bool.{OnTrue, OnFalse};
 ghost use Rattle.std.specs.List.{AllByRecursion};
 ghost use Rattle.cad_map.specs.Map.{has_point, position_of, is_end as is_end_of, far_end as far_end_of};
 ghost use Rattle.cad_map.specs.Valid.{HasNoCrossing, EachPair, MeetAtEnds, LiesOnlyAsEnd};
-ghost use Rattle.cad_valid.specs.Crossings.{HasPlacedRows, IsPlaced, IsEndOfBoth, HaveOnlyStart};
+ghost use Rattle.cad_map.specs.Crossings.{HasPlacedRows, IsPlaced, IsEndOfBoth, HaveOnlyStart};
 
-use crate::points::position;
-use cad_map::MapView;
+use cad_map::{MapView, position};
 use cad_rows::{PointNo, PointRow, StringRow};
 use geo_exact::{Pt, meets, on_segment};
 

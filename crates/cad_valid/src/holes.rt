@@ -3,12 +3,11 @@ ghost use Rattle.std.specs.Prelude.{◌≡◌, ◌+◌, ◌<◌, drop, length, f
 ghost use Rattle.std.specs.List.{list_all};
 ghost use Rattle.cad_map.specs.Map.{rings_at, rings_of, has_point, is_positive, is_in_ring as is_in_ring_of};
 ghost use Rattle.cad_map.specs.Valid.{are_holes_inside as are_holes_inside_of, are_holes_apart as are_holes_apart_of, has_sound_holes as has_sound_holes_of, has_holes_in_place as has_holes_in_place_of};
-ghost use Rattle.cad_valid.specs.Rings.{HasWholeRings, ring_at};
+ghost use Rattle.cad_map.specs.Rings.{HasWholeRings, ring_at};
 ghost use Rattle.cad_valid.specs.Holes.{has_inside_if_outline as has_inside_if_outline_of, is_inside_if_hole as is_inside_if_hole_of, are_apart as are_apart_of, is_apart_if_hole as is_apart_if_hole_of, is_apart_from_holes};
 
-use crate::points::position;
-use crate::rings::{anchor_of, is_hole, is_in_ring, is_outline, ring_count};
-use cad_map::MapView;
+use crate::rings::{anchor_of, is_hole, is_in_ring, is_outline};
+use cad_map::{MapView, position, ring_count};
 use cad_rows::{Face, PointNo};
 
 /// Whether the anchor of each negative ring is inside the positive ring of its face, and in no other negative one.

@@ -2,10 +2,10 @@
 ghost use Rattle.std.specs.Prelude.{◌≡◌};
 ghost use Rattle.cad_map.specs.Map.{rings_of};
 ghost use Rattle.cad_map.specs.Valid.{has_outlines as has_outlines_of, has_one_outline_each as has_one_outline_each_of};
-ghost use Rattle.cad_valid.specs.Rings.{HasWholeRings};
+ghost use Rattle.cad_map.specs.Rings.{HasWholeRings};
 
-use crate::rings::{doubled_area_of, ring_count};
-use cad_map::MapView;
+use crate::rings::doubled_area_of;
+use cad_map::{MapView, ring_count};
 use cad_rows::Face;
 
 /// Whether the outside has negative rings alone, and each parcel one positive ring and negative ones.

@@ -1,21 +1,11 @@
-//! Where points lie, and whether two lie at one position.
-ghost use Rattle.std.specs.Prelude.{◌≡◌, drop, not, IsTrue};
+//! Whether two points lie at one position.
+ghost use Rattle.std.specs.Prelude.{◌≡◌, drop, not};
 ghost use Rattle.std.specs.List.{list_all};
 ghost use Rattle.geo_exact.specs.Position.{Position};
-ghost use Rattle.cad_map.specs.Map.{has_point, position_of};
 ghost use Rattle.cad_map.specs.Valid.{is_same_position, has_distinct_positions as has_distinct_positions_of};
 
 use cad_map::MapView;
-use cad_rows::PointNo;
 use geo_exact::Pt;
-
-/// The position of a point of the map.
-pub(crate) fn position<M: MapView>(map: &M, no: PointNo) -> Pt
-    requires { IsTrue (has_point (M.map map.now) no) }
-    ensures { result ≡ position_of (M.map map.now) no }
-{
-    map.point(no).unwrap().position
-}
 
 /// Whether no two points have the same position.
 pub(crate) fn has_distinct_positions<M: MapView>(map: &M) -> bool

@@ -3,27 +3,12 @@ ghost use Rattle.std.specs.Prelude.{◌≡◌, ◌<◌, length, IsTrue};
 ghost use Rattle.geo_exact.specs.Measure.{doubled_area};
 ghost use Rattle.geo_exact.specs.Inside.{is_inside};
 ghost use Rattle.cad_rings.specs.Cycle.{anchor_of as anchor_of_ring, placed, sides_of};
-ghost use Rattle.cad_map.specs.Boundaries.{listed};
 ghost use Rattle.cad_map.specs.Map.{rings_at, position_of, has_point, sum_of_ring, is_positive, is_negative};
-ghost use Rattle.cad_valid.specs.Rings.{HasWholeRings, ring_at};
+ghost use Rattle.cad_map.specs.Rings.{HasWholeRings, ring_at};
 
-use crate::points::position;
-use cad_map::{MapView, Walk};
+use cad_map::{MapView, Walk, position, ring_sum};
 use cad_rows::{Face, PointNo};
-use geo_exact::{DoubledArea, Pt, SideMeasure, crosses};
-
-/// How many rings a face has.
-pub(crate) fn ring_count<M: MapView>(map: &M, face: &Face) -> usize
-    requires { HasWholeRings (M.map map.now) }
-    ensures count { result ≡ length (rings_at face.now (M.rings map.now)) }
-    ensures listed { listed (M.rings map.now) ≡ (M.map map.now).boundaries }
-{
-    let mut count = 0;
-    while map.ring_side(*face, count).is_some() {
-        count += 1;
-    }
-    count
-}
+use geo_exact::{DoubledArea, Pt, crosses};
 
 /// Whether a ring of a face has positive doubled area.
 pub(crate) fn is_outline<M: MapView>(map: &M, face: &Face, place: usize) -> bool
@@ -49,12 +34,7 @@ pub(crate) fn doubled_area_of<M: MapView>(map: &M, face: &Face, place: usize) ->
     requires there { place < length (rings_at face.now (M.rings map.now)) }
     ensures { result ≡ sum_of_ring doubled_area (M.map map.now) (ring_at (M.rings map.now) face.now place) }
 {
-    let (from, to) = map.ring_side(*face, place).unwrap();
-    let mut sum = 0;
-    for (a, b) in Walk::from(map, from, to) {
-        sum += DoubledArea.of(position(map, a), position(map, b));
-    }
-    sum
+    ring_sum(map, face, place, &DoubledArea)
 }
 
 /// The anchor of a ring of a face, its least point.

@@ -1,6 +1,6 @@
 //! Rings made of rings: in the other direction, with a point more or less, cut along a chain and joined along one.
 ghost use Rattle.std.specs.Prelude.{◌≡◌, ◌≤◌, ◌+◌, ◌++◌, ◌&&◌, length, drop, OnOk, IfOk};
-ghost use Rattle.cad_rings.specs.Cycle.{times_along, times_through, turned};
+ghost use Rattle.cad_rings.specs.Cycle.{times_through, turned};
 ghost use Rattle.cad_rings.specs.Surgery.{reversed, put_on, without, stretch, AreTwoPlaces, left_ring, right_ring, HaveChainInCommon, joined};
 
 use super::Ring;
@@ -67,10 +67,8 @@ impl Ring {
         Ok(Ring { points })
     }
 
-    /// The ring with the point p between a and b, where it goes from a to b, which it does once. An error where memory runs
-    /// out.
+    /// The ring with the point p between a and b, wherever it goes from a to b. An error where memory runs out.
     pub fn put_between(&self, a: PointNo, b: PointNo, p: PointNo) -> Result<Ring, Memory>
-        requires { times_along (a, b) self.now ≡ 1 }
         ensures { IfOk result (λ ring. ring ≡ put_on (a, b) p self.now) }
     {
         self.put_on_each((a, b), p)
@@ -86,10 +84,9 @@ impl Ring {
         Ok(ring)
     }
 
-    /// The ring without the point p, which it passes once. At least two points are left. An error where memory runs out.
+    /// The ring without the point p, wherever it passes it. At least two points are left. An error where memory runs out.
     pub fn drop_point(&self, p: PointNo) -> Result<Ring, Memory>
-        requires once { times_through p self.now ≡ 1 }
-        requires enough { 3 ≤ length self.now }
+        requires { 2 + times_through p self.now ≤ length self.now }
         ensures { IfOk result (λ ring. ring ≡ without p self.now) }
     {
         self.without_each(p)

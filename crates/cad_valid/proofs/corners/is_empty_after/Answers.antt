@@ -1,6 +1,7 @@
 use Rattle.std.proofs.Common.{◌∙◌, sym}
 use Rattle.cad_rings.specs.Surgery.{corner}
-use Rattle.cad_valid.proofs.EmptyCorners.{corner-points, empty-after, empty-no_side}
+use Rattle.cad_map.proofs.FirstCorners.{corner-points}
+use Rattle.cad_valid.proofs.EmptyCorners.{empty-after, empty-no_side}
 use Rattle.cad_valid.proofs.corners.is_empty_after.Goals as goal
 
 pub is_empty_corner-requires-clause-before_in : goal.is_empty_corner-requires-clause-before_in

@@ -1,6 +1,6 @@
 use Rattle.std.proofs.lemmas.Bool.{iff_false}
 use Rattle.cad_valid.proofs.Decisions.{not-iff}
-use Rattle.cad_valid.proofs.SharedEnds.{only_start-is}
+use Rattle.cad_map.proofs.SharedEnds.{only_start-is}
 use Rattle.cad_valid.proofs.crossings.have_only_start.Goals as goal
 
 pub returns-then-not-on_segment : goal.returns-then-not-on_segment

@@ -3,9 +3,9 @@ use Rattle.std.specs.Prelude.{◌↔◌, IsTrue}
 use Rattle.geo_exact.specs.Position.{Position}
 use Rattle.geo_exact.specs.Segment.{HaveCommonLocation}
 use Rattle.cad_map.specs.Map.{position_of}
-use Rattle.cad_valid.specs.Crossings.{HaveOnlyStart}
+use Rattle.cad_map.specs.Crossings.{HaveOnlyStart}
 use Rattle.cad_valid.proofs.Decisions.{not-iff, iff-trans}
-use Rattle.cad_valid.proofs.Meetings.{far_end-away, meet-at_end, meet-no_end}
+use Rattle.cad_map.proofs.Meetings.{far_end-away, meet-at_end, meet-no_end}
 use Rattle.cad_valid.proofs.crossings.meet_at_ends.Goals as goal
 
 pub have_only_start-requires-clause-a_away : goal.have_only_start-requires-clause-a_away

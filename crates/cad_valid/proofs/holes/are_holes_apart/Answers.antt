@@ -1,7 +1,7 @@
 use Rattle.std.proofs.Common.{ℕ, ◌+◌, ◌<◌, ◌≤◌, ◌∙◌, sym, subst, drop, [], length}
 use Rattle.std.proofs.lemmas.Option.{slice_get-get_or}
 use Rattle.cad_map.specs.Map.{rings_at}
-use Rattle.cad_valid.specs.Rings.{ring_at}
+use Rattle.cad_map.specs.Rings.{ring_at}
 use Rattle.cad_valid.specs.Holes.{are_apart_if_holes}
 use Rattle.cad_valid.proofs.Tests.{pairs-stop, pairs-go, pairs-done}
 use Rattle.cad_valid.proofs.FacesOfMap.{apart-by_rings, apart-from_one, apart-listed}

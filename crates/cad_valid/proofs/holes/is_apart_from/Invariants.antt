@@ -1,6 +1,6 @@
 use Rattle.std.proofs.Common.{◌≡◌, ◌+◌, drop}
 use Rattle.std.specs.List.{list_all}
-use Rattle.cad_valid.specs.Rings.{ring_at}
+use Rattle.cad_map.specs.Rings.{ring_at}
 use Rattle.cad_valid.specs.Holes.{is_apart_if_hole}
 use Rattle.cad_map.specs.Map.{rings_at}
 use Rattle.cad_valid.proofs.holes.is_apart_from.Given as goal

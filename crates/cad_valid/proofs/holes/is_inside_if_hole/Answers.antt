@@ -3,7 +3,7 @@ use Rattle.std.specs.Prelude.{◌||◌}
 use Rattle.std.specs.List.{list_all}
 use Rattle.cad_rings.specs.Cycle.{anchor_of}
 use Rattle.cad_map.specs.Map.{rings_at, is_positive, is_in_ring}
-use Rattle.cad_valid.specs.Rings.{ring_at}
+use Rattle.cad_map.specs.Rings.{ring_at}
 use Rattle.cad_valid.proofs.holes.is_inside_if_hole.Goals as goal
 
 pub returns-else-not-is_hole : goal.returns-else-not-is_hole

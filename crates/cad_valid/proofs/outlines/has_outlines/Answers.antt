@@ -1,4 +1,4 @@
-use Rattle.std.proofs.Common.{◌≡◌, ℕ, ◌+◌, ◌<◌, ◌≤◌, ◌∙◌, sym, ap, subst, drop, List, [], length, false, ℤ, pos, arith, to_z, to_z-of_z, FitsSigned}
+use Rattle.std.proofs.Common.{◌≡◌, ℕ, ◌+◌, ◌<◌, ◌≤◌, ◌∙◌, sym, ap, subst, List, [], length, false, ℤ, pos, arith, to_z, to_z-of_z, FitsSigned}
 use Rattle.std.specs.Int.{w128}
 use Rattle.std.proofs.lemmas.Int.{ints}
 use Rattle.std.proofs.lemmas.Option.{slice_get-get_or}
@@ -6,7 +6,7 @@ use Rattle.std.proofs.lemmas.List.{drop_all}
 use Rattle.std.specs.Prelude.{◌||◌, count_by, int_lt}
 use Rattle.cad_rings.specs.Cycle.{Ring}
 use Rattle.cad_map.specs.Map.{rings_at, is_positive}
-use Rattle.cad_valid.specs.Rings.{ring_at}
+use Rattle.cad_map.specs.Rings.{ring_at}
 use Rattle.cad_valid.specs.Outlines.{is_either}
 use Rattle.cad_valid.proofs.Tests.{all-stops, all-done}
 use Rattle.cad_valid.proofs.FacesOfMap.{outlines-listed, outlines-wrong, outlines-counted}

@@ -3,9 +3,9 @@ use Rattle.std.specs.Prelude.{IsSome, IsTrue}
 use Rattle.cad_map.specs.Map.{has_point}
 use Rattle.cad_rings.specs.Cycle.{Side}
 use Rattle.cad_map.specs.Walk.{walking, first_side}
-use Rattle.cad_valid.specs.Rings.{ring_at}
-use Rattle.cad_valid.proofs.Walked.{walked, walked-all, least-more, least-all, anchor-there}
-use Rattle.cad_valid.proofs.RingsOfMap.{side_is_told, side_told}
+use Rattle.cad_map.specs.Rings.{ring_at}
+use Rattle.cad_map.proofs.Walked.{walked, walked-all, least-more, least-all, anchor-there}
+use Rattle.cad_map.proofs.RingsOfMap.{side_is_told, side_told}
 use Rattle.cad_valid.proofs.rings.anchor_of.Goals as goal
 
 pub unwrap-from-requires : goal.unwrap-from-requires

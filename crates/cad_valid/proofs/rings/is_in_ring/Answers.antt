@@ -5,8 +5,8 @@ use Rattle.cad_map.specs.Walk.{walking}
 use Rattle.cad_rings.specs.Cycle.{placed}
 use Rattle.geo_exact.specs.Inside.{is_inside, is_counted}
 use Rattle.cad_map.specs.Map.{position_of}
-use Rattle.cad_valid.proofs.Walked.{walked, walked-points, walked-all, inside-more}
-use Rattle.cad_valid.proofs.RingsOfMap.{side_is_told}
+use Rattle.cad_map.proofs.Walked.{walked, walked-points, walked-all, inside-more}
+use Rattle.cad_map.proofs.RingsOfMap.{side_is_told}
 use Rattle.cad_valid.proofs.rings.is_in_ring.Goals as goal
 
 pub unwrap-from-requires : goal.unwrap-from-requires

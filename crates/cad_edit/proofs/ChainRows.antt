@@ -1,0 +1,36 @@
+-- What the rows on chains say of the points and the corners of a division.
+use Rattle.std.proofs.Common.{◌≡◌, ℕ, sym, ap, subst, ◌∙◌, List, [], ◌∷◌, ◌++◌, Bool, true, not, Some, None}
+use Rattle.std.specs.Prelude.{IsTrue, ◌&&◌}
+use Rattle.std.specs.List.{AllByRecursion, Contains, list_any}
+use Rattle.cad_rows.specs.declared.edits.Edit.{Edit}
+use Rattle.cad_rows.specs.declared.edits.Edit.TheVariants.{Divide}
+use Rattle.cad_rows.specs.declared.names.Face.{Face}
+use Rattle.cad_rows.specs.declared.names.Name.TheVariants as name
+use Rattle.cad_rows.specs.declared.refusals.Refusal.TheVariants.{ChainJoinsRings}
+use Rattle.cad_rings.specs.Cycle.{Corner, has_side, sides_of}
+use Rattle.cad_map.specs.Chain.{start_of, next_of, end_of, last_but_one, chosen_corner, leaving}
+use Rattle.cad_map.specs.Map.{Map, has_point, rings_of, face_corners}
+use Rattle.cad_map.specs.Refusals.{when, unknown, is_there, face_named, points_named, have_one_ring, chain_joins_rings}
+use Rattle.cad_map.proofs.AllowedParcels.{there-each, points-there}
+use Rattle.cad_map.proofs.ChosenCorners.{chosen}
+use Rattle.cad_map.proofs.Lists.{All-append}
+
+module _ (m : Map) (face : Face) (chain strings : List ℕ) (parcel : ℕ) (label : List ℕ) (source : ℕ) (e : Edit) (is : e ≡ Divide face chain strings parcel label source) where
+  module _ (points : List ℕ) (same : points ≡ chain) where
+    -- where nothing that is named is missing, the chain's points are there
+    pub points-divided : unknown m e ≡ None → AllByRecursion (λ p. IsTrue (has_point m p)) points
+    points-divided none =
+        let named = face_named face ++ points_named chain in
+        let all = there-each m (named ++ name.Source source ∷ []) (ap (unknown m) (sym is) ∙ none) in
+        let parts = All-append (λ n. is_there m n ≡ true) named (name.Source source ∷ []) all in
+        subst (AllByRecursion (λ (p : ℕ). IsTrue (has_point m p))) (sym same) (points-there m chain (All-append (λ n. is_there m n ≡ true) (face_named face) (points_named chain) parts.0).1)
+
+    -- it is asked of the two corners that are chosen whether they are in one ring
+    pub joins-chosen : (first last : Corner) → Some first ≡ chosen_corner m face (start_of points) (next_of points) → Some last ≡ chosen_corner m face (end_of points) (last_but_one points)
+        → (in_one : Bool) → ((f : Face) → Contains (face_corners m f) first → in_one ≡ list_any (λ r. has_side (leaving first) (sides_of r) && has_side (leaving last) (sides_of r)) (rings_of m f))
+        → (b : Bool) → in_one ≡ b → when (not b) ChainJoinsRings ≡ chain_joins_rings m e
+    joins-chosen first last at_first at_last in_one told b is_b =
+        ap (λ (b : Bool). when (not b) ChainJoinsRings) (sym is_b ∙ told face (chosen m face (start_of points) (next_of points) first (sym at_first)).there)
+        ∙ (λ i. when (not (have_one_ring m face (at_first i) (at_last i))) ChainJoinsRings)
+        ∙ ap (λ (l : List ℕ). chain_joins_rings m (Divide face l strings parcel label source)) same
+        ∙ ap (chain_joins_rings m) (sym is)

@@ -1,0 +1,126 @@
+-- The ring that a chain divides, the places of the two sides in it, and the points of the rings that it becomes.
+use Rattle.std.proofs.Common.{◌≡◌, ◌≢◌, ℕ, ◌-◌, ◌<◌, ◌≤◌, refl, sym, ap, subst, ◌∙◌, List, [], ◌∷◌, ◌++◌, append_assoc, length, take, drop, map, Bool, true, false, cond, true≢false, Option, Some, None, Bor, arith}
+use Rattle.std.specs.Prelude.{◌&&◌, nat_lt, find, option_map, IsSome, IsTrue, IsPermutation, slice_index}
+use Rattle.std.specs.List.{AllByRecursion, Contains, list_any, position, position_or_len}
+use Rattle.std.specs.Option.{option_copied}
+use Rattle.std.proofs.lemmas.Option.{same_Some}
+use Rattle.std.proofs.lemmas.Bool.Decides.{nat_tests}
+use Rattle.std.proofs.lemmas.List.{take-append-drop, map-append}
+use Rattle.std.proofs.lemmas.List.Sorted.{IsPermutation-append_comm}
+use Rattle.cad_rows.specs.declared.names.Face.{Face}
+use Rattle.cad_rings.specs.Cycle.{Ring, Side, is_side, has_side, sides_of, Corner}
+use Rattle.cad_rings.specs.Surgery.{stretch, left_ring, AreTwoPlaces}
+use Rattle.cad_map.specs.declared.boundary.Boundary.{Boundary}
+use Rattle.cad_map.specs.Boundaries.{shown, listed}
+use Rattle.cad_map.specs.Chain.{leaving, inner_of}
+use Rattle.cad_map.specs.Division.{place_of, ring_with}
+use Rattle.cad_map.specs.Map.{Map, has_point, rings_of, all_sides}
+use Rattle.cad_map.specs.Rings.{HasWholeRings}
+use Rattle.cad_map.proofs.Lists.{All-append}
+use Rattle.cad_map.proofs.Listed.{listed-permuted}
+use Rattle.cad_map.proofs.AddedRows.{All-join}
+use Rattle.cad_map.proofs.ChainFacts.{in_parts}
+use Rattle.cad_map.proofs.CutSides.{place-of, only-in}
+use Rattle.cad_map.proofs.Divided.{cut_ring}
+use Rattle.cad_map.proofs.FacesBeside.{has_side-Contains}
+use Rattle.cad_map.proofs.Walks.{once-from_pairs}
+use Rattle.cad_edit.proofs.SidesGiven.{ends-of_ring, points-there}
+
+-- ---- The ring and the places of sides
+
+-- the ring with a side is the one that is found
+pub ring-found : (s : Side) (bs : List Boundary) → has_side s (sides_of (ring_with s bs)) ≡ true → option_map (λ b. b.ring) (find (λ b. has_side s (sides_of b.ring)) bs) ≡ Some (ring_with s bs)
+ring-found s [] has = absurd (true≢false (sym has))
+ring-found s (b ∷ bs) has = by (has_side s (sides_of b.ring)) refl (λ rest. ring-found s bs rest)
+  where
+    by : (t : Bool) → has_side s (sides_of b.ring) ≡ t → (has_side s (sides_of (ring_with s bs)) ≡ true → option_map (λ b. b.ring) (find (λ b. has_side s (sides_of b.ring)) bs) ≡ Some (ring_with s bs))
+        → option_map (λ b. b.ring) (find (λ b. has_side s (sides_of b.ring)) (b ∷ bs)) ≡ Some (ring_with s (b ∷ bs))
+    by true is again = rw is refl
+    by false is again = rw is (again (rw is at has))
+
+-- where one passes, the first that does has a place
+any-within : (test : Side → Bool) (sides : List Side) → list_any test sides ≡ true → position_or_len test sides < length sides
+any-within test [] some = absurd (true≢false (sym some))
+any-within test (s ∷ sides) some = by (test s) refl (λ rest. any-within test sides rest)
+  where
+    by : (t : Bool) → test s ≡ t → (list_any test sides ≡ true → position_or_len test sides < length sides) → position_or_len test (s ∷ sides) < length (s ∷ sides)
+    by true is again = rw is (omega arith)
+    by false is again = let low = again (rw is at some) in rw is (omega (arith, low))
+
+pub place-found : (s : Side) (ring : Ring) → has_side s (sides_of ring) ≡ true → position (is_side s) (sides_of ring) ≡ Some (place_of s ring)
+place-found s ring has =
+    let low = any-within (is_side s) (sides_of ring) has in
+    let within : nat_lt (position_or_len (is_side s) (sides_of ring)) (length (sides_of ring)) ≡ true = grind (arith, nat_tests, low) in
+    rw within refl
+
+-- what is copied from behind a reference that is there
+pub copied-some : {X : Type 0} (o : Option (Bor X)) (x : X) → option_copied o ≡ Some x → IsSome o
+copied-some None x is = cc
+copied-some (Some b) x is = refl
+
+-- the ring that is told is the one with the side
+pub told-ring : (s : Side) (bs : List Boundary) → has_side s (sides_of (ring_with s bs)) ≡ true → (o : Option (Bor Ring)) (b : Bor Ring) → option_copied o ≡ option_map (λ b. b.ring) (find (λ b. has_side s (sides_of b.ring)) bs) → o ≡ Some b
+    → b.now ≡ ring_with s bs
+told-ring s bs has o b told some = same_Some b.now (ring_with s bs) (ap option_copied (sym some) ∙ told ∙ ring-found s bs has)
+
+-- and so is the place that is told
+pub told-place : (s t : Side) (ring cut : Ring) → ring ≡ cut → s ≡ t → has_side t (sides_of cut) ≡ true → (o : Option ℕ) → o ≡ position (is_side s) (sides_of ring) → o ≡ Some (place_of t cut)
+told-place s t ring cut same is has o told = told ∙ (λ i. position (is_side (is i)) (sides_of (same i))) ∙ place-found t cut has
+
+-- sides that leave different points have two places
+pub two-places : (s t : Side) (ring : Ring) → has_side s (sides_of ring) ≡ true → has_side t (sides_of ring) ≡ true → s.0 ≢ t.0 → AreTwoPlaces (place_of s ring) (place_of t ring) ring
+two-places s t ring has also apart =
+    let one = place-of s ring has in
+    let other = place-of t ring also in
+    record { first = one.within; second = other.within; apart = λ same. apart (sym one.at ∙ ap (slice_index ring) same ∙ other.at) }
+
+-- where a ring of the face has both sides, the ring with the first has the second
+pub one-ring : (m : Map) → HasWholeRings m → (face : Face) (first last : Corner) → list_any (λ r. has_side (leaving first) (sides_of r) && has_side (leaving last) (sides_of r)) (rings_of m face) ≡ true
+    → (b : Boundary) × Contains m.boundaries b × (ring_with (leaving first) m.boundaries ≡ b.ring) × (has_side (leaving first) (sides_of b.ring) ≡ true) × (has_side (leaving last) (sides_of b.ring) ≡ true)
+one-ring m whole face first last one =
+    let cut = cut_ring m face first last one in
+    let b = cut.0 in
+    let only = only-in (leaving first) m.boundaries b cut.1.there (has_side-Contains (leaving first) (sides_of b.ring) cut.1.has_first) (once-from_pairs (all_sides m) whole.once (leaving first)) in
+    (b, cut.1.there, only.ring, cut.1.has_first, cut.1.has_last)
+
+-- ---- The points of the ring to the left of a chain
+
+module _ (P : ℕ → Type 0) (ring : Ring) (all : AllByRecursion P ring) where
+  parts-of : (n : ℕ) → AllByRecursion P (take n ring) × AllByRecursion P (drop n ring)
+  parts-of n = All-append P (take n ring) (drop n ring) (subst (AllByRecursion P) (sym (take-append-drop n ring)) all)
+
+  stretch-all : (i j : ℕ) → AllByRecursion P (stretch i j ring)
+  stretch-all i j = by (nat_lt i j)
+    where
+      from_i : AllByRecursion P (take (j - i) (drop i ring))
+      from_i = (All-append P (take (j - i) (drop i ring)) (drop (j - i) (drop i ring)) (subst (AllByRecursion P) (sym (take-append-drop (j - i) (drop i ring))) (parts-of i).1)).0
+
+      by : (t : Bool) → AllByRecursion P (cond t (take (j - i) (drop i ring)) (drop i ring ++ take j ring))
+      by true = from_i
+      by false = All-join P (drop i ring) (take j ring) (parts-of i).1 (parts-of j).0
+
+  pub left-all : (i j : ℕ) (chain : List ℕ) → 2 ≤ length chain → AllByRecursion P chain → P (slice_index ring i) → AllByRecursion P (left_ring i j (inner_of chain) ring)
+  left-all i j chain long known at =
+      let parts = subst (AllByRecursion P) (in_parts chain long) known in
+      (at, All-join P (inner_of chain) (stretch j i ring) (All-append P (inner_of chain) _ parts.1).0 (stretch-all j i))
+
+-- of the ring that is cut out
+pub left-points : (m : Map) → HasWholeRings m → (face : Face) (chain : List ℕ) (first last : Corner) → 2 ≤ length chain → AllByRecursion (λ p. IsTrue (has_point m p)) chain
+    → list_any (λ r. has_side (leaving first) (sides_of r) && has_side (leaving last) (sides_of r)) (rings_of m face) ≡ true → (j : ℕ)
+    → AllByRecursion (λ p. IsTrue (has_point m p)) (left_ring (place_of (leaving first) (ring_with (leaving first) m.boundaries)) j (inner_of chain) (ring_with (leaving first) m.boundaries))
+left-points m whole face chain first last long known one j =
+    let P : ℕ → Type 0 = λ p. IsTrue (has_point m p) in
+    let own = one-ring m whole face first last one in
+    let all = points-there m whole own.0 own.1 in
+    let there = (ends-of_ring P own.0.ring all (leaving first) (has_side-Contains (leaving first) (sides_of own.0.ring) own.3)).0 in
+    let at = place-of (leaving first) own.0.ring own.3 in
+    subst (λ (r : Ring). AllByRecursion P (left_ring (place_of (leaving first) r) j (inner_of chain) r)) (sym own.2)
+    (left-all P own.0.ring all (place_of (leaving first) own.0.ring) j chain long known (subst P (sym at.at) there))
+
+-- ---- Two rings put last are listed as if they were first
+
+pub listed-last_two : (bs : List Boundary) (a b : Boundary) → listed ((bs ++ a ∷ []) ++ b ∷ []) ≡ listed (a ∷ b ∷ bs)
+listed-last_two bs a b =
+    ap listed (append_assoc bs (a ∷ []) (b ∷ []))
+    ∙ listed-permuted (bs ++ a ∷ b ∷ []) (a ∷ b ∷ bs)
+    (subst (λ (l : List Boundary). IsPermutation l (map shown (a ∷ b ∷ bs))) (sym (map-append shown bs (a ∷ b ∷ []))) (IsPermutation-append_comm (map shown bs) (map shown (a ∷ b ∷ []))))

@@ -1,0 +1,9 @@
+pub mod SidesGiven
+pub mod PlacedSoFar
+pub mod CutRing
+pub mod PointLists
+pub mod FirstSeams
+pub mod MergedSeams
+pub mod StringRows
+pub mod FirstNamed
+pub mod ChainRows

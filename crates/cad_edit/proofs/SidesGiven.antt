@@ -1,0 +1,42 @@
+-- The sides of a ring that were given so far, and what is known of the next one.
+use Rattle.std.proofs.Common.{◌≡◌, ℕ, ◌≤◌, sym, ap, subst, ◌∙◌, List, [], ◌∷◌, ◌++◌, append_assoc, length, length-append, arith}
+use Rattle.std.specs.Prelude.{IsTrue}
+use Rattle.std.specs.List.{AllByRecursion, Contains}
+use Rattle.std.proofs.lemmas.List.Elements.{Contains-append_right}
+use Rattle.cad_rings.specs.Cycle.{Ring, Side, sides_of, anchor_of}
+use Rattle.cad_rings.proofs.CallerLemmas.{anchor_of-Contains}
+use Rattle.cad_map.specs.declared.boundary.Boundary.{Boundary}
+use Rattle.cad_map.specs.Map.{Map, has_point}
+use Rattle.cad_map.specs.Rings.{HasWholeRings}
+use Rattle.cad_map.proofs.Lists.{All-push}
+use Rattle.cad_map.proofs.Elements.{Contains-first, All-at_each}
+use Rattle.cad_map.proofs.ChainFacts.{ends-along}
+use Rattle.cad_map.proofs.FirstCorners.{two-each}
+use Rattle.cad_map.proofs.RingsOfMap.{ring-sides-few}
+
+module _ (ring : Ring) (given left rest : List Side) (s : Side) (whole : given ++ left ≡ sides_of ring) (step : left ≡ s ∷ rest) where
+  pub given-more : (given ++ s ∷ []) ++ rest ≡ sides_of ring
+  given-more = append_assoc given (s ∷ []) rest ∙ ap (λ (l : List Side). given ++ l) (sym step) ∙ whole
+
+  pub given-there : Contains (sides_of ring) s
+  given-there = subst (λ (l : List Side). Contains l s) (ap (λ (l : List Side). given ++ l) (sym step) ∙ whole) (Contains-append_right given (s ∷ rest) s (Contains-first s rest))
+
+  pub given-few : length (given ++ s ∷ []) ≤ length (sides_of ring)
+  given-few = let all = ap length given-more in let e = length-append (given ++ s ∷ []) rest in omega (arith, all, e)
+
+-- what holds of all points of a ring holds of both ends of a side
+pub ends-of_ring : (P : ℕ → Type 0) (ring : Ring) → AllByRecursion P ring → (s : Side) → Contains (sides_of ring) s → P s.0 × P s.1
+ends-of_ring P [] all s h = let low = h.1 in absurd (omega arith)
+ends-of_ring P (a ∷ points) all s h = All-at_each (λ (s : Side). P s.0 × P s.1) (sides_of (a ∷ points)) s (ends-along P a points a (All-push P (a ∷ points) a all all.0)) h
+
+module _ (m : Map) (whole : HasWholeRings m) (b : Boundary) (there : Contains m.boundaries b) where
+  pub points-there : AllByRecursion (λ p. IsTrue (has_point m p)) b.ring
+  points-there = All-at_each (λ (b : Boundary). AllByRecursion (λ p. IsTrue (has_point m p)) b.ring) m.boundaries b whole.v1.points_of_rings there
+
+  pub sides-few : length (sides_of b.ring) ≤ 400000
+  sides-few = let few = ring-sides-few m m.boundaries whole whole.v1.in_order (two-each m whole) b there in let most = whole.v1.few_strings in omega (arith, few, most)
+
+  pub anchor-there : IsTrue (has_point m (anchor_of b.ring))
+  anchor-there =
+      let two : 2 ≤ length b.ring = All-at_each (λ (b : Boundary). 2 ≤ length b.ring) m.boundaries b (two-each m whole) there in
+      All-at_each (λ p. IsTrue (has_point m p)) b.ring (anchor_of b.ring) points-there (anchor_of-Contains b.ring (omega (arith, two)))

@@ -1,0 +1,48 @@
+use Rattle.std.proofs.Common.{refl, sym, ap, ◌∙◌, List, ◌++◌, true, false}
+use Rattle.std.proofs.lemmas.List.{append-nil}
+use Rattle.std.specs.Prelude.{IsTrue, not}
+use Rattle.geo_exact.specs.Inside.{is_inside, is_counted}
+use Rattle.cad_rings.specs.Cycle.{Side, placed}
+use Rattle.cad_rings.specs.SidesLeft.{sides_left}
+use Rattle.cad_map.specs.Map.{has_point, position_of}
+use Rattle.cad_map.proofs.Walked.{inside-more}
+use Rattle.cad_edit.proofs.SidesGiven.{given-more, given-there, ends-of_ring}
+use Rattle.cad_edit.proofs.placing.is_in_ring.Goals as goal
+
+pub loop-from-init : goal.loop-from-init
+loop-from-init c = record { whole = ap sides_left c.into_iter-from-iterator.ensures.into_iter_gives ∙ c.sides-from-items.ensures; value = refl }
+
+pub position-requires : goal.position-requires
+position-requires c =
+    let there = given-there c.args.ring.now c.loop-from.yielded _ _ (c.in-Some.from, c.in-Some.to) c.loop-from.invariant.whole c.in-Some.ensures.steps in
+    (ends-of_ring (λ p. IsTrue (has_point c.args.map.now p)) c.args.ring.now c.requires.points (c.in-Some.from, c.in-Some.to) there).0
+
+pub position-requires-in-loop-from : goal.position-requires-in-loop-from
+position-requires-in-loop-from c =
+    let there = given-there c.args.ring.now c.loop-from.yielded _ _ (c.in-Some.from, c.in-Some.to) c.loop-from.invariant.whole c.in-Some.ensures.steps in
+    (ends-of_ring (λ p. IsTrue (has_point c.args.map.now p)) c.args.ring.now c.requires.points (c.in-Some.from, c.in-Some.to) there).1
+
+pub loop-from-preserved-then-crosses : goal.loop-from-preserved-then-crosses
+loop-from-preserved-then-crosses c =
+    let side : Side = (c.in-Some.from, c.in-Some.to) in
+    let counted = sym c.if-crosses.true ∙ c.crosses.ensures ∙ (λ i. is_counted (c.position.ensures i) (c.position-in-loop-from.ensures i) c.position-at.result) in
+    record {
+      whole = given-more c.args.ring.now c.loop-from.yielded _ _ side c.loop-from.invariant.whole c.in-Some.ensures.steps;
+      value = ap not c.loop-from.invariant.value ∙ sym (inside-more (position_of c.args.map.now) c.loop-from.yielded side c.position-at.result true counted);
+    }
+
+pub loop-from-preserved : goal.loop-from-preserved
+loop-from-preserved c =
+    let side : Side = (c.in-Some.from, c.in-Some.to) in
+    let counted = sym c.if-crosses.false ∙ c.crosses.ensures ∙ (λ i. is_counted (c.position.ensures i) (c.position-in-loop-from.ensures i) c.position-at.result) in
+    record {
+      whole = given-more c.args.ring.now c.loop-from.yielded _ _ side c.loop-from.invariant.whole c.in-Some.ensures.steps;
+      value = c.loop-from.invariant.value ∙ sym (inside-more (position_of c.args.map.now) c.loop-from.yielded side c.position-at.result false counted);
+    }
+
+pub returns : goal.returns
+returns c =
+    let position = position_of c.args.map.now in
+    let none = c.in-None.ensures.steps.0 in
+    let all = sym (append-nil c.loop-from.yielded) ∙ ap (λ (l : List Side). c.loop-from.yielded ++ l) (sym none) ∙ c.loop-from.invariant.whole in
+    c.loop-from.invariant.value ∙ (λ i. is_inside (placed position (all i)) (c.position-at.ensures i))

@@ -1,6 +1,0 @@
-use Rattle.std.proofs.Common.{◌≡◌, take}
-use Rattle.cad_files.specs.Texts.{list_field}
-use Rattle.cad_files.proofs.plan_texts.list_text.Given as goal
-
-abbrev pub invariant-loop-i : goal.invariant-loop-i
-invariant-loop-i l = l.text.items ≡ list_field (take l.i l.sources)

@@ -1,0 +1,103 @@
+//! The text of the areas of a map's parcels.
+ghost use Rattle.std.specs.Prelude.{◌≡◌, ◌≤◌, ◌<◌, ◌^◌, ◌++◌, ℕ, List, OnOk, IfOk, map, decimal, unsigned_abs};
+ghost use Rattle.geo_exact.specs.Measure.{doubled_area};
+ghost use Rattle.cad_rows.specs.declared.names.Face.TheVariants as face;
+ghost use Rattle.cad_map.specs.Map.{sum_of_face};
+ghost use Rattle.cad_map.specs.Valid.{IsValid};
+ghost use Rattle.cad_files.specs.Texts.{HasWritten, record_text, text_of};
+ghost use Rattle.cad_files.specs.Reports.{hundredths_of, area_field, two_digits, area_record, area_records};
+
+use crate::writing::write_record;
+use cad_map::{MapView, sum_of};
+use cad_rows::{Face, Memory, ParcelRow};
+use csv::{Writer, WriterBuilder};
+use geo_exact::DoubledArea;
+use std::alloc::Global;
+
+/// Hundredths of a square metre in an area in doubled square millimetres, rounded half up. Takes no memory.
+pub fn hundredths(a2: i128) -> i128
+    requires { unsigned_abs a2 ≤ 10 ^ 26 }
+    ensures { result ≡ hundredths_of a2 }
+{
+    (a2 + 10_000).div_euclid(20_000)
+}
+
+// A number below 100, in two digits.
+fn push_two_digits(text: &mut Vec<u8>, number: u8) -> Result<(), Memory>
+    requires { number < 100 }
+    ensures { OnOk result (text.new.items ≡ text.old.items ++ two_digits number) }
+{
+    text.push(b'0' + number / 10)?;
+    text.push(b'0' + number % 10)?;
+    Ok(())
+}
+
+// The field of so many hundredths of a square metre.
+#[tactic(auto, unfolding(crate::specs::Reports::area_field))]
+fn area_text_of(alloc: Global, h: i128) -> Result<Vec<u8>, Memory>
+    ensures { IfOk result (λ text. text.items ≡ area_field h) }
+{
+    let mut text = Vec::new(alloc);
+    if h < 0 {
+        text.push(b'-')?;
+    }
+    let size = h.unsigned_abs();
+    let whole = (size / 100).to_string(alloc)?;
+    text.extend_from_slice(whole.as_bytes())?;
+    text.push(b'.')?;
+    push_two_digits(&mut text, (size % 100) as u8)?;
+    Ok(text)
+}
+
+// Writes the record of a parcel with this doubled area.
+fn write_area(
+    alloc: Global,
+    writer: &mut Writer<Vec<u8>>,
+    row: &ParcelRow,
+    a2: i128,
+) -> Result<(), Memory>
+    requires { unsigned_abs a2 ≤ 10 ^ 26 }
+    ensures { OnOk result ((text : List ℕ) → HasWritten text writer.old → HasWritten (text ++ record_text (area_record row.now a2)) writer.new) }
+{
+    let number = row.number.get().to_string(alloc)?;
+    let doubled = a2.to_string(alloc)?;
+    let area = area_text_of(alloc, hundredths(a2))?;
+    let number = number.as_bytes();
+    let label = row.label.as_str().as_bytes();
+    let doubled = doubled.as_bytes();
+    let area = area.as_slice();
+    write_record(writer, &[b"area", number, label, doubled, area, b"", b""])
+}
+
+// Writes the record of each parcel.
+fn write_areas<M: MapView>(
+    alloc: Global,
+    writer: &mut Writer<Vec<u8>>,
+    view: &M,
+) -> Result<(), Memory>
+    requires { IsValid (M.map view.now) }
+    ensures { OnOk result ((text : List ℕ) → HasWritten text writer.old
+        → HasWritten (text ++ text_of (map (λ r. area_record r (sum_of_face doubled_area (M.map view.now) (face.Parcel r.number))) (M.map view.now).parcels)) writer.new) }
+{
+    for place in 0..view.counts().parcels {
+        let row = view.parcel_at(place).unwrap();
+        let a2 = sum_of(view, Face::Parcel(row.number), &DoubledArea).unwrap();
+        write_area(alloc, writer, row, a2)?;
+    }
+    Ok(())
+}
+
+/// The areas of the parcels of a valid map, in order of entry, in doubled square millimetres and in square metres. An
+/// error where memory runs out.
+pub fn area_text<M: MapView>(alloc: Global, view: &M) -> Result<Vec<u8>, Memory>
+    requires { IsValid (M.map view.now) }
+    ensures { IfOk result (λ text. text.items ≡ text_of (area_records (M.map view.now))) }
+{
+    let mut writer = WriterBuilder::new().from_writer(Vec::new(alloc));
+    write_areas(alloc, &mut writer, view)?;
+    write_record(&mut writer, &[b"end", b"", b"", b"", b"", b"", b""])?;
+    match writer.into_inner() {
+        Ok(text) => Ok(text),
+        Err(_) => Err(Memory),
+    }
+}

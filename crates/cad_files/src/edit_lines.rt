@@ -1,0 +1,275 @@
+//! The lines of a script that ask for edits.
+ghost use Rattle.std.specs.Prelude.{◌≡◌, Some, None, IfOk};
+ghost use Rattle.cad_files.specs.Line.{add_source_meant, add_point_meant, drop_point_meant, split_meant, join_meant, divide_meant, merge_meant, move_meant, attach_meant, detach_meant, rename_meant, enclose_meant, edit_meant};
+
+use crate::fields::{
+    Fields, are_blank, coordinate, face, item, parcel_no, point_no, source_no, string_no, text,
+};
+use crate::line::Line;
+use crate::lists::{point_list, string_list};
+use cad_history::Command;
+use cad_rows::{Edit, Memory};
+use std::alloc::Global;
+
+// A source: its number, and its text.
+#[tactic(auto, unfolding(crate::specs::Line::add_source_meant))]
+fn add_source(alloc: Global, r: &Fields<'_>) -> Result<Option<Line>, Memory>
+    ensures { IfOk result (λ line. line ≡ add_source_meant r.now) }
+{
+    if !are_blank(&[r.c, r.d, r.e, r.f]) {
+        return Ok(None);
+    }
+    let Some(source) = source_no(r.a) else {
+        return Ok(None);
+    };
+    let Some(text) = text(alloc, r.b)? else {
+        return Ok(None);
+    };
+    let edit = Edit::AddSource { source, text };
+    Ok(Some(Line::Command(Command::Edit(edit))))
+}
+
+// A point: its number, and its position.
+#[tactic(auto, unfolding(crate::specs::Line::add_point_meant))]
+fn add_point(r: &Fields<'_>) -> Option<Line>
+    ensures { result ≡ add_point_meant r.now }
+{
+    if !are_blank(&[r.d, r.e, r.f]) {
+        return None;
+    }
+    let Some(point) = point_no(r.a) else {
+        return None;
+    };
+    let Some(x) = coordinate(r.b) else {
+        return None;
+    };
+    let Some(y) = coordinate(r.c) else {
+        return None;
+    };
+    Some(Line::Command(Command::Edit(Edit::AddPoint { point, x, y })))
+}
+
+// A point's number.
+#[tactic(auto, unfolding(crate::specs::Line::drop_point_meant))]
+fn drop_point(r: &Fields<'_>) -> Option<Line>
+    ensures { result ≡ drop_point_meant r.now }
+{
+    if !are_blank(&[r.b, r.c, r.d, r.e, r.f]) {
+        return None;
+    }
+    let Some(point) = point_no(r.a) else {
+        return None;
+    };
+    Some(Line::Command(Command::Edit(Edit::DropPoint { point })))
+}
+
+// A string, a new point and its position, and the numbers of the string's two halves.
+#[tactic(auto, unfolding(crate::specs::Line::split_meant))]
+fn split(r: &Fields<'_>) -> Option<Line>
+    ensures { result ≡ split_meant r.now }
+{
+    let string = string_no(r.a)?;
+    let point = point_no(r.b)?;
+    let x = coordinate(r.c)?;
+    let y = coordinate(r.d)?;
+    let first = string_no(r.e)?;
+    let second = string_no(r.f)?;
+    Some(Line::Command(Command::Edit(Edit::Split {
+        string,
+        point,
+        x,
+        y,
+        first,
+        second,
+    })))
+}
+
+// A point, and the number of the joined string.
+#[tactic(auto, unfolding(crate::specs::Line::join_meant))]
+fn join(r: &Fields<'_>) -> Option<Line>
+    ensures { result ≡ join_meant r.now }
+{
+    if !are_blank(&[r.c, r.d, r.e, r.f]) {
+        return None;
+    }
+    let point = point_no(r.a)?;
+    let string = string_no(r.b)?;
+    Some(Line::Command(Command::Edit(Edit::Join { point, string })))
+}
+
+// A face divided along a chain.
+#[tactic(auto, unfolding(crate::specs::Line::divide_meant))]
+fn divide(alloc: Global, r: &Fields<'_>) -> Result<Option<Line>, Memory>
+    ensures { IfOk result (λ line. line ≡ divide_meant r.now) }
+{
+    let Some(face) = face(r.a) else {
+        return Ok(None);
+    };
+    let Some(chain) = point_list(alloc, r.b)? else {
+        return Ok(None);
+    };
+    let Some(strings) = string_list(alloc, r.c)? else {
+        return Ok(None);
+    };
+    let Some(parcel) = parcel_no(r.d) else {
+        return Ok(None);
+    };
+    let Some(label) = text(alloc, r.e)? else {
+        return Ok(None);
+    };
+    let Some(source) = source_no(r.f) else {
+        return Ok(None);
+    };
+    let edit = Edit::Divide {
+        face,
+        chain,
+        strings,
+        parcel,
+        label,
+        source,
+    };
+    Ok(Some(Line::Command(Command::Edit(edit))))
+}
+
+// The face that is kept, and the one that ends.
+#[tactic(auto, unfolding(crate::specs::Line::merge_meant))]
+fn merge(r: &Fields<'_>) -> Option<Line>
+    ensures { result ≡ merge_meant r.now }
+{
+    if !are_blank(&[r.c, r.d, r.e, r.f]) {
+        return None;
+    }
+    let kept = face(r.a)?;
+    let ended = face(r.b)?;
+    Some(Line::Command(Command::Edit(Edit::Merge { kept, ended })))
+}
+
+// A point, and its new position.
+#[tactic(auto, unfolding(crate::specs::Line::move_meant))]
+fn move_point(r: &Fields<'_>) -> Option<Line>
+    ensures { result ≡ move_meant r.now }
+{
+    if !are_blank(&[r.d, r.e, r.f]) {
+        return None;
+    }
+    let point = point_no(r.a)?;
+    let x = coordinate(r.b)?;
+    let y = coordinate(r.c)?;
+    Some(Line::Command(Command::Edit(Edit::Move { point, x, y })))
+}
+
+// An item, and a source's number.
+#[tactic(auto, unfolding(crate::specs::Line::attach_meant))]
+fn attach(r: &Fields<'_>) -> Option<Line>
+    ensures { result ≡ attach_meant r.now }
+{
+    if !are_blank(&[r.d, r.e, r.f]) {
+        return None;
+    }
+    let Some(item) = item(r.a, r.b) else {
+        return None;
+    };
+    let Some(source) = source_no(r.c) else {
+        return None;
+    };
+    Some(Line::Command(Command::Edit(Edit::Attach { item, source })))
+}
+
+// An item, and a source's number.
+#[tactic(auto, unfolding(crate::specs::Line::detach_meant))]
+fn detach(r: &Fields<'_>) -> Option<Line>
+    ensures { result ≡ detach_meant r.now }
+{
+    if !are_blank(&[r.d, r.e, r.f]) {
+        return None;
+    }
+    let item = item(r.a, r.b)?;
+    let source = source_no(r.c)?;
+    Some(Line::Command(Command::Edit(Edit::Detach { item, source })))
+}
+
+// A parcel, and its new label.
+#[tactic(auto, unfolding(crate::specs::Line::rename_meant))]
+fn rename(alloc: Global, r: &Fields<'_>) -> Result<Option<Line>, Memory>
+    ensures { IfOk result (λ line. line ≡ rename_meant r.now) }
+{
+    if !are_blank(&[r.c, r.d, r.e, r.f]) {
+        return Ok(None);
+    }
+    let Some(parcel) = parcel_no(r.a) else {
+        return Ok(None);
+    };
+    let Some(label) = text(alloc, r.b)? else {
+        return Ok(None);
+    };
+    let edit = Edit::Rename { parcel, label };
+    Ok(Some(Line::Command(Command::Edit(edit))))
+}
+
+// A closed points made an island.
+#[tactic(auto, unfolding(crate::specs::Line::enclose_meant))]
+fn enclose(alloc: Global, r: &Fields<'_>) -> Result<Option<Line>, Memory>
+    ensures { IfOk result (λ line. line ≡ enclose_meant r.now) }
+{
+    let Some(face) = face(r.a) else {
+        return Ok(None);
+    };
+    let Some(points) = point_list(alloc, r.b)? else {
+        return Ok(None);
+    };
+    let Some(strings) = string_list(alloc, r.c)? else {
+        return Ok(None);
+    };
+    let Some(parcel) = parcel_no(r.d) else {
+        return Ok(None);
+    };
+    let Some(label) = text(alloc, r.e)? else {
+        return Ok(None);
+    };
+    let Some(source) = source_no(r.f) else {
+        return Ok(None);
+    };
+    let edit = Edit::Enclose {
+        face,
+        points,
+        strings,
+        parcel,
+        label,
+        source,
+    };
+    Ok(Some(Line::Command(Command::Edit(edit))))
+}
+
+/// The edit that seven fields ask for, if they ask for one.
+#[tactic(auto, unfolding(crate::specs::Line::edit_meant))]
+pub(crate) fn edit_record(alloc: Global, r: &Fields<'_>) -> Result<Option<Line>, Memory>
+    ensures { IfOk result (λ line. line ≡ edit_meant r.now) }
+{
+    if r.kind == b"add-source".as_slice() {
+        add_source(alloc, r)
+    } else if r.kind == b"add-point".as_slice() {
+        Ok(add_point(r))
+    } else if r.kind == b"drop-point".as_slice() {
+        Ok(drop_point(r))
+    } else if r.kind == b"split".as_slice() {
+        Ok(split(r))
+    } else if r.kind == b"join".as_slice() {
+        Ok(join(r))
+    } else if r.kind == b"divide".as_slice() {
+        divide(alloc, r)
+    } else if r.kind == b"merge".as_slice() {
+        Ok(merge(r))
+    } else if r.kind == b"move".as_slice() {
+        Ok(move_point(r))
+    } else if r.kind == b"attach".as_slice() {
+        Ok(attach(r))
+    } else if r.kind == b"detach".as_slice() {
+        Ok(detach(r))
+    } else if r.kind == b"rename".as_slice() {
+        rename(alloc, r)
+    } else if r.kind == b"enclose".as_slice() {
+        enclose(alloc, r)
+    } else {
+        Ok(None)
+    }
+}

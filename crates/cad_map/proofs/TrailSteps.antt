@@ -1,0 +1,99 @@
+-- Steps from side to side, and the same steps back.
+use Rattle.std.proofs.Common.{◌≡◌, ◌≢◌, ℕ, zero, suc, ◌+◌, ◌≤◌, refl, sym, ap, ◌∙◌, List, [], ◌∷◌, ◌++◌, reverse, true, true≢false, arith}
+use Rattle.std.proofs.lemmas.Bool.{and_parts, and_from, eqb-true}
+use Rattle.std.proofs.lemmas.Cmp.{nat_eq_equiv}
+use Rattle.std.proofs.lemmas.List.{reverse-append, reverse-reverse}
+use Rattle.std.specs.Prelude.{◌==◌, not}
+use Rattle.std.specs.List.{Contains, list_any}
+use Rattle.cad_rings.specs.Cycle.{Side, opposite}
+use Rattle.cad_map.specs.Chain.{are_distinct}
+use Rattle.cad_map.specs.Trails.{trail, turns_back, runs_back}
+use Rattle.cad_map.proofs.Elements.{Contains-first, Contains-later, list_any-Contains}
+
+-- two lists with one more element each
+pub push-same : {X : Type 0} (xs ys : List X) (x y : X) → xs ++ x ∷ [] ≡ ys ++ y ∷ [] → (xs ≡ ys) × (x ≡ y)
+push-same xs ys x y same =
+    let e : x ∷ reverse xs ≡ y ∷ reverse ys = sym (reverse-append xs (x ∷ [])) ∙ ap reverse same ∙ reverse-append ys (y ∷ []) in
+    let others : reverse xs ≡ reverse ys = cc in
+    (sym (reverse-reverse xs) ∙ ap reverse others ∙ reverse-reverse ys, cc)
+
+pub reverse-more : {X : Type 0} (x : X) (xs : List X) → reverse (x ∷ xs) ≡ reverse xs ++ x ∷ []
+reverse-more x xs = reverse-append (x ∷ []) xs
+
+-- so many steps on
+abbrev pub steps : (Side → Side) → ℕ → Side → Side
+steps next zero s = s
+steps next (suc n) s = steps next n (next s)
+
+module _ (next : Side → Side) where
+  pub step-last : (n : ℕ) (s : Side) → steps next n (next s) ≡ next (steps next n s)
+  step-last zero s = refl
+  step-last (suc n) s = step-last n (next s)
+
+  pub steps-add : (m n : ℕ) (s : Side) → steps next n (steps next m s) ≡ steps next (m + n) s
+  steps-add zero n s = let e : n ≡ 0 + n = omega arith in ap (λ (k : ℕ). steps next k s) e
+  steps-add (suc m) n s = let e : suc (m + n) ≡ suc m + n = omega arith in steps-add m n (next s) ∙ ap (λ (k : ℕ). steps next k s) e
+
+  -- the last point of a trail
+  pub trail-end : (n : ℕ) (s : Side) → trail next s (suc n) ≡ trail next s n ++ (steps next (suc n) s).0 ∷ []
+  trail-end zero s = refl
+  trail-end (suc n) s = ap (λ (l : List ℕ). s.0 ∷ l) (trail-end n (next s))
+
+  pub trail-Contains : (i n : ℕ) (s : Side) → i ≤ n → Contains (trail next s n) (steps next i s).0
+  trail-Contains zero zero s within = Contains-first s.0 []
+  trail-Contains zero (suc n) s within = Contains-first s.0 (trail next (next s) n)
+  trail-Contains (suc i) zero s within = absurd (omega arith)
+  trail-Contains (suc i) (suc n) s within = Contains-later s.0 (trail next (next s) n) (steps next i (next s)).0 (trail-Contains i n (next s) (omega arith))
+
+  -- a trail whose points differ isn't back at its first side
+  pub distinct-away : (i n : ℕ) (s : Side) → are_distinct (trail next s n) ≡ true → suc i ≤ n → steps next (suc i) s ≢ s
+  distinct-away i zero s distinct within same = absurd (omega arith)
+  distinct-away i (suc n) s distinct within same =
+      let others = trail next (next s) n in
+      let point = (steps next i (next s)).0 in
+      let equal : (s.0 == point) ≡ true = ap (λ (t : Side). s.0 == t.0) same ∙ nat_eq_equiv.refl s.0 in
+      let some = list_any-Contains (λ p. s.0 == p) others point (trail-Contains i n (next s) (omega arith)) equal in
+      true≢false (sym (and_parts (not (list_any (λ p. s.0 == p) others)) (are_distinct others) distinct).0 ∙ ap not some)
+
+  pub runs_back-later : (m n : ℕ) (s : Side) → runs_back next s (m + n) ≡ true → runs_back next (steps next m s) n ≡ true
+  runs_back-later zero n s runs = let e : n ≡ 0 + n = omega arith in ap (λ (k : ℕ). runs_back next s k) e ∙ runs
+  runs_back-later (suc m) n s runs =
+      let more : suc (m + n) ≡ suc m + n = omega arith in
+      let e : runs_back next s (suc (m + n)) ≡ true = ap (λ (k : ℕ). runs_back next s k) more ∙ runs in
+      runs_back-later m n (next s) (and_parts (turns_back next s) (runs_back next (next s) (m + n)) e).1
+
+  module _ (joins : (s : Side) → (next s).0 ≡ s.1) where
+    -- Where the opposites follow one another backwards, so many steps back lead to the opposite of the first side.
+    pub steps-back : (n : ℕ) (s : Side) → runs_back next s n ≡ true → steps next n (opposite (steps next n s)) ≡ opposite s
+    steps-back zero s runs = refl
+    steps-back (suc n) s runs =
+        let parts = and_parts (turns_back next s) (runs_back next (next s) n) runs in
+        let t = opposite (steps next n (next s)) in
+        let turned : next (opposite (next s)) ≡ opposite s = λ i. ((joins (opposite (next s)) ∙ joins s) i, eqb-true (next (opposite (next s))).1 s.0 parts.0 i) in
+        step-last n t ∙ ap next (steps-back n (next s) parts.1) ∙ turned
+
+    -- and the trail back has the points in the other order
+    pub trail-back : (n : ℕ) (s : Side) → runs_back next s n ≡ true → trail next (opposite (steps next n s)) (suc n) ≡ reverse (trail next s (suc n))
+    trail-back zero s runs = (λ i. s.1 ∷ joins (opposite s) i ∷ []) ∙ sym (reverse-more s.0 ((next s).0 ∷ []) ∙ (λ i. joins s i ∷ s.0 ∷ []))
+    trail-back (suc n) s runs =
+        let parts = and_parts (turns_back next s) (runs_back next (next s) n) runs in
+        let t = opposite (steps next n (next s)) in
+        let last : (steps next (suc (suc n)) t).0 ≡ s.0 =
+        ap (λ (u : Side). u.0) (step-last (suc n) t) ∙ joins (steps next (suc n) t) ∙ ap (λ (u : Side). u.1) (steps-back (suc n) s runs) in
+        trail-end (suc n) t ∙ (λ i. trail-back n (next s) parts.1 i ++ last i ∷ []) ∙ sym (reverse-more s.0 (trail next (next s) (suc n)))
+
+    -- The other way round: where a trail from t has the points of one from s in the other order, its sides are the opposites.
+    pub runs_back-from : (n : ℕ) (s t : Side) → trail next t (suc n) ≡ reverse (trail next s (suc n)) → (runs_back next s n ≡ true) × (steps next n t ≡ opposite s)
+    runs_back-from zero s t same =
+        let e : t.0 ∷ t.1 ∷ [] ≡ s.1 ∷ s.0 ∷ [] = (λ i. t.0 ∷ sym (joins t) i ∷ []) ∙ same ∙ reverse-more s.0 ((next s).0 ∷ []) ∙ (λ i. joins s i ∷ s.0 ∷ []) in
+        let first : t.0 ≡ s.1 = cc in
+        let second : t.1 ≡ s.0 = cc in
+        (refl, λ i. (first i, second i))
+    runs_back-from (suc n) s t same =
+        let e = sym (trail-end (suc n) t) ∙ same ∙ reverse-more s.0 (trail next (next s) (suc n)) in
+        let parts = push-same (trail next t (suc n)) (reverse (trail next (next s) (suc n))) (steps next (suc (suc n)) t).0 s.0 e in
+        let rest = runs_back-from n (next s) t parts.0 in
+        let on : steps next (suc n) t ≡ next (opposite (next s)) = step-last n t ∙ ap next rest.1 in
+        let back : (next (opposite (next s))).1 ≡ s.0 = ap (λ (u : Side). u.1) (sym on) ∙ sym (joins (steps next (suc n) t)) ∙ ap (λ (u : Side). u.0) (sym (step-last (suc n) t)) ∙ parts.1 in
+        let turns : turns_back next s ≡ true = ap (λ (p : ℕ). p == s.0) back ∙ nat_eq_equiv.refl s.0 in
+        (and_from (turns_back next s) (runs_back next (next s) n) turns rest.0, on ∙ (λ i. ((joins (opposite (next s)) ∙ joins s) i, back i)))

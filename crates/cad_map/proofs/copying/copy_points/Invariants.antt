@@ -1,0 +1,6 @@
+use Rattle.std.proofs.Common.{◌≡◌, take}
+use Rattle.cad_map.proofs.copying.copy_points.Given as goal
+
+-- the points up to the place are put
+abbrev pub invariant-loop-place : goal.invariant-loop-place
+invariant-loop-place g l = l.made ≡ record l.initial.made { points = take l.place (g.M.MapView.map l.view).points }

@@ -1,0 +1,161 @@
+//! Corners of a face's rings: the one that a chain leaves at a point, and whether two of them are in one ring.
+ghost use Rattle.std.specs.Prelude.{◌≡◌, ◌⊎◌, ◌<◌, ◌&&◌, [], ◌∷◌, Some, length, IsTrue};
+ghost use Rattle.std.specs.List.{Contains, list_any};
+ghost use Rattle.cad_rows.specs.declared.names.Face.{Face as FaceOf};
+ghost use Rattle.cad_rings.specs.Cycle.{is_side, has_side, sides_of};
+ghost use Rattle.cad_rings.specs.Surgery.{corner as corner_of};
+ghost use Rattle.cad_map.specs.Chain.{leaving, has_in_sector as has_in_sector_of, chosen_corner as chosen_corner_of};
+ghost use Rattle.cad_map.specs.Choice.{MayBeChosen, IsFirst};
+ghost use Rattle.cad_map.specs.Map.{has_point, rings_at, rings_of, face_corners};
+ghost use Rattle.cad_map.specs.Rings.{HasWholeRings, ring_at};
+ghost use Rattle.cad_map.specs.Valid.{IsValid};
+
+use crate::rings::{position, ring_count};
+use crate::store::MapView;
+use crate::walk::Walk;
+use cad_rows::{Face, PointNo};
+use geo_exact::in_sector;
+use std::marker::Model;
+
+/// A point of a ring, with the one before it and the one after it.
+#[derive(Clone, Copy, Debug, PartialEq, Eq)]
+pub struct Corner {
+    pub before: PointNo,
+    pub at: PointNo,
+    pub after: PointNo,
+}
+
+impl Model for Corner {
+    ghost use Rattle.cad_rings.specs.Cycle.{Corner};
+
+    ghost Value = { Corner };
+
+    ghost view = { λ c. record { before = c.before; at = c.at; after = c.after } };
+
+    ghost inverse = { λ c. record { before = c.before; at = c.at; after = c.after } };
+}
+
+/// The corner of a face at a point whose sector has another point; of several, the one whose following point has the
+/// least number. `None` where no corner at the point has the other in its sector. Takes no memory.
+#[tactic(auto, using(crate::proofs::RingsOfMap::whole_valid))]
+pub fn chosen_corner<M: MapView>(
+    map: &M,
+    face: &Face,
+    at: PointNo,
+    towards: PointNo,
+) -> Option<Corner>
+    requires valid { IsValid (M.map map.now) }
+    requires towards_there { IsTrue (has_point (M.map map.now) towards) }
+    ensures { result ≡ chosen_corner_of (M.map map.now) face.now at towards }
+{
+    let mut chosen = None;
+    for place in 0..ring_count(map, face) {
+        chosen = first_by_after(chosen, chosen_in_ring(map, face, place, at, towards));
+    }
+    chosen
+}
+
+/// The corner of a ring of a face at a point whose sector has another point; of several, the one whose following point
+/// has the least number.
+fn chosen_in_ring<M: MapView>(
+    map: &M,
+    face: &Face,
+    place: usize,
+    at: PointNo,
+    towards: PointNo,
+) -> Option<Corner>
+    requires whole { HasWholeRings (M.map map.now) }
+    requires there { place < length (rings_at face.now (M.rings map.now)) }
+    requires towards_there { IsTrue (has_point (M.map map.now) towards) }
+    ensures { IsFirst (MayBeChosen (M.map map.now) at towards (sides_of (ring_at (M.rings map.now) face.now place))) result }
+{
+    let (start, end) = map.ring_side(*face, place).unwrap();
+    let mut chosen = None;
+    for (from, to) in Walk::from(map, start, end) {
+        chosen = first_by_after(chosen, corner_after(map, from, to, at, towards));
+    }
+    chosen
+}
+
+/// The corner after a side, where it is at a point and its sector has another point.
+fn corner_after<M: MapView>(
+    map: &M,
+    from: PointNo,
+    to: PointNo,
+    at: PointNo,
+    towards: PointNo,
+) -> Option<Corner>
+    requires whole { HasWholeRings (M.map map.now) }
+    requires towards_there { IsTrue (has_point (M.map map.now) towards) }
+    ensures { IsFirst (MayBeChosen (M.map map.now) at towards ((from, to) ∷ [])) result }
+{
+    if to.get() != at.get() {
+        return None;
+    }
+    let after = map.after(from, to)?;
+    if has_in_sector(map, from, to, after, towards) {
+        Some(Corner {
+            before: from,
+            at: to,
+            after,
+        })
+    } else {
+        None
+    }
+}
+
+/// Whether the sector of a corner has a point.
+fn has_in_sector<M: MapView>(
+    map: &M,
+    before: PointNo,
+    at: PointNo,
+    after: PointNo,
+    towards: PointNo,
+) -> bool
+    requires before_there { IsTrue (has_point (M.map map.now) before) }
+    requires at_there { IsTrue (has_point (M.map map.now) at) }
+    requires after_there { IsTrue (has_point (M.map map.now) after) }
+    requires towards_there { IsTrue (has_point (M.map map.now) towards) }
+    ensures { result ≡ has_in_sector_of (M.map map.now) (corner_of before at after) towards }
+{
+    in_sector(
+        position(map, at),
+        position(map, after),
+        position(map, before),
+        position(map, towards),
+    )
+}
+
+/// Of two corners, each of which may be missing, the one whose following point has the lesser number.
+fn first_by_after(one: Option<Corner>, other: Option<Corner>) -> Option<Corner>
+    ensures { IsFirst (λ c. (one ≡ Some c) ⊎ (other ≡ Some c)) result }
+{
+    let Some(a) = one else { return other };
+    let Some(b) = other else { return one };
+    if b.after.get() < a.after.get() {
+        other
+    } else {
+        one
+    }
+}
+
+/// Whether the side that leaves a corner is the one from a point to another.
+fn leaves_by(corner: &Corner, from: PointNo, to: PointNo) -> bool
+    ensures { result ≡ is_side (leaving corner.now) (from, to) }
+{
+    corner.at.get() == from.get() && corner.after.get() == to.get()
+}
+
+/// Whether the sides that leave two corners are in one ring. Takes no memory.
+pub fn are_in_one_ring<M: MapView>(map: &M, first: &Corner, last: &Corner) -> bool
+    requires { IsValid (M.map map.now) }
+    ensures { (face : FaceOf) → Contains (face_corners (M.map map.now) face) first.now
+        → result ≡ list_any (λ r. has_side (leaving first.now) (sides_of r) && has_side (leaving last.now) (sides_of r)) (rings_of (M.map map.now) face) }
+{
+    for (from, to) in Walk::from(map, first.at, first.after) {
+        if leaves_by(last, from, to) {
+            return true;
+        }
+    }
+    false
+}

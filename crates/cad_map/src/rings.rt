@@ -1,0 +1,55 @@
+//! The rings of a face of any map, each walked along its sides.
+ghost use Rattle.std.specs.Prelude.{◌≡◌, ◌<◌, length, IsTrue};
+ghost use Rattle.cad_map.specs.Boundaries.{listed};
+ghost use Rattle.cad_map.specs.Map.{rings_at, position_of, has_point, has_face as has_face_of, sum_of_ring};
+ghost use Rattle.cad_map.specs.Rings.{HasWholeRings, ring_at};
+
+use crate::store::MapView;
+use crate::walk::Walk;
+use cad_rows::{Face, PointNo};
+use geo_exact::{Pt, SideMeasure};
+
+/// The position of a point of the map.
+pub fn position<M: MapView>(map: &M, no: PointNo) -> Pt
+    requires { IsTrue (has_point (M.map map.now) no) }
+    ensures { result ≡ position_of (M.map map.now) no }
+{
+    map.point(no).unwrap().position
+}
+
+/// Whether a face is the outside or a parcel of the map.
+pub(crate) fn has_face<M: MapView>(map: &M, face: &Face) -> bool
+    ensures { result ≡ has_face_of (M.map map.now) face.now }
+{
+    match face {
+        Face::Outside => true,
+        Face::Parcel(no) => map.parcel(*no).is_some(),
+    }
+}
+
+/// How many rings a face has: they stand at the places before it.
+pub fn ring_count<M: MapView>(map: &M, face: &Face) -> usize
+    requires { HasWholeRings (M.map map.now) }
+    ensures count { result ≡ length (rings_at face.now (M.rings map.now)) }
+    ensures listed { listed (M.rings map.now) ≡ (M.map map.now).boundaries }
+{
+    let mut count = 0;
+    while map.ring_side(*face, count).is_some() {
+        count += 1;
+    }
+    count
+}
+
+/// The measures of the sides of a face's ring at a place, added up. Takes no memory.
+pub fn ring_sum<M: MapView, F: SideMeasure>(map: &M, face: &Face, place: usize, measure: &F) -> i128
+    requires whole { HasWholeRings (M.map map.now) }
+    requires there { place < length (rings_at face.now (M.rings map.now)) }
+    ensures { result ≡ sum_of_ring (F.measure measure.now) (M.map map.now) (ring_at (M.rings map.now) face.now place) }
+{
+    let (from, to) = map.ring_side(*face, place).unwrap();
+    let mut sum = 0;
+    for (a, b) in Walk::from(map, from, to) {
+        sum += measure.of(position(map, a), position(map, b));
+    }
+    sum
+}

@@ -1,9 +1,0 @@
-use Rattle.std.proofs.Common.{◌≡◌}
-use Rattle.geo_exact.specs.Measure.{doubled_area, sum_over}
-use Rattle.cad_rings.specs.Cycle.{placed}
-use Rattle.cad_map.specs.Map.{position_of}
-use Rattle.cad_valid.proofs.rings.doubled_area_of.Given as goal
-
--- the measures of the sides so far, added up
-abbrev pub invariant-loop-a : goal.invariant-loop-a
-invariant-loop-a g l = l.sum ≡ sum_over doubled_area (placed (position_of (g.M.MapView.map l.map)) l.yielded)
