@@ -31,3 +31,4 @@ pub mod NoOtherLabel
 pub mod BuiltAgain
 pub mod BuiltMap
 mod OutlineFacts
+mod FollowedRows

@@ -61,3 +61,4 @@ pub mod AllFaces
 pub mod RowsInTurn
 pub mod AllowedParcels
 pub mod Kept
+mod WorkedCosts

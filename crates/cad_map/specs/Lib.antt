@@ -18,3 +18,5 @@ pub mod Crossings
 pub mod Rings
 pub mod Outline
 pub mod Trails
+pub mod Costs
+pub mod Touched

@@ -1,0 +1,49 @@
+-- What an edit touched: whatever isn't named stands after it as it stood before.
+use Rattle.std.specs.Prelude.{◌≡◌, ℕ, ◌==◌, ◌↔◌, List, filter, map, ◌⊎◌, IsTrue}
+use Rattle.std.specs.List.{AllByRecursion, Contains}
+use Rattle.cad_rows.specs.declared.rows.StringRow.{StringRow}
+use Rattle.cad_rows.specs.declared.names.Face.{Face}
+use Rattle.cad_rings.specs.Cycle.{Corner}
+use Rattle.cad_map.specs.Map.{Map, has_point, has_face, position_of, strings_at, far_end, rings_of, all_corners}
+
+-- points, strings and faces
+pub record Touched : Type 0 where
+  pub points : List ℕ
+  pub strings : List ℕ
+  pub faces : List Face
+
+-- the points at the other ends of a point's strings
+abbrev pub neighbours : Map → ℕ → List ℕ
+neighbours m p = map (λ s. far_end s p) (strings_at m p)
+
+abbrev pub corners_at : Map → ℕ → List Corner
+corners_at m p = filter (λ c. c.at == p) (all_corners m)
+
+-- the point was there, at the same position, with the same strings and corners
+pub record PointStands (old new : Map) (p : ℕ) : Type 0 where
+  pub there : IsTrue (has_point old p)
+  pub position : position_of new p ≡ position_of old p
+  pub strings : (q : ℕ) → Contains (neighbours new p) q ↔ Contains (neighbours old p) q
+  pub corners : (c : Corner) → Contains (corners_at new p) c ↔ Contains (corners_at old p) c
+
+-- the string was there, with the same ends at the same positions
+pub record StringStands (old new : Map) (s : StringRow) : Type 0 where
+  pub before : StringRow
+  pub there : Contains old.strings before
+  pub number : before.number ≡ s.number
+  pub from : before.from ≡ s.from
+  pub to : before.to ≡ s.to
+  pub from_position : position_of new s.from ≡ position_of old s.from
+  pub to_position : position_of new s.to ≡ position_of old s.to
+
+-- the face was there, with the same rings of points at the same positions
+pub record FaceStands (old new : Map) (f : Face) : Type 0 where
+  pub there : IsTrue (has_face old f)
+  pub rings : rings_of new f ≡ rings_of old f
+  pub positions : AllByRecursion (λ ring. AllByRecursion (λ p. position_of new p ≡ position_of old p) ring) (rings_of old f)
+
+-- between the two maps no more was touched than this
+pub record IsTouched (old new : Map) (t : Touched) : Type 0 where
+  pub points : (p : ℕ) → IsTrue (has_point new p) → Contains t.points p ⊎ PointStands old new p
+  pub strings : AllByRecursion (λ s. Contains t.strings s.number ⊎ StringStands old new s) new.strings
+  pub faces : (f : Face) → IsTrue (has_face new f) → Contains t.faces f ⊎ FaceStands old new f
