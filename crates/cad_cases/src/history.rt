@@ -1,8 +1,8 @@
-//! The editor on a plain map: depth, undo and redo, and refusals.
+//! A list of commands run by the editor on a plain map.
 use cad_edit::PlainStore;
-use cad_history::{Answer, Command, DEPTH_LIMIT, Depth, Editor, run};
+use cad_history::{Answer, Command, Depth, Editor, run};
 use cad_map::{MapView, PlainMap};
-use cad_rows::{Edit, Label, Name, PointNo, Refusal, SourceNo};
+use cad_rows::{Edit, Label, SourceNo};
 use std::alloc::Global;
 use std::test::Fail;
 
@@ -45,64 +45,5 @@ fn undoes_one_edit_at_depth_one(rt: HostRuntime) -> Result<(), Fail> {
     assert_eq!(rt; editor.map().counts().sources, 2);
     assert!(rt; editor.can_undo());
     assert!(rt; !editor.can_redo());
-    Ok(())
-}
-
-#[test]
-fn undoes_to_the_depth(rt: HostRuntime) -> Result<(), Fail> {
-    let alloc = rt.alloc();
-    let depth = Depth::new(2).ok_or("depth")?;
-    let opened = Editor::open(alloc, empty(alloc), depth);
-    let mut editor = opened.ok().ok_or("memory")?;
-    let commands = [
-        add(alloc, 5)?,
-        add(alloc, 6)?,
-        add(alloc, 7)?,
-        Command::Undo,
-        Command::Undo,
-        Command::Undo,
-        add(alloc, 8)?,
-        Command::Undo,
-        Command::Undo,
-    ];
-    let answers = run(alloc, &mut editor, &commands)?;
-    let wanted = [
-        Answer::Done,
-        Answer::Done,
-        Answer::Done,
-        Answer::Done,
-        Answer::Done,
-        Answer::Nothing,
-        Answer::Done,
-        Answer::Done,
-        Answer::Nothing,
-    ];
-    assert_eq!(rt; answers.as_slice(), wanted.as_slice());
-    assert_eq!(rt; editor.map().counts().sources, 1);
-    Ok(())
-}
-
-#[test]
-fn keeps_redo_over_a_refusal(rt: HostRuntime) -> Result<(), Fail> {
-    let alloc = rt.alloc();
-    let depth = Depth::new(DEPTH_LIMIT).ok_or("depth")?;
-    let opened = Editor::open(alloc, empty(alloc), depth);
-    let mut editor = opened.ok().ok_or("memory")?;
-    let point = PointNo::new(9).ok_or("number")?;
-    let commands = [
-        add(alloc, 5)?,
-        Command::Undo,
-        Command::Edit(Edit::DropPoint { point }),
-        Command::Redo,
-    ];
-    let answers = run(alloc, &mut editor, &commands)?;
-    let wanted = [
-        Answer::Done,
-        Answer::Done,
-        Answer::Refused(Refusal::Unknown(Name::Point(point))),
-        Answer::Done,
-    ];
-    assert_eq!(rt; answers.as_slice(), wanted.as_slice());
-    assert_eq!(rt; editor.map().counts().sources, 1);
     Ok(())
 }
