@@ -43,19 +43,34 @@ pub(crate) fn lines(alloc: Global, records: &[&str]) -> Result<Vec<u8>, Fail> {
     Ok(text)
 }
 
+/// Runs a job at a depth, and compares what it wrote and how it ended.
+fn check_job<R: Abort + AllocGlobal>(
+    rt: &R,
+    name: &str,
+    depth: usize,
+    job: &[u8],
+    answers: &[u8],
+    end: &Result<(), JobFault>,
+) {
+    let depth = Depth::new(depth).expect(rt, "a depth");
+    let mut sink = MemSink::new(rt.alloc(), u64::MAX);
+    let ended = run_job(rt.alloc(), job, &mut sink, depth);
+    assert!(rt; ended == *end, "how {name} ends");
+    assert!(rt; sink.bytes() == answers, "what {name} writes");
+}
+
 /// Runs each job, and compares what it wrote and how it ended.
 pub(crate) fn check<R: Abort + AllocGlobal>(rt: &R, cases: &[Case]) -> Result<(), Fail> {
     for case in cases {
         let job = lines(rt.alloc(), case.job)?;
         let answers = lines(rt.alloc(), case.answers)?;
-        let depth = Depth::new(case.depth).expect(rt, "a depth");
-        let mut sink = MemSink::new(rt.alloc(), u64::MAX);
-        let end = run_job(rt.alloc(), job.as_slice(), &mut sink, depth);
-        assert_eq!(rt; end, case.end, "how {} ends", case.name);
-        assert!(rt;
-            sink.bytes() == answers.as_slice(),
-            "what {} writes",
-            case.name
+        check_job(
+            rt,
+            case.name,
+            case.depth,
+            job.as_slice(),
+            answers.as_slice(),
+            &case.end,
         );
     }
     Ok(())
@@ -71,7 +86,7 @@ pub(crate) struct Parts {
 }
 
 /// The records of all parts as lines.
-fn all_lines(alloc: Global, parts: &[&[&str]]) -> Result<Vec<u8>, Fail> {
+pub(crate) fn all_lines(alloc: Global, parts: &[&[&str]]) -> Result<Vec<u8>, Fail> {
     let mut text = Vec::new(alloc);
     for part in parts {
         let more = lines(alloc, part)?;
@@ -85,14 +100,13 @@ pub(crate) fn check_parts<R: Abort + AllocGlobal>(rt: &R, cases: &[Parts]) -> Re
     for case in cases {
         let job = all_lines(rt.alloc(), case.job)?;
         let answers = all_lines(rt.alloc(), case.answers)?;
-        let depth = Depth::new(100).expect(rt, "a depth");
-        let mut sink = MemSink::new(rt.alloc(), u64::MAX);
-        let end = run_job(rt.alloc(), job.as_slice(), &mut sink, depth);
-        assert_eq!(rt; end, case.end, "how {} ends", case.name);
-        assert!(rt;
-            sink.bytes() == answers.as_slice(),
-            "what {} writes",
-            case.name
+        check_job(
+            rt,
+            case.name,
+            100,
+            job.as_slice(),
+            answers.as_slice(),
+            &case.end,
         );
     }
     Ok(())

@@ -18,6 +18,8 @@ mod enclosing;
 #[cfg(test)]
 mod faults;
 #[cfg(test)]
+mod history;
+#[cfg(test)]
 mod merging;
 #[cfg(test)]
 mod plans;

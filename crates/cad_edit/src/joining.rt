@@ -8,8 +8,8 @@ ghost use Rattle.cad_map.specs.Map.{string_of, degree};
 ghost use Rattle.cad_map.specs.Valid.{IsValid};
 ghost use Rattle.cad_map.specs.Changes.{both_sources, join as join_of};
 
-use crate::meeting::{far_end, is_among, two_at};
-use cad_map::{Boundary, PlainMap};
+use crate::meeting::{is_among, two_at};
+use cad_map::{Boundary, PlainMap, far_end};
 use cad_rows::{Memory, Numbers, PointNo, SourceNo, StringNo, StringRow};
 
 /// Joins the two strings at a point, and takes the point out.

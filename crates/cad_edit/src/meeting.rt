@@ -1,30 +1,12 @@
 //! The strings that meet in a point.
 ghost use Rattle.std.specs.Prelude.{◌≡◌, ◌≤◌, ◌==◌, not, ◌∷◌, [], length, drop, filter, IfSome, IfNone};
 ghost use Rattle.std.specs.List.{list_any};
-ghost use Rattle.cad_map.specs.Map.{is_end as is_end_of, strings_at, degree, far_end as far_end_of};
+ghost use Rattle.cad_map.specs.Map.{is_end as is_end_of, strings_at, degree};
 ghost use Rattle.cad_map.specs.Valid.{IsValid};
 ghost use Rattle.cad_map.specs.Changes.{by_number, both_sources, joined_sources};
 
-use cad_map::MapView;
+use cad_map::{MapView, is_end};
 use cad_rows::{Numbers, PointNo, SourceNo, StringRow};
-
-/// Whether a string leads from a point or to it.
-pub(crate) fn is_end(string: &StringRow, point: PointNo) -> bool
-    ensures { result ≡ is_end_of string.now point }
-{
-    string.from.get() == point.get() || string.to.get() == point.get()
-}
-
-/// The other end of a string that ends at a point.
-pub(crate) fn far_end(string: &StringRow, point: PointNo) -> PointNo
-    ensures { result ≡ far_end_of string.now point }
-{
-    if string.from.get() == point.get() {
-        string.to
-    } else {
-        string.from
-    }
-}
 
 /// The first string from a place on that ends at a point, and the place behind it.
 fn next_at<M: MapView>(map: &M, point: PointNo, start: usize) -> Option<(&StringRow, usize)>

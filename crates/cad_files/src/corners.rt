@@ -2,7 +2,7 @@
 ghost use Rattle.std.specs.Prelude.{◌≡◌, ◌≢◌, ◌∷◌, ◌++◌, [], ◌||◌, ◌&&◌, ◌==◌, true, false, IfOk, IfErr, OnOk, IfSome, IfNone, map, filter, None, Some, option_map, List, ℕ};
 ghost use Rattle.std.specs.List.{list_all, list_any, AllByRecursion};
 ghost use Rattle.cad_rings.specs.Cycle.{is_side};
-ghost use Rattle.cad_map.specs.Map.{is_end as is_end_of, far_end as far_end_of, position_of};
+ghost use Rattle.cad_map.specs.Map.{position_of};
 ghost use Rattle.cad_files.specs.Follower.{once_each, followers, labelled_sides};
 ghost use Rattle.cad_files.specs.Building.{is_bad_corner, bad_corner};
 ghost use Rattle.cad_files.specs.Corners.{far_ends as far_ends_of, leaves_open as leaves_open_in, may_follow_among, found_of, with_point, plan_side_of, labelled, HasFollower, passed_sides};
@@ -10,8 +10,8 @@ ghost use Rattle.cad_files.specs.declared.faults.PlanFault.TheVariants as faults
 
 use crate::faults::PlanFault;
 use crate::rows::PlanString;
-use cad_map::{MapView, PlainMap};
-use cad_rows::{Face, Memory, PointNo, StringNo, StringRow};
+use cad_map::{MapView, PlainMap, far_end, is_end};
+use cad_rows::{Face, Memory, PointNo, StringNo};
 use geo_exact::{Pt, in_sector};
 use std::alloc::Global;
 
@@ -65,22 +65,6 @@ fn found_with(found: Found, point: PointNo) -> Found
 }
 
 // ---- Strings at a point
-
-fn is_end(row: &StringRow, point: PointNo) -> bool
-    ensures { result ≡ is_end_of row.now point }
-{
-    row.from.get() == point.get() || row.to.get() == point.get()
-}
-
-fn far_end(row: &StringRow, point: PointNo) -> PointNo
-    ensures { result ≡ far_end_of row.now point }
-{
-    if row.from.get() == point.get() {
-        row.to
-    } else {
-        row.from
-    }
-}
 
 // The points that the strings at a point lead to.
 fn far_ends(alloc: Global, plain: &PlainMap, at: PointNo) -> Result<Vec<PointNo>, Memory>

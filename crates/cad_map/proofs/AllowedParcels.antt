@@ -1,23 +1,21 @@
 -- What is known of a division, a merger and an enclosure that aren't refused at once.
-use Rattle.std.proofs.Common.{◌≡◌, ◌≢◌, ℕ, ◌+◌, ◌-◌, ◌≤◌, List, [], ◌∷◌, ◌++◌, length, Bool, true, false, cond, not, nat_eq, nat_lt, nat_le, ◌==◌, ◌||◌, map, Option, Some, None, is_some, option_map, refl, sym, ap, ◌∙◌, true≢false, arith}
+use Rattle.std.proofs.Common.{◌≡◌, ℕ, ◌+◌, ◌-◌, ◌≤◌, List, [], ◌∷◌, ◌++◌, length, Bool, true, false, cond, not, nat_lt, nat_le, ◌==◌, ◌||◌, Option, Some, None, option_map, refl, sym, ap, ◌∙◌, true≢false, arith}
 use Rattle.std.proofs.lemmas.Bool.{eqb-true}
 use Rattle.std.proofs.lemmas.Bool.Decides.{nat_tests}
 use Rattle.std.specs.Prelude.{find, IsTrue}
-use Rattle.std.specs.List.{AllByRecursion, list_any}
+use Rattle.std.specs.List.{AllByRecursion}
 use Rattle.cad_rows.specs.Limits.{row_limit, string_limit, IsNumber, IsLabel}
 use Rattle.cad_rows.specs.declared.edits.Edit.TheVariants.{Divide, Merge, Enclose}
 use Rattle.cad_rows.specs.declared.names.Face.{Face}
 use Rattle.cad_rows.specs.declared.names.Face.TheVariants.{Outside, Parcel}
 use Rattle.cad_rows.specs.declared.names.Name.{Name}
 use Rattle.cad_rows.specs.declared.names.Name.TheVariants as name
-use Rattle.cad_rows.specs.declared.refusals.Refusal.{Refusal}
 use Rattle.cad_rows.specs.declared.refusals.Refusal.TheVariants as told
 use Rattle.cad_rings.specs.Cycle.{Corner}
-use Rattle.cad_map.specs.Boundaries.{is_face}
 use Rattle.cad_map.specs.Chain.{start_of, next_of, end_of, last_but_one, inner_of, are_distinct, chosen_corner}
-use Rattle.cad_map.specs.Map.{Map, has_face, has_point, has_parcel, parcel_of, string_of, is_free}
+use Rattle.cad_map.specs.Map.{Map, has_face, has_point, parcel_of, string_of, is_free}
 use Rattle.cad_map.specs.Merger.{Seam, seams}
-use Rattle.cad_map.specs.Refusals.{when, first_of, is_there, face_named, points_named, strings_named, first_not_free, missing, have_one_ring, is_bad_chain}
+use Rattle.cad_map.specs.Refusals.{first_of, is_there, face_named, points_named, strings_named, first_not_free, missing, have_one_ring, is_bad_chain}
 use Rattle.cad_map.proofs.Allowed.{IsAllowed, not-when, none-from_some, free-each, room}
 use Rattle.cad_map.proofs.Lists.{All-append}
 use Rattle.cad_map.proofs.KeptRows.{or-none, differs}

@@ -1,8 +1,7 @@
 -- The sums of all faces of a map add up to nothing.
-use Rattle.std.proofs.Common.{◌≡◌, ◌≢◌, ℕ, refl, sym, ap, ◌∙◌, List, [], ◌∷◌, ◌++◌, map, Bool, true, false, true≢false, ◌+ℤ◌, ℤ, pos, arith, nat_eq}
+use Rattle.std.proofs.Common.{◌≡◌, ◌≢◌, ℕ, refl, sym, ap, ◌∙◌, List, [], ◌∷◌, map, Bool, true, false, true≢false, ◌+ℤ◌, ℤ, pos, arith, nat_eq}
 use Rattle.std.proofs.lemmas.Int.{ints}
 use Rattle.std.proofs.lemmas.Bool.{eqb-true}
-use Rattle.std.proofs.lemmas.Cmp.{nat_eq_equiv}
 use Rattle.std.specs.Prelude.{flat_map, if◌then◌else◌, IsTrue, is_some}
 use Rattle.std.specs.List.{AllByRecursion}
 use Rattle.geo_exact.specs.Position.{Position}
@@ -14,11 +13,10 @@ use Rattle.cad_rings.specs.Cycle.{Side, sides_of, placed}
 use Rattle.cad_rings.proofs.CallerLemmas.{sum-append, sum-permuted, sum-both_ways}
 use Rattle.cad_map.specs.declared.boundary.Boundary.{Boundary}
 use Rattle.cad_map.specs.Boundaries.{is_face, sides_in}
-use Rattle.cad_map.specs.Map.{Map, faces, has_face, rings_at, face_sides, all_sides, position_of, side_of, string_sides, sum_of_face}
+use Rattle.cad_map.specs.Map.{Map, faces, has_face, rings_at, all_sides, position_of, side_of, string_sides}
 use Rattle.cad_map.specs.Table.{row_with}
 use Rattle.cad_map.specs.Valid.{EachPair, IsSound}
-use Rattle.cad_map.specs.Sums.{total, sum_of_faces, IsBalanced}
-use Rattle.cad_map.proofs.Looks.{is_face-refl}
+use Rattle.cad_map.specs.Sums.{total, IsBalanced}
 use Rattle.cad_map.proofs.ChainFacts.{sides-from_ends}
 
 -- ---- Each ring is of one face

@@ -1,17 +1,16 @@
 -- The corners of rings at one point, and the sides that a ring has with and without the point.
-use Rattle.std.proofs.Common.{◌≡◌, ◌≢◌, ℕ, zero, suc, ◌+◌, ◌≤◌, ◌⊎◌, inl, inr, refl, sym, ap, subst, ◌∙◌, List, [], ◌∷◌, ◌++◌, length, map, filter, Bool, true, false, cond, ◌==◌, arith}
+use Rattle.std.proofs.Common.{◌≡◌, ◌≢◌, ℕ, ◌+◌, ◌≤◌, ◌⊎◌, inl, inr, refl, sym, ap, subst, ◌∙◌, List, [], ◌∷◌, ◌++◌, length, map, filter, Bool, true, false, cond, ◌==◌, arith}
 use Rattle.std.specs.Prelude.{IsPermutation, sum_by, count_by, flat_map}
 use Rattle.std.specs.List.{Contains}
-use Rattle.std.proofs.lemmas.Bool.{eqb-true, eq-eqb}
+use Rattle.std.proofs.lemmas.Bool.{eqb-true}
 use Rattle.std.proofs.lemmas.List.Sums.{sum_by-cons, sum_by-append}
 use Rattle.std.proofs.lemmas.List.Sorted.{IsPermutation-refl, IsPermutation-cons, IsPermutation-trans, IsPermutation-middle, IsPermutation-sym, sum_by-IsPermutation, Contains-permutation}
-use Rattle.std.proofs.lemmas.List.Elements.{Contains-append_cases, Contains-append_left, Contains-append_right}
 use Rattle.cad_rings.specs.Cycle.{Ring, Side, is_side, sides_of, sides_along, times_through, Corner, corners_of}
 use Rattle.cad_rings.specs.Surgery.{without}
 use Rattle.cad_rings.proofs.CallerLemmas.{without-none, sides_of-without}
-use Rattle.cad_map.proofs.Elements.{Contains-cases, Contains-first, Contains-later, count-map, count-some, count-yes}
+use Rattle.cad_map.proofs.Elements.{Contains-cases, Contains-first, Contains-later, count-map}
 use Rattle.cad_map.proofs.ElementFacts.{filter-Contains}
-use Rattle.cad_map.proofs.Counted.{times, times-append, times-cons, times-permuted, parted-at}
+use Rattle.cad_map.proofs.Counted.{parted-at}
 use Rattle.cad_map.proofs.Walks.{side_before, side_behind, sides-before, is_side-refl}
 
 -- ---- Two elements

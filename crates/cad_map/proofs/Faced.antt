@@ -1,12 +1,12 @@
 -- Where each string has two faces beside it, and rings that are complete however they are listed.
-use Rattle.std.proofs.Common.{◌≡◌, ◌≢◌, ℕ, ◌≤◌, inl, inr, refl, sym, ap, subst, ◌∙◌, List, length, map, Option, Some, None, true≢false, true}
-use Rattle.std.specs.Prelude.{flat_map, IsPermutation}
+use Rattle.std.proofs.Common.{◌≡◌, ◌≢◌, ℕ, ◌≤◌, inl, inr, refl, sym, ap, subst, ◌∙◌, List, length, map, Option, Some, None, true≢false}
+use Rattle.std.specs.Prelude.{IsPermutation}
 use Rattle.std.specs.List.{AllByRecursion, Contains}
 use Rattle.std.proofs.lemmas.Option.{same_Some}
 use Rattle.std.proofs.lemmas.List.Sorted.{IsPermutation-sym, IsPermutation-trans, Contains-permutation}
 use Rattle.cad_rows.specs.declared.names.Face.{Face}
 use Rattle.cad_rows.specs.declared.rows.StringRow.{StringRow}
-use Rattle.cad_rings.specs.Cycle.{Side, opposite, sides_of, has_side}
+use Rattle.cad_rings.specs.Cycle.{Side, opposite, sides_of}
 use Rattle.cad_rings.specs.Shown.{least_rotation}
 use Rattle.cad_rings.proofs.CallerLemmas.{sides_of-least_rotation, IsSameRing-least_rotation, IsSameRing-length}
 use Rattle.cad_map.specs.declared.boundary.Boundary.{Boundary}
@@ -14,7 +14,7 @@ use Rattle.cad_map.specs.Boundaries.{shown, listed, sides_in}
 use Rattle.cad_map.specs.Map.{Map, side_of, string_sides, all_sides, face_at, left_face, right_face}
 use Rattle.cad_map.specs.Valid.{IsValid, HasCompleteRings}
 use Rattle.cad_map.specs.Changes.{with_boundaries}
-use Rattle.cad_map.proofs.Elements.{Contains-flat_map, Contains-in_part, All-at_each, All-from_each}
+use Rattle.cad_map.proofs.Elements.{Contains-flat_map, All-at_each, All-from_each}
 use Rattle.cad_map.proofs.Lists.{All-permuted, All-map, All-follows}
 use Rattle.cad_map.proofs.ElementFacts.{map-Contains}
 use Rattle.cad_map.proofs.Listed.{IsPermutation-listed}

@@ -1,6 +1,6 @@
 -- The faces beside the sides of a map's rings, and beside its strings.
-use Rattle.std.proofs.Common.{◌≡◌, ◌≢◌, ℕ, ◌+◌, ◌≤◌, ◌⊎◌, inl, inr, refl, sym, ap, subst, ◌∙◌, List, [], ◌∷◌, find, map, Option, Some, None, Bool, true, false, cond, true≢false, arith, ◌==◌, rules}
-use Rattle.std.specs.Prelude.{flat_map, count_by, option_map, IfNone, IsSome}
+use Rattle.std.proofs.Common.{◌≡◌, ◌≢◌, ℕ, ◌+◌, ◌≤◌, ◌⊎◌, inl, inr, refl, sym, ap, subst, ◌∙◌, List, [], ◌∷◌, find, map, Some, Bool, true, false, cond, true≢false, arith, ◌==◌}
+use Rattle.std.specs.Prelude.{flat_map, count_by, option_map}
 use Rattle.std.specs.List.{Contains}
 use Rattle.std.proofs.lemmas.Bool.{eqb-true}
 use Rattle.std.proofs.lemmas.Cmp.{nat_eq_equiv}

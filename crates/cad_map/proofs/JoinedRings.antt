@@ -1,31 +1,20 @@
 -- Two strings that meet in a point with no third: the corners there, and the rings without the point.
-use Rattle.std.proofs.Common.{◌≡◌, ◌≢◌, ℕ, suc, ◌+◌, ◌≤◌, ◌⊎◌, inl, inr, refl, sym, ap, subst, ◌∙◌, List, [], ◌∷◌, ◌++◌, length, map, filter, Bool, true, false, cond, not, ◌==◌, true≢false, Some, arith, append_assoc}
-use Rattle.std.specs.Prelude.{IsTrue, IsPermutation, sum_by, count_by, flat_map}
+use Rattle.std.proofs.Common.{◌≡◌, ℕ, ◌+◌, ◌≤◌, inl, inr, refl, sym, ap, subst, ◌∙◌, List, [], ◌∷◌, ◌++◌, length, map, filter, Bool, true, false, cond, ◌==◌, Some, arith}
+use Rattle.std.specs.Prelude.{count_by, flat_map}
 use Rattle.std.specs.List.{AllByRecursion, Contains}
-use Rattle.std.proofs.lemmas.Bool.{eqb-true, eq-eqb}
 use Rattle.std.proofs.lemmas.List.{map-append}
 use Rattle.std.proofs.lemmas.Grind.{flat_map-append}
 use Rattle.std.proofs.lemmas.List.Sums.{sum_by-cons, sum_by-append}
-use Rattle.std.proofs.lemmas.List.Sorted.{IsPermutation-sym, IsPermutation-map, IsPermutation-filter_both, sum_by-IsPermutation, Contains-permutation}
-use Rattle.std.proofs.lemmas.List.Elements.{Contains-append_cases, Contains-append_left, Contains-append_right}
-use Rattle.cad_rows.specs.declared.names.Face.{Face}
-use Rattle.cad_rows.specs.declared.rows.StringRow.{StringRow}
-use Rattle.cad_rings.specs.Cycle.{Ring, Side, is_side, opposite, sides_of, Corner, corners_of}
-use Rattle.cad_rings.specs.Surgery.{without, corner}
+use Rattle.std.proofs.lemmas.List.Elements.{Contains-append_cases}
+use Rattle.cad_rings.specs.Cycle.{Ring, Side, sides_of, Corner, corners_of}
+use Rattle.cad_rings.specs.Surgery.{without}
 use Rattle.cad_map.specs.declared.boundary.Boundary.{Boundary}
 use Rattle.cad_map.specs.Boundaries.{bounding, sides_in, corners_in}
-use Rattle.cad_map.specs.Map.{Map, side_of, is_end, far_end, strings_at, string_sides, all_sides}
-use Rattle.cad_map.specs.Valid.{IsValid}
 use Rattle.cad_map.specs.Walk.{first_side}
-use Rattle.cad_map.proofs.Elements.{Contains-cases, Contains-first, Contains-later, Contains-flat_map, Contains-in_part, Contains-map, All-at_each, count-some, count-yes}
-use Rattle.cad_map.proofs.ElementFacts.{Contains-filter, filter-Contains, map-Contains}
-use Rattle.cad_map.proofs.Lists.{All-follows}
-use Rattle.cad_map.proofs.Counted.{times, times-append, times-cons, times-permuted, times-flat_map, counted-Contains}
-use Rattle.cad_map.proofs.CornersAt.{permuted-two, corners_at, new_side, old_sides, sides-without}
-use Rattle.cad_map.proofs.Walks.{side_before, side_behind, sides-before, sides-behind, begins_with, sides_in-before, HaveDistinctSides, once-from_pairs, corner-once, is_side-refl}
-use Rattle.cad_map.proofs.Meetings.{ends, is_end-of}
-use Rattle.cad_map.proofs.FacesBeside.{IsBeside, sides-once, in_all, of_string}
-use Rattle.cad_map.proofs.Faced.{AreApart, apart-valid}
+use Rattle.cad_map.proofs.Elements.{Contains-cases, Contains-first, Contains-later, Contains-map}
+use Rattle.cad_map.proofs.Counted.{times, times-append, times-permuted}
+use Rattle.cad_map.proofs.CornersAt.{corners_at, new_side, old_sides, sides-without}
+use Rattle.cad_map.proofs.Walks.{side_before, side_behind, sides-before, sides-behind, begins_with}
 
 -- ---- The two sides at a corner
 

@@ -1,29 +1,27 @@
 -- Two strings that meet in a point with no third: the sides of a valid map's rings with and without the point.
-use Rattle.std.proofs.Common.{◌≡◌, ◌≢◌, ℕ, suc, ◌+◌, ◌≤◌, ◌⊎◌, inl, inr, refl, sym, ap, subst, ◌∙◌, List, [], ◌∷◌, ◌++◌, length, map, filter, Bool, true, false, cond, not, ◌==◌, true≢false, arith}
-use Rattle.std.specs.Prelude.{IsTrue, IsPermutation, sum_by, count_by, flat_map}
+use Rattle.std.proofs.Common.{◌≡◌, ◌≢◌, ℕ, suc, ◌+◌, ◌≤◌, ◌⊎◌, inl, inr, refl, sym, ap, subst, ◌∙◌, List, [], ◌∷◌, ◌++◌, length, map, filter, Bool, true, cond, not, ◌==◌, arith}
+use Rattle.std.specs.Prelude.{IsPermutation, count_by, flat_map}
 use Rattle.std.specs.List.{AllByRecursion, Contains}
-use Rattle.std.proofs.lemmas.Bool.{eqb-true, eq-eqb, not-true}
+use Rattle.std.proofs.lemmas.Bool.{eqb-true, eq-eqb}
 use Rattle.std.proofs.lemmas.List.Sums.{sum_by-cons, sum_by-append}
-use Rattle.std.proofs.lemmas.List.Sorted.{IsPermutation-sym, IsPermutation-filter_both, IsPermutation-map, IsPermutation-append_left, sum_by-IsPermutation, Contains-permutation}
-use Rattle.std.proofs.lemmas.List.Elements.{Contains-append_cases}
-use Rattle.cad_rows.specs.declared.names.Face.{Face}
+use Rattle.std.proofs.lemmas.List.Sorted.{IsPermutation-sym, IsPermutation-filter_both, IsPermutation-map, sum_by-IsPermutation, Contains-permutation}
 use Rattle.cad_rows.specs.declared.rows.StringRow.{StringRow}
-use Rattle.cad_rings.specs.Cycle.{Ring, Side, is_side, opposite, sides_of, Corner, corners_of}
-use Rattle.cad_rings.specs.Surgery.{without, corner}
+use Rattle.cad_rings.specs.Cycle.{Side, is_side, opposite, sides_of, Corner, corners_of}
+use Rattle.cad_rings.specs.Surgery.{corner}
 use Rattle.cad_map.specs.declared.boundary.Boundary.{Boundary}
 use Rattle.cad_map.specs.Boundaries.{sides_in, corners_in}
 use Rattle.cad_map.specs.Map.{Map, side_of, is_end, far_end, strings_at, string_sides, all_sides}
 use Rattle.cad_map.specs.Valid.{IsValid}
-use Rattle.cad_map.proofs.Elements.{Contains-cases, Contains-first, Contains-later, Contains-flat_map, Contains-in_part, All-at_each, All-from_each, count-some, count-yes}
+use Rattle.cad_map.proofs.Elements.{Contains-cases, Contains-first, Contains-later, Contains-flat_map, Contains-in_part, All-at_each, All-from_each}
 use Rattle.cad_map.proofs.ElementFacts.{Contains-filter, filter-Contains, map-Contains}
 use Rattle.cad_map.proofs.Lists.{All-follows}
-use Rattle.cad_map.proofs.Counted.{times, times-append, times-cons, times-permuted, times-flat_map, counted-Contains}
-use Rattle.cad_map.proofs.CornersAt.{permuted-two, corners_at, new_side, old_sides, sides-without}
+use Rattle.cad_map.proofs.Counted.{times, times-cons, times-permuted, times-flat_map, counted-Contains}
+use Rattle.cad_map.proofs.CornersAt.{permuted-two, corners_at, new_side, old_sides}
 use Rattle.cad_map.proofs.JoinedRings.{corner-sides, count-filter, count-part, at-point, dropped, sides-dropped}
 use Rattle.cad_map.proofs.Walks.{side_before, sides_in-before, HaveDistinctSides, once-from_pairs, corner-once, is_side-refl}
 use Rattle.cad_map.proofs.Meetings.{ends, is_end-of}
 use Rattle.cad_map.proofs.FacesBeside.{IsBeside, sides-once, in_all, of_string}
-use Rattle.cad_map.proofs.Faced.{AreApart, apart-valid}
+use Rattle.cad_map.proofs.Faced.{apart-valid}
 
 -- both sides of each of these strings
 abbrev pub both : StringRow → List Side

@@ -1,7 +1,7 @@
 -- What an edit of a valid map keeps: of the map made it can be asked what rule it breaks first.
-use Rattle.std.proofs.Common.{◌≡◌, ℕ, ◌≤◌, Option, Some, None, is_some, option_map, refl, ap, sym, subst, ◌∙◌, true≢false, length, [], arith}
-use Rattle.std.specs.Prelude.{ℤ, unwrap_or}
-use Rattle.cad_rows.specs.Limits.{row_limit, IsNumber}
+use Rattle.std.proofs.Common.{◌≡◌, ℕ, Option, Some, None, is_some, refl, ap, sym, subst, ◌∙◌, true≢false, length, [], arith}
+use Rattle.std.specs.Prelude.{ℤ}
+use Rattle.cad_rows.specs.Limits.{row_limit}
 use Rattle.cad_rows.specs.declared.edits.Edit.{Edit}
 use Rattle.cad_rows.specs.declared.edits.Edit.TheVariants.{AddSource, AddPoint, DropPoint, Split, Join, Divide, Merge, Move, Attach, Detach, Rename, Enclose}
 use Rattle.cad_rows.specs.declared.names.Face.{Face}

@@ -1,10 +1,10 @@
 -- What a row changed in its place keeps of a sound map: a point moved, a parcel renamed, a source attached or detached.
-use Rattle.std.proofs.Common.{◌≡◌, ◌≢◌, ℕ, ◌≤◌, List, [], ◌∷◌, ◌++◌, length, Bool, true, false, not, nat_eq, nat_le, Option, Some, None, is_some, option_map, filter, refl, sym, ap, ◌∙◌, subst, arith}
+use Rattle.std.proofs.Common.{◌≡◌, ◌≢◌, ℕ, List, [], ◌∷◌, ◌++◌, length, not, nat_le, Option, Some, None, is_some, option_map, filter, refl, sym, ap, ◌∙◌, subst, arith}
 use Rattle.std.specs.Prelude.{IsTrue, ◌==◌, unwrap_or, ℤ, IsPermutation}
-use Rattle.std.specs.List.{AllByRecursion, list_any, flat_map}
+use Rattle.std.specs.List.{list_any, flat_map}
 use Rattle.geo_exact.specs.Position.{OnTheMap}
 use Rattle.cad_rows.specs.Limits.{source_limit, IsLabel}
-use Rattle.cad_rows.specs.declared.edits.Edit.TheVariants.{Move, Attach, Detach, Rename}
+use Rattle.cad_rows.specs.declared.edits.Edit.TheVariants.{Move, Attach}
 use Rattle.cad_rows.specs.declared.names.Item.{Item}
 use Rattle.cad_rows.specs.declared.names.Item.TheVariants as item
 use Rattle.cad_rows.specs.declared.rows.PointRow.{PointRow}
@@ -14,9 +14,9 @@ use Rattle.cad_rows.specs.declared.rows.SourceRow.{SourceRow}
 use Rattle.cad_rings.specs.Cycle.{Side, opposite}
 use Rattle.cad_map.specs.Map.{Map, point_of, parcel_of, string_of, has_point, side_of, string_sides, all_sides, left_face, right_face}
 use Rattle.cad_map.specs.Table.{row_with}
-use Rattle.cad_map.specs.Valid.{AreSources, EachPair, HasCompleteRings, IsSound}
-use Rattle.cad_map.specs.Refusals.{sources_at, is_attached}
-use Rattle.cad_map.specs.Changes.{with_point, with_parcel, with_string, change_point, change_parcel, change_string, change_sources}
+use Rattle.cad_map.specs.Valid.{AreSources, IsSound}
+use Rattle.cad_map.specs.Refusals.{sources_at}
+use Rattle.cad_map.specs.Changes.{with_string, change_point, change_parcel, change_string, change_sources}
 use Rattle.cad_map.proofs.Allowed.{IsAllowed, not-when, there-attached, position-in_range}
 use Rattle.cad_map.proofs.Lists.{All-filter, All-with_row, found-number, map-with_row-same}
 use Rattle.cad_map.proofs.KeptRows.{AreSources-attach, All-found, kept-point_row, kept-parcel_row, kept-string_row, length-filter}

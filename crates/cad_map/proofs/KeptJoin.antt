@@ -1,13 +1,12 @@
 -- Two strings joined at a point: what it keeps of a valid map, and its rings where no rule before is broken.
-use Rattle.std.proofs.Common.{◌≡◌, ◌≢◌, ℕ, suc, ◌+◌, ◌≤◌, ◌⊎◌, inl, inr, refl, sym, ap, subst, ◌∙◌, List, [], ◌∷◌, ◌++◌, length, map, filter, Bool, true, false, cond, not, nat_eq, ◌==◌, Some, None, Option, is_some, true≢false, arith}
-use Rattle.std.specs.Prelude.{IsTrue, IsPermutation, count_by, flat_map, nat_lt}
+use Rattle.std.proofs.Common.{◌≡◌, ◌≢◌, ℕ, ◌+◌, ◌≤◌, inl, inr, refl, sym, ap, subst, ◌∙◌, List, [], ◌∷◌, ◌++◌, length, map, filter, Bool, true, false, cond, not, nat_eq, ◌==◌, is_some, true≢false, arith}
+use Rattle.std.specs.Prelude.{IsTrue, IsPermutation, flat_map, nat_lt}
 use Rattle.std.specs.List.{AllByRecursion, Contains, list_any}
-use Rattle.std.proofs.lemmas.Bool.{eqb-true, eq-eqb, eqb-false, false_from_ne_true, not-true}
+use Rattle.std.proofs.lemmas.Bool.{eqb-true, eq-eqb, false_from_ne_true, not-true}
 use Rattle.std.proofs.lemmas.Bool.Decides.{nat_tests}
-use Rattle.std.proofs.lemmas.Cmp.{nat_eq_equiv}
 use Rattle.std.proofs.lemmas.Grind.{flat_map-append}
 use Rattle.std.proofs.lemmas.List.Sorted.{IsPermutation-refl, IsPermutation-sym, Contains-permutation}
-use Rattle.std.proofs.lemmas.List.Elements.{Contains-append_cases, Contains-append_left, Contains-append_right}
+use Rattle.std.proofs.lemmas.List.Elements.{Contains-append_cases, Contains-append_right}
 use Rattle.cad_rows.specs.Limits.{string_limit, source_limit, IsNumber}
 use Rattle.cad_rows.specs.declared.edits.Edit.TheVariants.{Join}
 use Rattle.cad_rows.specs.declared.names.Face.{Face}
@@ -15,16 +14,16 @@ use Rattle.cad_rows.specs.declared.refusals.Rule.TheVariants.{V3, V4}
 use Rattle.cad_rows.specs.declared.rows.PointRow.{PointRow}
 use Rattle.cad_rows.specs.declared.rows.SourceRow.{SourceRow}
 use Rattle.cad_rows.specs.declared.rows.StringRow.{StringRow}
-use Rattle.cad_rings.specs.Cycle.{Ring, Side, is_side, opposite, sides_of, Corner, corners_of, times_through}
+use Rattle.cad_rings.specs.Cycle.{Side, is_side, opposite, sides_of, Corner, corners_of, times_through}
 use Rattle.cad_rings.specs.Surgery.{without}
-use Rattle.cad_rings.proofs.CallerLemmas.{length-without, from_corner, FromCorner, IsSameRing-length, sides_of-same}
+use Rattle.cad_rings.proofs.CallerLemmas.{length-without, from_corner, IsSameRing-length, sides_of-same}
 use Rattle.cad_map.specs.declared.boundary.Boundary.{Boundary}
-use Rattle.cad_map.specs.Boundaries.{bounding, listed, sides_in}
-use Rattle.cad_map.specs.Map.{Map, string_of, has_point, has_face, side_of, is_end, far_end, strings_at, degree, string_sides, all_sides}
+use Rattle.cad_map.specs.Boundaries.{listed, sides_in}
+use Rattle.cad_map.specs.Map.{Map, has_point, has_face, side_of, is_end, far_end, strings_at, degree, string_sides, all_sides}
 use Rattle.cad_map.specs.Table.{row_with, without_row}
 use Rattle.cad_map.specs.Valid.{AreSources, EachPair, HasSoundRows, HasTwoEnds, HasCompleteRings, IsValid, Keeps, CanBeTested}
 use Rattle.cad_map.specs.Changes.{both_sources, joined_sources, by_number, string_joining, join, with_boundaries}
-use Rattle.cad_map.proofs.Elements.{Contains-cases, Contains-first, Contains-later, Contains-flat_map, All-at_each, All-from_each, count-some, list_any-Contains}
+use Rattle.cad_map.proofs.Elements.{Contains-first, Contains-later, Contains-flat_map, All-at_each, All-from_each, count-some, list_any-Contains}
 use Rattle.cad_map.proofs.ElementFacts.{Contains-filter, filter-Contains, map-Contains}
 use Rattle.cad_map.proofs.Lists.{All-push, All-filter, All-follows, All-map, found-without}
 use Rattle.cad_map.proofs.TakenOut.{EachPair-filter}
@@ -32,13 +31,13 @@ use Rattle.cad_map.proofs.RowsLeft.{none-filter}
 use Rattle.cad_map.proofs.AddedRows.{All-join, EachPair-join}
 use Rattle.cad_map.proofs.Allowed.{IsAllowed, not-when, two-joined, free-join}
 use Rattle.cad_map.proofs.Parallel.{string_sides-once}
-use Rattle.cad_map.proofs.Counted.{times, times-append, times-cons, permuted-from_times}
+use Rattle.cad_map.proofs.Counted.{times-append, permuted-from_times}
 use Rattle.cad_map.proofs.CornersAt.{corners_at, new_side, old_sides, sides-without, through-corners}
-use Rattle.cad_map.proofs.JoinedRings.{dropped, corner-sides}
+use Rattle.cad_map.proofs.JoinedRings.{dropped}
 use Rattle.cad_map.proofs.JoinedStrings as joined
 use Rattle.cad_map.proofs.JoinedStrings.{both}
 use Rattle.cad_map.proofs.Walks.{is_side-refl, once-from_pairs}
-use Rattle.cad_map.proofs.Meetings.{is_end-of, far_end-in}
+use Rattle.cad_map.proofs.Meetings.{far_end-in}
 use Rattle.cad_map.proofs.FacesBeside.{IsBeside, of_string}
 use Rattle.cad_map.proofs.Faced.{AreApart, apart-valid, complete}
 use Rattle.cad_map.proofs.KeptRows.{or-none, differs, kept-strings_left, kept-rings, kept-without_point, kept-string, points-of_ring}

@@ -1,13 +1,11 @@
 -- What rows put, left out and changed keep of the rules for rows.
-use Rattle.std.proofs.Common.{◌≡◌, ◌≢◌, ℕ, ◌+◌, ◌≤◌, List, [], ◌∷◌, ◌++◌, length, Bool, true, false, cond, nat_eq, nat_le, map, Option, Some, None, is_some, option_map, refl, sym, ap, ◌∙◌, true≢false, arith, subst, ◌||◌, filter}
-use Rattle.std.specs.Prelude.{IsTrue, ◌==◌, unwrap_or, ℤ, IsPermutation}
+use Rattle.std.proofs.Common.{◌≡◌, ◌≢◌, ℕ, ◌+◌, ◌≤◌, List, [], ◌∷◌, ◌++◌, length, Bool, true, false, cond, nat_eq, nat_le, map, Some, None, is_some, refl, sym, ap, ◌∙◌, true≢false, arith, subst, ◌||◌, filter}
+use Rattle.std.specs.Prelude.{IsTrue, ◌==◌, IsPermutation}
 use Rattle.std.specs.List.{AllByRecursion, list_any, flat_map}
-use Rattle.std.proofs.lemmas.Bool.{eqb-true}
 use Rattle.std.proofs.lemmas.Bool.Decides.{nat_tests}
 use Rattle.std.proofs.lemmas.Cmp.{nat_eq_equiv}
 use Rattle.geo_exact.specs.Position.{OnTheMap}
 use Rattle.cad_rows.specs.Limits.{row_limit, string_limit, source_limit, IsNumber, IsLabel}
-use Rattle.cad_rows.specs.declared.edits.Edit.{Edit}
 use Rattle.cad_rows.specs.declared.edits.Edit.TheVariants.{AddSource}
 use Rattle.cad_rows.specs.declared.rows.PointRow.{PointRow}
 use Rattle.cad_rows.specs.declared.rows.ParcelRow.{ParcelRow}
@@ -18,15 +16,14 @@ use Rattle.cad_rows.specs.declared.names.Face.TheVariants.{Outside, Parcel}
 use Rattle.cad_rings.specs.Cycle.{Ring, Side, opposite, sides_of, sides_along, turned}
 use Rattle.cad_rings.proofs.CallerLemmas.{IsSameRing-least_rotation, round_permuted}
 use Rattle.cad_map.specs.declared.boundary.Boundary.{Boundary}
-use Rattle.cad_map.specs.Boundaries.{sides_in, shown, listed}
-use Rattle.cad_map.specs.Map.{Map, point_of, parcel_of, string_of, has_point, has_parcel, has_face, is_end, is_free, side_of, string_sides, all_sides, left_face, right_face}
+use Rattle.cad_map.specs.Boundaries.{shown, listed}
+use Rattle.cad_map.specs.Map.{Map, point_of, string_of, has_point, has_parcel, has_face, is_end, is_free, side_of, string_sides, all_sides}
 use Rattle.cad_map.specs.Table.{row_with, without_row}
-use Rattle.cad_map.specs.Valid.{AreNumbers, AreSources, HasSoundRows, HasCompleteRings, IsSound, IsValid, KeepsAll, CanBeTested}
-use Rattle.cad_map.specs.Refusals.{first_refusal}
+use Rattle.cad_map.specs.Valid.{AreNumbers, AreSources, HasSoundRows, HasCompleteRings, IsSound}
 use Rattle.cad_map.specs.Changes.{with_point, with_parcel, with_string, with_boundaries}
 use Rattle.cad_map.proofs.Allowed.{IsAllowed, not-when, free-source, room}
 use Rattle.cad_map.proofs.ChainFacts.{others-attached}
-use Rattle.cad_map.proofs.Lists.{All-push, All-filter, All-follows, EachPair-push, EachPair-filter-map, All-filter-map, map-push, others-from_none, found-push, found-number, found-with_row, found-without, map-with_row, map-with_row-same, length-with_row, All-with_row, length-without_row, All-map, All-permuted, All-flat_map}
+use Rattle.cad_map.proofs.Lists.{All-push, All-filter, All-follows, EachPair-push, EachPair-filter-map, All-filter-map, map-push, others-from_none, found-push, found-with_row, found-without, map-with_row, length-with_row, All-with_row, length-without_row, All-map, All-permuted, All-flat_map}
 use Rattle.cad_map.proofs.Listed.{listed-listed, IsPermutation-listed}
 
 -- ---- Numbers and sources

@@ -1,12 +1,10 @@
 -- A string split at a new point: what it keeps of a valid map.
-use Rattle.std.proofs.Common.{◌≡◌, ◌≢◌, ℕ, suc, ◌+◌, ◌≤◌, ◌⊎◌, inl, inr, refl, sym, ap, subst, ◌∙◌, append_assoc, List, [], ◌∷◌, ◌++◌, length, map, filter, Bool, true, false, cond, not, nat_eq, ◌==◌, ◌||◌, Some, None, Option, is_some, true≢false, arith}
-use Rattle.std.specs.Prelude.{IsTrue, IsPermutation, sum_by, count_by, flat_map, ℤ, nat_le}
+use Rattle.std.proofs.Common.{◌≡◌, ◌≢◌, ℕ, ◌+◌, ◌≤◌, ◌⊎◌, inl, inr, refl, sym, ap, subst, ◌∙◌, append_assoc, List, [], ◌∷◌, ◌++◌, length, map, Bool, true, false, cond, not, nat_eq, ◌==◌, Some, None, Option, is_some, true≢false, arith}
+use Rattle.std.specs.Prelude.{IsTrue, IsPermutation, flat_map, ℤ, nat_le}
 use Rattle.std.specs.List.{AllByRecursion, Contains}
-use Rattle.std.proofs.lemmas.Bool.{eqb-true, eqb-false, false_from_ne_true}
+use Rattle.std.proofs.lemmas.Bool.{false_from_ne_true}
 use Rattle.std.proofs.lemmas.Cmp.{nat_eq_equiv}
 use Rattle.std.proofs.lemmas.Grind.{flat_map-append}
-use Rattle.std.proofs.lemmas.List.Sums.{sum_by-cons, sum_by-append}
-use Rattle.geo_exact.specs.Position.{OnTheMap}
 use Rattle.cad_rows.specs.Limits.{row_limit, string_limit, IsNumber}
 use Rattle.cad_rows.specs.declared.edits.Edit.TheVariants.{Split}
 use Rattle.cad_rows.specs.declared.names.Face.{Face}
@@ -19,9 +17,9 @@ use Rattle.cad_map.specs.declared.boundary.Boundary.{Boundary}
 use Rattle.cad_map.specs.Boundaries.{bounding, sides_in}
 use Rattle.cad_map.specs.Map.{Map, point_of, string_of, has_point, has_face, side_of, string_sides, all_sides}
 use Rattle.cad_map.specs.Table.{row_with, without_row}
-use Rattle.cad_map.specs.Valid.{AreSources, EachPair, HasSoundRows, HasCompleteRings, IsSound, IsValid}
+use Rattle.cad_map.specs.Valid.{AreSources, HasSoundRows, HasCompleteRings, IsSound, IsValid}
 use Rattle.cad_map.specs.Changes.{split, with_boundaries}
-use Rattle.cad_map.proofs.Elements.{Contains-cases, Contains-first, Contains-in_part, Contains-flat_map, All-at_each, All-from_each, count-some}
+use Rattle.cad_map.proofs.Elements.{Contains-cases, Contains-in_part, Contains-flat_map, All-at_each, count-some}
 use Rattle.cad_map.proofs.ElementFacts.{map-Contains, find-Contains}
 use Rattle.cad_map.proofs.Lists.{All-push, All-filter, All-follows, All-map, found-push, found-number}
 use Rattle.cad_map.proofs.RowsLeft.{sum-without, length-without, none-filter, none-push}
@@ -30,7 +28,7 @@ use Rattle.cad_map.proofs.Walks.{is_side-refl, once-from_pairs}
 use Rattle.cad_map.proofs.FacesBeside.{IsBeside, both_sides, sides-once, in_all, of_string}
 use Rattle.cad_map.proofs.Faced.{AreApart, apart-valid, complete}
 use Rattle.cad_map.proofs.Allowed.{IsAllowed, not-when, free-split, halves-differ, position-in_range, room}
-use Rattle.cad_map.proofs.KeptRows.{kept-point, kept-strings_left, kept-string, kept-rings, All-found, or-none, length-push}
+use Rattle.cad_map.proofs.KeptRows.{kept-point, kept-strings_left, kept-string, kept-rings, or-none, length-push}
 
 -- ---- The points of the rings
 

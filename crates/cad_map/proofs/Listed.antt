@@ -1,5 +1,5 @@
 -- The list of a map's boundaries is one, in whatever order and rotation they are kept.
-use Rattle.std.proofs.Common.{◌≡◌, ℕ, zero, suc, ◌+◌, ◌≤◌, ◌<◌, refl, sym, ◌∙◌, ap, subst, true≢false, List, [], ◌∷◌, ◌++◌, Bool, true, false, not, ◌&&◌, map, length, arith, nat_eq}
+use Rattle.std.proofs.Common.{◌≡◌, ℕ, suc, ◌+◌, ◌≤◌, ◌<◌, refl, sym, ◌∙◌, ap, subst, true≢false, List, [], ◌∷◌, Bool, true, false, not, ◌&&◌, map, length, arith, nat_eq}
 use Rattle.std.proofs.lemmas.Bool.Decides.{nat_tests}
 use Rattle.std.specs.Prelude.{IsPermutation, sum_by, if◌then◌else◌, get_or}
 use Rattle.std.specs.List.{AllByRecursion}

@@ -1,17 +1,17 @@
 -- What is found by looking through rings one after another.
-use Rattle.std.proofs.Common.{◌≡◌, ℕ, ◌≤◌, refl, sym, ap, ◌∙◌, subst, List, [], ◌∷◌, ◌++◌, length, map, find, Option, Some, None, option_map, Bool, true, false, cond, true≢false, ◌||◌, nat_eq, arith}
+use Rattle.std.proofs.Common.{◌≡◌, ℕ, ◌≤◌, refl, sym, ap, ◌∙◌, subst, List, [], ◌∷◌, length, map, find, Option, Some, None, option_map, Bool, true, false, cond, true≢false, ◌||◌, arith}
 use Rattle.std.specs.Prelude.{flat_map, IfSome, IfNone}
 use Rattle.std.proofs.lemmas.Option.{same_Some}
 use Rattle.cad_rows.specs.declared.rows.StringRow.{StringRow}
 use Rattle.cad_map.specs.Views.{IsNoSide, HasNoFaces}
 use Rattle.std.specs.Option.{option_or}
-use Rattle.std.specs.List.{AllByRecursion, Contains, list_any}
+use Rattle.std.specs.List.{AllByRecursion, Contains}
 use Rattle.std.proofs.lemmas.Cmp.{nat_eq_equiv}
 use Rattle.std.proofs.lemmas.List.Folds.{list_any-append}
 use Rattle.std.proofs.lemmas.List.Elements.{Contains-append_left, Contains-append_right}
 use Rattle.cad_rows.specs.declared.names.Face.{Face}
 use Rattle.cad_rows.specs.declared.names.Face.TheVariants.{Outside, Parcel}
-use Rattle.cad_rings.specs.Cycle.{Ring, Side, is_side, has_side, opposite, sides_of, Corner, corners_of, after_side}
+use Rattle.cad_rings.specs.Cycle.{Side, is_side, has_side, opposite, sides_of, Corner, corners_of, after_side}
 use Rattle.cad_rings.specs.Surgery.{corner}
 use Rattle.cad_rings.proofs.CallerLemmas.{is_side-same}
 use Rattle.cad_map.specs.declared.boundary.Boundary.{Boundary}

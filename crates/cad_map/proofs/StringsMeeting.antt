@@ -1,10 +1,10 @@
 -- The two strings at a point where no third ends: what a join takes out.
-use Rattle.std.proofs.Common.{◌≡◌, ◌≢◌, ℕ, ◌+◌, ◌≤◌, ◌⊎◌, inl, inr, refl, sym, ap, subst, ◌∙◌, List, [], ◌∷◌, length, map, filter, Bool, true, false, not, ◌==◌, ◌&&◌, Some, Option, true≢false, arith}
+use Rattle.std.proofs.Common.{◌≡◌, ℕ, ◌+◌, ◌≤◌, inl, inr, refl, sym, ap, subst, ◌∙◌, List, [], ◌∷◌, length, filter, Bool, true, false, not, ◌==◌, ◌&&◌, true≢false, arith}
 use Rattle.std.specs.Prelude.{IsPermutation, nat_lt, if◌then◌else◌}
 use Rattle.std.specs.List.{AllByRecursion, Contains}
-use Rattle.std.proofs.lemmas.Bool.{eqb-true, eq-eqb, false_from_ne_true, not-true}
+use Rattle.std.proofs.lemmas.Bool.{eqb-true, eq-eqb, false_from_ne_true}
 use Rattle.std.proofs.lemmas.Option.{same_Some}
-use Rattle.std.proofs.lemmas.List.Sorted.{IsPermutation-refl, IsPermutation-sym, Contains-permutation}
+use Rattle.std.proofs.lemmas.List.Sorted.{IsPermutation-refl}
 use Rattle.cad_rows.specs.Limits.{source_limit}
 use Rattle.cad_rows.specs.declared.rows.StringRow.{StringRow}
 use Rattle.cad_rings.specs.Cycle.{times_through}
@@ -12,8 +12,7 @@ use Rattle.cad_map.specs.Map.{Map, is_end, strings_at}
 use Rattle.cad_map.specs.Table.{row_with, without_row}
 use Rattle.cad_map.specs.Valid.{AreSources, IsValid}
 use Rattle.cad_map.specs.Changes.{by_number}
-use Rattle.cad_map.proofs.Elements.{Contains-cases, Contains-first, Contains-later, All-at_each, All-from_each}
-use Rattle.cad_map.proofs.ElementFacts.{Contains-filter, filter-Contains}
+use Rattle.cad_map.proofs.Elements.{Contains-first, Contains-later, All-at_each, All-from_each}
 use Rattle.cad_map.proofs.CornersAt.{corners_at, through-corners}
 use Rattle.cad_map.proofs.JoinedStrings as joined
 use Rattle.cad_map.proofs.FacesBeside.{row-found}

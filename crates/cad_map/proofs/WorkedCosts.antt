@@ -1,6 +1,6 @@
 -- What edits of a square and of its island may cost, computed.
 use Rattle.std.proofs.Common.{◌≡◌, refl, [], ◌∷◌}
-use Rattle.cad_rows.specs.declared.names.Face.TheVariants.{Outside, Parcel}
+use Rattle.cad_rows.specs.declared.names.Face.TheVariants.{Parcel}
 use Rattle.cad_map.specs.Costs.{rows_changed, rings_moved, sources_removed, sides_changed, weight_bound, work_bound}
 use Rattle.cad_map.specs.Changes.{divide, merge, join}
 use Rattle.cad_map.proofs.Plans.{square, island, label_c}

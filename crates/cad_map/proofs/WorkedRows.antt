@@ -1,5 +1,5 @@
 -- What the definitions compute for divisions, mergers, an enclosure, moves and joins on the square and on the island.
-use Rattle.std.proofs.Common.{◌≡◌, ℕ, refl, List, [], ◌∷◌, ◌++◌, ℤ, pos, negsuc, true, false, map}
+use Rattle.std.proofs.Common.{◌≡◌, ℕ, refl, [], ◌∷◌, ◌++◌, ℤ, pos, negsuc, true, false, map}
 use Rattle.geo_exact.specs.Measure.{doubled_area}
 use Rattle.cad_rows.specs.declared.names.Face.{Face}
 use Rattle.cad_rows.specs.declared.names.Face.TheVariants.{Outside, Parcel}
@@ -7,8 +7,8 @@ use Rattle.cad_map.specs.Boundaries.{bounding, listed}
 use Rattle.cad_map.specs.Map.{Map, faces, rings_of, sum_of_face}
 use Rattle.cad_map.specs.Valid.{has_distinct_positions, has_empty_corners, has_one_outline_each, has_holes_in_place}
 use Rattle.cad_map.specs.Changes.{split, join, divide, merge, enclose}
-use Rattle.cad_map.specs.Sums.{total, sum_of_faces}
-use Rattle.cad_map.proofs.Plans.{square, island, string, point, label_a, label_c, outer_ring, with_points, moved}
+use Rattle.cad_map.specs.Sums.{sum_of_faces}
+use Rattle.cad_map.proofs.Plans.{square, island, string, point, label_c, outer_ring, with_points, moved}
 
 area : Map → Face → ℤ
 area m f = sum_of_face doubled_area m f

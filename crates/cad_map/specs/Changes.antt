@@ -1,5 +1,5 @@
 -- Maps with one thing changed.
-use Rattle.std.specs.Prelude.{ℕ, not, ◌==◌, nat_lt, List, [], ◌∷◌, ◌++◌, filter, map, Option, Some, None, if◌then◌else◌, unwrap_or, option_map, ℤ}
+use Rattle.std.specs.Prelude.{ℕ, not, ◌==◌, nat_lt, List, [], ◌∷◌, ◌++◌, filter, map, Option, Some, if◌then◌else◌, unwrap_or, option_map, ℤ}
 use Rattle.std.specs.List.{list_any}
 use Rattle.cad_rows.specs.declared.rows.PointRow.{PointRow}
 use Rattle.cad_rows.specs.declared.rows.StringRow.{StringRow}

@@ -9,11 +9,10 @@ use Rattle.cad_rows.specs.Limits.{IsNumber, IsLabel, row_limit, string_limit, so
 use Rattle.cad_rows.specs.declared.rows.PointRow.{PointRow}
 use Rattle.cad_rows.specs.declared.rows.StringRow.{StringRow}
 use Rattle.cad_rows.specs.declared.rows.SourceRow.{SourceRow}
-use Rattle.cad_rows.specs.declared.names.Face.{Face}
 use Rattle.cad_rows.specs.declared.names.Face.TheVariants.{Outside, Parcel}
 use Rattle.cad_rows.specs.declared.refusals.Rule.{Rule}
 use Rattle.cad_rows.specs.declared.refusals.Rule.TheVariants.{V3, V4, V6, V7, V8}
-use Rattle.cad_rings.specs.Cycle.{Ring, Corner, corners_of, anchor_of}
+use Rattle.cad_rings.specs.Cycle.{Ring, Corner, anchor_of}
 use Rattle.cad_map.specs.Boundaries.{listed}
 use Rattle.cad_map.specs.Map.{Map, has_point, has_parcel, has_face, position_of, far_end, strings_at, string_sides, rings_of, all_sides, all_corners, left_face, right_face, is_positive, is_negative, is_in_ring}
 use Rattle.cad_map.specs.Table.{row_with}

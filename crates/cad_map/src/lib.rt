@@ -19,7 +19,7 @@ mod walk;
 pub use boundary::Boundary;
 pub use corner::{Corner, are_in_one_ring, chosen_corner};
 pub use laws::{faces_balance, one_list, one_outcome, parcels_add_up};
-pub use look::is_face;
+pub use look::{far_end, is_end, is_face};
 pub use outlines::outline;
 pub use plain::PlainMap;
 pub use rings::{position, ring_count, ring_sum};

@@ -3,7 +3,7 @@ ghost use Rattle.std.specs.Prelude.{◌≡◌, option_map, find, length, filter,
 ghost use Rattle.std.specs.Option.{option_copied};
 ghost use Rattle.cad_rings.specs.Cycle.{has_side as has_side_of, sides_of};
 ghost use Rattle.cad_map.specs.Boundaries.{is_face as is_face_of};
-ghost use Rattle.cad_map.specs.Map.{is_end as is_end_of, point_after as point_after_in, rings_at};
+ghost use Rattle.cad_map.specs.Map.{is_end as is_end_of, far_end as far_end_of, point_after as point_after_in, rings_at};
 
 use crate::boundary::Boundary;
 use crate::listing::face_place;
@@ -11,10 +11,23 @@ use crate::table::Table;
 use cad_rings::Ring;
 use cad_rows::{Face, PointNo, StringRow};
 
-fn is_end(row: &StringRow, point: PointNo) -> bool
-    ensures { result ≡ is_end_of row.now point }
+/// Whether a string leads from a point or to it.
+pub fn is_end(string: &StringRow, point: PointNo) -> bool
+    ensures { result ≡ is_end_of string.now point }
 {
-    row.from.get() == point.get() || row.to.get() == point.get()
+    string.from == point || string.to == point
+}
+
+/// The other end of a string that ends at a point: where it leads to, if it leads from there, and otherwise where it
+/// leads from.
+pub fn far_end(string: &StringRow, point: PointNo) -> PointNo
+    ensures { result ≡ far_end_of string.now point }
+{
+    if string.from == point {
+        string.to
+    } else {
+        string.from
+    }
 }
 
 /// One where a test passes, and otherwise zero.

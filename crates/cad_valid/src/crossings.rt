@@ -2,11 +2,11 @@
 ghost use Rattle.std.specs.Prelude.{◌≡◌, ◌↔◌, ℕ, drop, IsTrue, IfSome, IfNone};
 ghost use Rattle.std.specs.Bool.{OnTrue, OnFalse};
 ghost use Rattle.std.specs.List.{AllByRecursion};
-ghost use Rattle.cad_map.specs.Map.{has_point, position_of, is_end as is_end_of, far_end as far_end_of};
+ghost use Rattle.cad_map.specs.Map.{has_point, position_of};
 ghost use Rattle.cad_map.specs.Valid.{HasNoCrossing, EachPair, MeetAtEnds, LiesOnlyAsEnd};
 ghost use Rattle.cad_map.specs.Crossings.{HasPlacedRows, IsPlaced, IsEndOfBoth, HaveOnlyStart};
 
-use cad_map::{MapView, position};
+use cad_map::{MapView, far_end, is_end, position};
 use cad_rows::{PointNo, PointRow, StringRow};
 use geo_exact::{Pt, meets, on_segment};
 
@@ -133,23 +133,5 @@ fn shared_end(string: &StringRow, other: &StringRow) -> Option<PointNo>
         Some(string.to)
     } else {
         None
-    }
-}
-
-/// Whether a point is an end of a string.
-fn is_end(string: &StringRow, point: PointNo) -> bool
-    ensures { result ≡ is_end_of string.now point }
-{
-    string.from == point || string.to == point
-}
-
-/// The end of a string that isn't this one.
-fn far_end(string: &StringRow, end: PointNo) -> PointNo
-    ensures { result ≡ far_end_of string.now end }
-{
-    if string.from == end {
-        string.to
-    } else {
-        string.from
     }
 }

@@ -1,10 +1,9 @@
-use Rattle.std.proofs.Common.{◌≡◌, ◌∙◌, sym, ap, subst}
+use Rattle.std.proofs.Common.{sym, subst}
 use Rattle.cad_rows.specs.declared.names.Face.{Face}
 use Rattle.cad_rows.specs.declared.names.Face.TheVariants.{Parcel}
 use Rattle.cad_rows.specs.declared.edits.Edit.TheVariants.{Divide, Merge, Enclose}
-use Rattle.cad_map.specs.Map.{Map}
 use Rattle.cad_map.specs.Sums.{IsSharedOut, IsTakenIn}
-use Rattle.cad_map.specs.Changes.{divide, merge, enclose}
+use Rattle.cad_map.specs.Changes.{merge}
 use Rattle.cad_map.specs.Effects.{after}
 use Rattle.cad_map.proofs.Allowed.{IsAllowed, allowed}
 use Rattle.cad_map.proofs.AllowedParcels.{can-divide, can-enclose, can-merge, names-parcels}

@@ -1,4 +1,4 @@
-use Rattle.std.proofs.Common.{rules, ◌≡◌, ◌≤◌, subst, List, length}
+use Rattle.std.proofs.Common.{rules, ◌≤◌, subst, List, length}
 use Rattle.std.specs.Prelude.{IsPermutation}
 use Rattle.std.proofs.lemmas.List.Sorted.{answers_always}
 use Rattle.cad_map.specs.declared.boundary.Boundary.{Boundary}

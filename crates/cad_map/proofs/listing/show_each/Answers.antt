@@ -1,4 +1,4 @@
-use Rattle.std.proofs.Common.{◌≡◌, ◌≤◌, sym, ap, ◌∙◌, arith, slice_set, slice_index_or, length}
+use Rattle.std.proofs.Common.{◌≤◌, ap, ◌∙◌, arith, slice_set, slice_index_or, length}
 use Rattle.cad_map.specs.declared.boundary.Boundary.{Boundary}
 use Rattle.cad_map.specs.Boundaries.{shown}
 use Rattle.cad_map.proofs.Shows.{changed-next, All-next}

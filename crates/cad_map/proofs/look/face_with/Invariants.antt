@@ -1,4 +1,4 @@
-use Rattle.std.proofs.Common.{◌≡◌, drop, find, option_map}
+use Rattle.std.proofs.Common.{◌≡◌, drop, find}
 use Rattle.cad_rings.specs.Cycle.{has_side as has_side_of, sides_of}
 use Rattle.cad_map.proofs.look.face_with.Given as goal
 
