@@ -1,12 +1,10 @@
 -- What the first seam of two parcels says of the rings after their merger.
-use Rattle.std.proofs.Common.{◌≡◌, ℕ, refl, sym, ap, ◌∙◌, subst, List, [], ◌∷◌, ◌++◌, length, map, filter, not, Bool, true, false, true≢false, Option, Some, None, option_map, slice_get, arith}
+use Rattle.std.proofs.Common.{◌≡◌, ℕ, refl, sym, ap, ◌∙◌, List, [], ◌∷◌, ◌++◌, length, map, filter, not, true≢false, Option, Some, None, option_map, slice_get}
 use Rattle.std.specs.Prelude.{◌==◌, IsFalse, IsSome}
-use Rattle.std.specs.List.{Contains}
 use Rattle.cad_rows.specs.declared.names.Face.{Face}
 use Rattle.cad_rings.specs.Cycle.{Ring}
-use Rattle.cad_rings.specs.Surgery.{HaveChainInCommon, joined}
+use Rattle.cad_rings.specs.Surgery.{HaveChainInCommon}
 use Rattle.cad_map.specs.declared.boundary.Boundary.{Boundary}
-use Rattle.cad_map.specs.Boundaries.{bounding}
 use Rattle.cad_map.specs.Map.{Map}
 use Rattle.cad_map.specs.Merger.{Seam, shared_sides, seams, is_taken_out, handed_over, boundaries_by}
 use Rattle.cad_map.specs.Changes.{merge_at}

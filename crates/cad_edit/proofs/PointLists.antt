@@ -1,5 +1,5 @@
 -- Lists of points, compared and searched place by place.
-use Rattle.std.proofs.Common.{◌≡◌, ◌≢◌, ℕ, ◌+◌, ◌-◌, ◌<◌, ◌≤◌, refl, sym, ap, ◌∙◌, List, [], ◌∷◌, length, take, drop, reverse, get_or, Bool, true, false, true≢false, not, arith}
+use Rattle.std.proofs.Common.{◌≡◌, ◌≢◌, ℕ, ◌+◌, ◌-◌, ◌<◌, ◌≤◌, refl, sym, ap, ◌∙◌, List, [], ◌∷◌, length, take, drop, reverse, Bool, true, false, not, arith}
 use Rattle.std.proofs.lemmas.List.{length-take-le, length-reverse, get_or-take, get_or-reverse, drop_more, drop_all}
 use Rattle.std.proofs.lemmas.Grind.{same_number_lists}
 use Rattle.std.proofs.lemmas.Slice.Eq.{bytes_eq-Decides}

@@ -1,7 +1,6 @@
 -- Strings put one after another, and strings taken out by their numbers.
 use Rattle.std.proofs.Common.{◌≡◌, ◌≢◌, ℕ, zero, suc, ◌+◌, ◌<◌, refl, sym, ap, subst, ◌∙◌, List, [], ◌∷◌, ◌++◌, length, map, filter, take, drop, fold, slice_get, slice_index_or, Some, None, Bool, true, false, not, nat_eq, add-one, arith}
-use Rattle.std.specs.Prelude.{if◌then◌else◌, find}
-use Rattle.std.specs.List.{AllByRecursion, Contains}
+use Rattle.std.specs.List.{AllByRecursion}
 use Rattle.std.proofs.lemmas.Bool.{eqb-true, false_from_ne_true}
 use Rattle.std.proofs.lemmas.Cmp.{nat_eq_equiv}
 use Rattle.cad_rows.specs.declared.rows.StringRow.{StringRow}

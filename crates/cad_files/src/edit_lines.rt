@@ -37,15 +37,9 @@ fn add_point(r: &Fields<'_>) -> Option<Line>
     if !are_blank(&[r.d, r.e, r.f]) {
         return None;
     }
-    let Some(point) = point_no(r.a) else {
-        return None;
-    };
-    let Some(x) = coordinate(r.b) else {
-        return None;
-    };
-    let Some(y) = coordinate(r.c) else {
-        return None;
-    };
+    let point = point_no(r.a)?;
+    let x = coordinate(r.b)?;
+    let y = coordinate(r.c)?;
     Some(Line::Command(Command::Edit(Edit::AddPoint { point, x, y })))
 }
 
@@ -57,9 +51,7 @@ fn drop_point(r: &Fields<'_>) -> Option<Line>
     if !are_blank(&[r.b, r.c, r.d, r.e, r.f]) {
         return None;
     }
-    let Some(point) = point_no(r.a) else {
-        return None;
-    };
+    let point = point_no(r.a)?;
     Some(Line::Command(Command::Edit(Edit::DropPoint { point })))
 }
 
@@ -166,12 +158,8 @@ fn attach(r: &Fields<'_>) -> Option<Line>
     if !are_blank(&[r.d, r.e, r.f]) {
         return None;
     }
-    let Some(item) = item(r.a, r.b) else {
-        return None;
-    };
-    let Some(source) = source_no(r.c) else {
-        return None;
-    };
+    let item = item(r.a, r.b)?;
+    let source = source_no(r.c)?;
     Some(Line::Command(Command::Edit(Edit::Attach { item, source })))
 }
 
@@ -206,7 +194,7 @@ fn rename(alloc: Global, r: &Fields<'_>) -> Result<Option<Line>, Memory>
     Ok(Some(Line::Command(Command::Edit(edit))))
 }
 
-// A closed points made an island.
+// A closed chain of points, made an island.
 #[tactic(auto, unfolding(crate::specs::Line::enclose_meant))]
 fn enclose(alloc: Global, r: &Fields<'_>) -> Result<Option<Line>, Memory>
     ensures { IfOk result (λ line. line ≡ enclose_meant r.now) }

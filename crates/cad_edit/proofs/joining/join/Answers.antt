@@ -1,4 +1,4 @@
-use Rattle.std.proofs.Common.{◌≡◌, sym, ◌∙◌, [], ◌∷◌, ◌++◌, map, not, filter}
+use Rattle.std.proofs.Common.{◌≡◌, sym, ◌∙◌, [], ◌∷◌, ◌++◌, map}
 use Rattle.cad_rows.specs.declared.rows.StringRow.{StringRow}
 use Rattle.cad_rings.specs.Surgery.{without}
 use Rattle.cad_map.specs.Boundaries.{bounding, listed}
@@ -6,7 +6,7 @@ use Rattle.cad_map.specs.Map.{strings_at}
 use Rattle.cad_map.specs.Table.{without_row}
 use Rattle.cad_map.specs.Changes.{by_number, string_joining}
 use Rattle.cad_map.proofs.RowsLeft.{none-filter}
-use Rattle.cad_map.proofs.KeptJoin.{MeetAt, meet-at}
+use Rattle.cad_map.proofs.KeptJoin.{meet-at}
 use Rattle.cad_map.proofs.StringsMeeting.{left-is, room-without}
 use Rattle.cad_edit.proofs.joining.join.Goals as goal
 

@@ -1,21 +1,18 @@
-use Rattle.std.proofs.Common.{◌≡◌, ◌≢◌, ◌≤◌, ◌+◌, ◌∙◌, refl, sym, ap, subst, List, [], ◌∷◌, ◌++◌, length, map, ℕ, Some, None, arith}
-use Rattle.std.specs.Prelude.{IsSome}
+use Rattle.std.proofs.Common.{◌≡◌, ◌≢◌, ◌∙◌, refl, sym, subst, List, [], ◌∷◌, ℕ, None}
 use Rattle.std.specs.List.{AllByRecursion}
 use Rattle.std.proofs.lemmas.Option.{same_Some}
 use Rattle.cad_rows.specs.Limits.{IsNumber, IsLabel}
-use Rattle.cad_rows.specs.declared.edits.Edit.TheVariants.{Divide, Enclose}
+use Rattle.cad_rows.specs.declared.edits.Edit.TheVariants.{Divide}
 use Rattle.cad_rows.specs.declared.names.Face.{Face}
-use Rattle.cad_rows.specs.declared.rows.StringRow.{StringRow}
-use Rattle.cad_map.specs.Map.{Map, string_of, parcel_of}
-use Rattle.cad_map.specs.Chain.{start_of, strings_along}
+use Rattle.cad_map.specs.Map.{Map}
+use Rattle.cad_map.specs.Chain.{strings_along}
 use Rattle.cad_map.specs.Valid.{EachPair}
 use Rattle.cad_map.specs.Refusals.{first_refusal}
 use Rattle.cad_map.proofs.Allowed.{allowed}
-use Rattle.cad_map.proofs.AllowedParcels.{can-divide, can-enclose}
+use Rattle.cad_map.proofs.AllowedParcels.{can-divide}
 use Rattle.cad_map.proofs.ChainFacts.{numbers-strings_along, pairs-from_distinct}
 use Rattle.cad_map.proofs.ChosenCorners.{chosen}
 use Rattle.cad_map.proofs.Divided.{CanDivide, ends-differ}
-use Rattle.cad_map.proofs.Enclosed.{CanEnclose}
 use Rattle.cad_map.proofs.RingsOfMap.{whole_valid}
 use Rattle.cad_edit.proofs.StringRows.{free-numbers}
 use Rattle.cad_edit.proofs.parting.divide.Goals as goal

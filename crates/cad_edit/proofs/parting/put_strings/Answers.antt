@@ -2,7 +2,7 @@ use Rattle.std.proofs.Common.{◌≡◌, ◌≢◌, ◌+◌, ◌∙◌, ap, sym,
 use Rattle.std.specs.Prelude.{None}
 use Rattle.std.specs.List.{AllByRecursion}
 use Rattle.cad_rows.specs.declared.rows.StringRow.{StringRow}
-use Rattle.cad_map.specs.Map.{Map, string_of}
+use Rattle.cad_map.specs.Map.{string_of}
 use Rattle.cad_map.specs.Valid.{EachPair}
 use Rattle.cad_edit.proofs.StringRows.{drop-next, take-next, still-free}
 use Rattle.cad_edit.proofs.parting.put_strings.Goals as goal
