@@ -1,18 +1,27 @@
-//! A list of commands carried out by an editor of a plain map.
+//! Lists of commands, each carried out by one call of the editor of a plain map.
 ghost use Rattle.std.specs.Prelude.{IfOk};
 ghost use Rattle.cad_history.specs.Standing.{StandsForSome};
 ghost use Rattle.cad_map.specs.Valid.{IsValid};
 
 use crate::bases::{OPEN, PLAN, SQUARE};
-use crate::cases::all_lines;
+use crate::cases::{all_lines, lines};
 use cad_edit::PlainStore;
-use cad_files::{build, read_plan};
+use cad_files::{Line, answer_text, build, next_row, read_line, read_plan};
 use cad_history::{Answer, Command, Depth, Editor, run};
 use cad_map::{MapStore, PlainMap};
-use cad_rows::{Edit, Memory, PointNo};
-use csv::ReaderBuilder;
+use cad_rows::Memory;
+use csv::{ByteRecord, ReaderBuilder};
 use std::alloc::Global;
 use std::test::Fail;
+
+/// A list of commands on the square of a metre, as records of a script, and the answers to them.
+#[derive(Drop)]
+struct List {
+    name: &'static str,
+    depth: usize,
+    commands: &'static [&'static str],
+    answers: &'static [&'static str],
+}
 
 /// The map of a plan.
 fn map_of(alloc: Global, plan: &[u8]) -> Result<PlainMap, Fail>
@@ -39,38 +48,110 @@ fn editor_of<M: MapStore + Drop>(alloc: Global, store: M, depth: Depth) -> Resul
     }
 }
 
-/// The command that adds a point.
-fn add_point(number: u32, x: i64, y: i64) -> Result<Command, Fail> {
-    let point = PointNo::new(number).ok_or("a number")?;
-    Ok(Command::Edit(Edit::AddPoint { point, x, y }))
+/// The command that a record asks for.
+fn command_of(alloc: Global, record: &str) -> Result<Command, Fail> {
+    let text = lines(alloc, &[record])?;
+    let mut reader = ReaderBuilder::new()
+        .has_headers(false)
+        .from_reader(alloc, text.as_slice());
+    let mut row = ByteRecord::new(alloc);
+    let _ = next_row(&mut reader, &mut row);
+    match read_line(alloc, &row) {
+        Ok(Line::Command(command)) => Ok(command),
+        _ => Err(Fail::from("a command")),
+    }
+}
+
+/// The commands that records ask for.
+fn commands_of(alloc: Global, records: &[&str]) -> Result<Vec<Command>, Fail> {
+    let mut commands = Vec::new(alloc);
+    for record in records {
+        commands.push(command_of(alloc, record)?)?;
+    }
+    Ok(commands)
+}
+
+/// The text of answers.
+fn text_of(alloc: Global, answers: &[Answer]) -> Result<Vec<u8>, Fail> {
+    let mut text = Vec::new(alloc);
+    for answer in answers {
+        let more = answer_text(alloc, answer)?;
+        text.extend_from_slice(more.as_slice())?;
+    }
+    Ok(text)
+}
+
+/// What an editor opened on a plan's map answers to a list of commands.
+fn answers_to(
+    alloc: Global,
+    plan: &[u8],
+    depth: Depth,
+    commands: &[Command],
+) -> Result<Vec<Answer>, Fail> {
+    let map = map_of(alloc, plan)?;
+    let mut editor = editor_of(alloc, PlainStore { map }, depth)?;
+    let answers = run(alloc, &mut editor, commands)?;
+    Ok(answers)
 }
 
 #[test]
-fn goes_one_edit_back_at_depth_one(rt: HostRuntime) -> Result<(), Fail> {
+fn lists_of_commands(rt: HostRuntime) -> Result<(), Fail> {
+    let lists = [
+        List {
+            name: "one edit back at depth one",
+            depth: 1,
+            commands: &[
+                "add-point,5,500,500",
+                "add-point,6,600,600",
+                "undo",
+                "undo",
+                "redo",
+                "redo",
+            ],
+            answers: &["ok", "ok", "ok", "nothing", "ok", "nothing"],
+        },
+        List {
+            name: "a refused edit leaves what can be made again",
+            depth: 100,
+            commands: &["add-point,5,500,500", "undo", "drop-point,9", "redo"],
+            answers: &["ok", "ok", "refused,2,unknown,point,9", "ok"],
+        },
+        List {
+            name: "a number retired by a merger until it is undone",
+            depth: 100,
+            commands: &[
+                "divide,1,1 3,21,2,C,1",
+                "merge,1,2",
+                "divide,1,1 3,21,2,C,1",
+                "undo",
+                "divide,1,1 3,22,2,C,1",
+                "undo",
+                "divide,1,1 3,22,2,C,1",
+            ],
+            answers: &[
+                "ok",
+                "ok",
+                "refused,4,retired,parcel,2",
+                "ok",
+                "refused,3,taken,parcel,2",
+                "ok",
+                "ok",
+            ],
+        },
+    ];
     let alloc = rt.alloc();
     let plan = all_lines(alloc, &[PLAN, SQUARE, OPEN])?;
-    let map = map_of(alloc, plan.as_slice())?;
-    let depth = Depth::new(1).ok_or("a depth")?;
-    let mut editor = editor_of(alloc, PlainStore { map }, depth)?;
-    let commands = [
-        add_point(5, 500, 500)?,
-        add_point(6, 600, 600)?,
-        Command::Undo,
-        Command::Undo,
-        Command::Redo,
-        Command::Redo,
-    ];
-    let answers = run(alloc, &mut editor, &commands)?;
-    let wanted = [
-        Answer::Done,
-        Answer::Done,
-        Answer::Done,
-        Answer::Nothing,
-        Answer::Done,
-        Answer::Nothing,
-    ];
-    assert_eq!(rt; answers.as_slice(), wanted.as_slice());
-    assert!(rt; editor.can_undo());
-    assert!(rt; !editor.can_redo());
+    for list in &lists {
+        let depth = Depth::new(list.depth).ok_or("a depth")?;
+        let commands = commands_of(alloc, list.commands)?;
+        let answers = answers_to(alloc, plan.as_slice(), depth, commands.as_slice())?;
+        let text = text_of(alloc, answers.as_slice())?;
+        let wanted = lines(alloc, list.answers)?;
+        assert!(rt;
+            text.as_slice() == wanted.as_slice(),
+            "what {} answers",
+            list.name
+        );
+    }
     Ok(())
 }
