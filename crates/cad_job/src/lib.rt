@@ -11,4 +11,4 @@ pub use args::{Args, args_status, read_args};
 pub use faults::{JobFault, status};
 pub use job::run_job;
 pub use path::run_path;
-pub use program::run_args;
+pub use program::{run_words, tell};

@@ -1,42 +1,76 @@
-//! The job that the program's arguments name, and what it tells of it.
-use crate::args::Args;
+//! What the program does with the words of its command line, and what it tells of it.
+ghost use Rattle.std.specs.Prelude.{◌≡◌, IfOk};
+ghost use Rattle.cad_job.specs.Told.{status_of};
+
+use crate::args::{Args, args_status, read_args};
 use crate::faults::{JobFault, status};
 use crate::job::run_job;
 use crate::path::run_path;
 use cad_files::OutSink;
+use clap::Error;
+use clap::error::ErrorKind;
 use std::fs::Files;
 use std::io::{self, BufWriter};
 
-/// Does the job in the file that the arguments name, or on standard input, and writes its answers to standard output.
-/// A fault is told on standard error. Gives the status with which the program ends.
-pub fn run_args<R: Files + Input + Print + Eprint + AllocGlobal>(
+/// Reads the words of the command line, the program's name first, and does the job that they name: that in a file, or
+/// on standard input. Its answers go to standard output, and a fault is told on standard error. Gives the status with
+/// which the program ends.
+pub fn run_words<R: Files + Input + Print + Eprint + AllocGlobal>(
+    rt: &R,
+    words: &[&str],
+) -> io::Result<u8>
+where
+    R::File: Drop,
+{
+    match read_args(rt.alloc(), words) {
+        Ok(args) => run_args(rt, &args),
+        Err(error) => tell_refused(rt, &error),
+    }
+}
+
+/// Does the job that the arguments name.
+fn run_args<R: Files + Input + Print + Eprint + AllocGlobal>(
     rt: &R,
     args: &Args<'_>,
 ) -> io::Result<u8>
 where
     R::File: Drop,
 {
-    match job_of(rt, args)? {
+    match job_of(rt, args) {
         Ok(()) => Ok(0),
-        Err(fault) => {
-            eprintln!(rt; "{fault}")?;
-            Ok(status(&fault))
-        }
+        Err(fault) => tell(rt, &fault),
     }
 }
 
 /// How the job that the arguments name ends.
-fn job_of<R: Files + Input + Print + AllocGlobal>(
-    rt: &R,
-    args: &Args<'_>,
-) -> io::Result<Result<(), JobFault>>
+fn job_of<R: Files + Input + Print + AllocGlobal>(rt: &R, args: &Args<'_>) -> Result<(), JobFault>
 where
     R::File: Drop,
 {
     let alloc = rt.alloc();
-    let mut sink = OutSink::new(BufWriter::new(alloc, io::writer(rt))?);
+    let Ok(out) = BufWriter::new(alloc, io::writer(rt)) else {
+        return Err(JobFault::Memory);
+    };
+    let mut sink = OutSink::new(out);
     match args.file {
-        Some(path) => Ok(run_path(rt, path, &mut sink, args.depth)),
-        None => Ok(run_job(alloc, rt.reader(), &mut sink, args.depth)),
+        Some(path) => run_path(rt, path, &mut sink, args.depth),
+        None => run_job(alloc, rt.reader(), &mut sink, args.depth),
     }
+}
+
+/// Tells why the arguments weren't read. Gives the status.
+fn tell_refused<R: Print + Eprint + AllocGlobal>(rt: &R, error: &Error) -> io::Result<u8> {
+    if error.kind() == ErrorKind::OutOfMemory {
+        return tell(rt, &JobFault::Memory);
+    }
+    error.print(rt)?;
+    Ok(args_status(error))
+}
+
+/// Tells a fault on standard error. Gives the status with which the program ends.
+pub fn tell<R: Eprint>(rt: &R, fault: &JobFault) -> io::Result<u8>
+    ensures { IfOk result (λ told. told ≡ status_of fault.now) }
+{
+    eprintln!(rt; "{fault}")?;
+    Ok(status(fault))
 }

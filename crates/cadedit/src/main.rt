@@ -2,22 +2,32 @@
 //! an answer for each record of its script.
 #![tactic(auto)]
 
-use cad_job::{args_status, read_args, run_args};
-use std::env;
+use cad_job::{JobFault, run_words, tell};
 use std::process::ExitCode;
+use std::{env, io};
 
 fn main(rt: HostRuntime) -> anyhow::Result<ExitCode> {
-    let alloc = rt.alloc();
-    let owned: Vec<String> = env::args(&rt)?.collect(alloc)?;
-    let mut words = Vec::new(alloc);
-    for word in &owned {
-        words.push(word.as_str())?;
-    }
-    match read_args(alloc, words.as_slice()) {
-        Ok(args) => Ok(ExitCode::from(run_args(&rt, &args)?)),
-        Err(error) => {
-            error.print(&rt)?;
-            Ok(ExitCode::from(args_status(&error)))
+    let status = match command_line(&rt) {
+        Ok(owned) => run_owned(&rt, owned.as_slice())?,
+        Err(error) if error.kind() == io::ErrorKind::OutOfMemory => tell(&rt, &JobFault::Memory)?,
+        Err(error) => return Err(error.into()),
+    };
+    Ok(ExitCode::from(status))
+}
+
+/// The words of the command line, the program's name first.
+fn command_line(rt: &HostRuntime) -> io::Result<Vec<String>> {
+    let words = env::args(rt)?.collect(rt.alloc())?;
+    Ok(words)
+}
+
+/// Does the job that these words name, and gives the status.
+fn run_owned(rt: &HostRuntime, owned: &[String]) -> io::Result<u8> {
+    let mut words = Vec::new(rt.alloc());
+    for word in owned {
+        if words.push(word.as_str()).is_err() {
+            return tell(rt, &JobFault::Memory);
         }
     }
+    run_words(rt, words.as_slice())
 }
