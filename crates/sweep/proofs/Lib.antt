@@ -1,0 +1,5 @@
+mod Rising
+mod Pairs
+mod Rows
+pub mod Boxes
+mod SortedKeys
