@@ -1,0 +1,43 @@
+use Rattle.std.proofs.Common.{sym, ◌∙◌}
+use Rattle.indexmap.specs.Layout.{set_value_at}
+use Rattle.entry_list.specs.Slots.{IsRowSlot}
+use Rattle.entry_list.proofs.OneSlot.{Replaces, replaces}
+use Rattle.entry_list.proofs.list.EntryList.replace.Goals as goal
+
+pub invariant_of-self : goal.invariant_of-self
+invariant_of-self g c =
+    let es = c.self.inside.slots.entries in
+    let i = c.unwrap-slot.result in
+    let n = c.args.number in
+    let found = rw c.unwrap-slot.ensures at c.slot_of.ensures.found in
+    let r : IsRowSlot es i n = rw c.self.view_is found in
+    let here = rw c.unwrap-cell.ensures at c.get_index_mut.ensures.value in
+    let value = sym c.replace.ensures.value ∙ c.unwrap.ensures in
+    let once = c.get_index_mut.ensures.unique in
+    let k : Replaces es (set_value_at es i c.replace.new.dest) n c.unwrap.result c.args.row =
+    rw c.replace.ensures.after
+    (replaces n i es c.unwrap-cell.result.now c.unwrap.result c.args.row r here value once) in
+    (rw k.marks c.self.invariant.0, rw k.long c.self.invariant.1)
+
+pub returns : goal.returns
+returns g c =
+    let es = c.self.inside.slots.entries in
+    let i = c.unwrap-slot.result in
+    let n = c.args.number in
+    let old = c.unwrap.result in
+    let found = rw c.unwrap-slot.ensures at c.slot_of.ensures.found in
+    let r : IsRowSlot es i n = rw c.self.view_is found in
+    let here = rw c.unwrap-cell.ensures at c.get_index_mut.ensures.value in
+    let value = sym c.replace.ensures.value ∙ c.unwrap.ensures in
+    let once = c.get_index_mut.ensures.unique in
+    let k : Replaces c.args.self.now (set_value_at es i c.replace.new.dest) n old c.args.row =
+    rw (← c.self.view_is, c.replace.ensures.after)
+    (replaces n i es c.unwrap-cell.result.now old c.args.row r here value once) in
+    record {
+      old = k.stood;
+      new = k.stands;
+      with = k.with;
+      rows = k.rows;
+      back = k.back;
+      slots = k.slots;
+    }

@@ -1,0 +1,23 @@
+use Rattle.std.proofs.Common.{sym, ◌∙◌}
+use Rattle.entry_list.proofs.Found.{none-slot, found-slot, absent-slot}
+use Rattle.entry_list.proofs.list.EntryList.slot_of.Goals as goal
+
+pub returns-in_err-slot-clause-absent : goal.returns-in_err-slot-clause-absent
+returns-in_err-slot-clause-absent g c =
+    rw (c.from_residual.ensures, ← c.self.view_is)
+    (none-slot c.args.number c.self.inside.slots.entries c.in_err-slot.ensures.found)
+
+pub returns-then-is_some-clause-found : goal.returns-then-is_some-clause-found
+returns-then-is_some-clause-found g c =
+    rw (← c.self.view_is)
+    (found-slot c.args.number c.in_ok-slot.slot c.self.inside.slots.entries
+    c.in-Some.field-0-0.now c.in-Some.row.now c.in_ok-slot.ensures.index
+    c.in-Some.ensures.entry (sym c.is_some.ensures ∙ c.if-is_some.true))
+
+pub returns-else-is_some-clause-absent : goal.returns-else-is_some-clause-absent
+returns-else-is_some-clause-absent g c =
+    rw (← c.self.view_is)
+    (absent-slot c.args.number c.in_ok-slot.slot c.self.inside.slots.entries
+    c.in-Some.field-0-0.now c.in-Some.row.now c.in_ok-slot.ensures.index
+    c.in-Some.ensures.entry c.in-Some.ensures.value c.in_ok-slot.ensures.unique
+    (sym c.is_some.ensures ∙ c.if-is_some.false))

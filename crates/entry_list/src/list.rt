@@ -1,0 +1,106 @@
+//! The list, and what is read of it.
+ghost use Rattle.std.specs.Prelude.{◌≡◌, [], length, None, slice_get, nat_eq};
+ghost use Rattle.std.specs.Prelude.{option_map, option_copied, IfSome, IfNone};
+ghost use Rattle.entry_list.specs.Slots.{rows_of, numbers_of, row_at, IsRowSlot};
+ghost use Rattle.std.specs.List.{IsDistinct};
+
+use crate::marks::Marks;
+use indexmap::IndexMap;
+use std::alloc::Global;
+use std::marker::Model;
+
+/// Rows under their numbers, in order of entry. The place of a row is how many rows stand before
+/// it, and is counted; nothing of it is kept.
+///
+/// A number has a slot in the table, with its row or empty, and keeps it when the row is taken
+/// out. So `keep_slot` is what takes memory, and each change of the rows after it is certain.
+/// A mark for each slot tells whether it has a row, and sums of blocks of marks give places from
+/// slots and slots from places: the idea of a Fenwick tree (P. M. Fenwick, A new data structure
+/// for cumulative frequency tables, 1994), with one level of sums in place of a tree.
+///
+/// To look a row up by its number takes a look into the table; a place, and the row at a place,
+/// take time by the number of blocks and the length of one.
+#[derive(Drop)]
+pub struct EntryList<V> {
+    pub(crate) slots: IndexMap<u64, Option<V>>,
+    pub(crate) live: Marks,
+    pub(crate) len: usize,
+}
+
+impl<V> Model for EntryList<V> {
+    ghost use Rattle.entry_list.specs.Slots.{Slots, AreCounted};
+
+    ghost Value = { Slots V };
+
+    ghost view = { λ a. a.slots.entries };
+
+    ghost invariant = { λ a. AreCounted a.slots.entries a.live a.len };
+}
+
+impl<V> EntryList<V> {
+    /// No rows and no slots.
+    pub fn new(alloc: Global) -> Self
+        ensures { result ≡ [] }
+    {
+        EntryList {
+            slots: IndexMap::new(alloc),
+            live: Marks::new(alloc),
+            len: 0,
+        }
+    }
+
+    /// The number of rows. No number has two.
+    pub fn len(&self) -> usize
+        ensures len { result ≡ length (rows_of self.now) }
+        ensures distinct { IsDistinct nat_eq (numbers_of self.now) }
+    {
+        let _slots = self.slots.len();
+        self.len
+    }
+
+    /// The row with the number; none where no row has it.
+    pub fn get(&self, number: u64) -> Option<&V>
+        ensures { option_copied result ≡ row_at number self.now }
+    {
+        let slot = self.slot_of(number)?;
+        match self.slots.get_index(slot) {
+            Some((_, Some(row))) => Some(row),
+            _ => None,
+        }
+    }
+
+    /// How many rows stand before the one with the number; none where no row has it.
+    pub fn place_of(&self, number: u64) -> Option<usize>
+        ensures place { IfSome result (λ p. slice_get (numbers_of self.now) p ≡ Some number) }
+        ensures none { IfNone result (row_at number self.now ≡ None) }
+    {
+        let slot = self.slot_of(number)?;
+        Some(self.live.count_before(slot))
+    }
+
+    /// The row before which so many others stand, with its number; none from the length on.
+    pub fn at(&self, place: usize) -> Option<(u64, &V)>
+        ensures { option_map (λ r. (r.0, r.1.now)) result ≡ slice_get (rows_of self.now) place }
+    {
+        if place >= self.len {
+            return None;
+        }
+        let slot = self.live.place_of(place);
+        match self.slots.get_index(slot) {
+            Some((number, row)) => Some((*number, row.as_ref().unwrap())),
+            None => None,
+        }
+    }
+
+    // The slot of the row with the number.
+    pub(crate) fn slot_of(&self, number: u64) -> Option<usize>
+        ensures found { IfSome result (λ i. IsRowSlot self.now i number) }
+        ensures absent { IfNone result (row_at number self.now ≡ None) }
+    {
+        let slot = self.slots.get_index_of(&number)?;
+        match self.slots.get_index(slot) {
+            Some((_, row)) => { if row.is_some() { Some(slot) } else { None } }
+            None => None,
+        }
+    }
+}
