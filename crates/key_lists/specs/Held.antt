@@ -1,0 +1,33 @@
+-- Lists under keys, and the room that each has.
+use Rattle.std.specs.Prelude.{◌≡◌, ℕ, ◌+◌, ◌≤◌, vec_capacity, List, [], length, Option, nat_eq, option_map, unwrap_or}
+use Rattle.std.specs.Map.{lookup}
+use Rattle.std.specs.Global.{Vec}
+
+-- under each key that was ever given room a list
+abbrev pub Held : Type 0 → Type 0
+Held X = List (ℕ × Vec X)
+
+module _ {X : Type 0} where
+  -- the list under a key, if the key was ever given room
+  abbrev pub list_at : Held X → ℕ → Option (Vec X)
+  list_at held key = lookup (nat_eq key) held
+
+  -- the items under a key; none where the key was never given room
+  abbrev pub items_at : Held X → ℕ → List X
+  items_at held key = unwrap_or (option_map (λ list. list.items) (list_at held key)) []
+
+  -- how many items fit under a key without memory; none where the key was never given room
+  abbrev pub capacity_at : Held X → ℕ → ℕ
+  capacity_at held key = unwrap_or (option_map (λ list. vec_capacity list) (list_at held key)) 0
+
+  -- so many items more fit under the key without memory
+  abbrev pub HasRoomAt : Held X → ℕ → ℕ → Type 0
+  HasRoomAt held key more = length (items_at held key) + more ≤ capacity_at held key
+
+  -- the lists under the other keys are as they were, with their room
+  abbrev pub KeepsOthers : ℕ → Held X → Held X → Type 0
+  KeepsOthers key old new = (other : ℕ) → ¬ (key ≡ other) → list_at new other ≡ list_at old other
+
+  -- the items under every key are as they were
+  abbrev pub IsSame : Held X → Held X → Type 0
+  IsSame old new = (key : ℕ) → items_at new key ≡ items_at old key

@@ -1,0 +1,108 @@
+//! Lists under keys.
+ghost use Rattle.std.specs.Prelude.{◌≡◌, ◌≤◌, ◌<◌, ◌++◌, ◌∷◌, [], length, IsOk, OnOk, OnErr, slice_set, slice_get, Some, swap_remove};
+ghost use Rattle.key_lists.specs.Held.{items_at, capacity_at, HasRoomAt, KeepsOthers, IsSame};
+
+use indexmap::IndexMap;
+use std::alloc::{AllocError, Global};
+use std::marker::Model;
+
+/// Under each key a list of items; under a key that was never given room, the empty one.
+///
+/// Only `reserve` takes memory, and it changes no item. A key keeps its list with its room, also
+/// where no item is left, so a change that is taken back needs no memory either. Each call but
+/// `reserve` takes a look into the table, and no time by the length of the list.
+#[derive(Drop)]
+pub struct KeyLists<X: Copy> {
+    lists: IndexMap<u64, Vec<X>>,
+}
+
+impl<X: Copy> Model for KeyLists<X> {
+    ghost use Rattle.key_lists.specs.Held.{Held};
+
+    ghost Value = { Held X };
+
+    ghost view = { λ a. a.lists.entries };
+}
+
+impl<X: Copy> KeyLists<X> {
+    /// No items, and no room under any key.
+    pub fn new(alloc: Global) -> Self
+        ensures { result ≡ [] }
+    {
+        KeyLists {
+            lists: IndexMap::new(alloc),
+        }
+    }
+
+    /// The items under a key.
+    pub fn at(&self, key: u64) -> &[X]
+        ensures { result.now ≡ items_at self.now key }
+    {
+        match self.lists.get(&key) {
+            Some(list) => list.as_slice(),
+            None => &[],
+        }
+    }
+
+    /// Sees that so many items more fit under a key. It takes memory where they don't yet, and
+    /// time by the items under the key. The items stay as they are; where memory runs out, the
+    /// room too.
+    pub fn reserve(&mut self, key: u64, more: usize) -> Result<(), AllocError>
+        ensures room { OnOk result (HasRoomAt self.new key more) }
+        ensures same { IsSame self.old self.new }
+        ensures capacity { capacity_at self.old key ≤ capacity_at self.new key }
+        ensures others { KeepsOthers key self.old self.new }
+        ensures had_room { HasRoomAt self.old key more → IsOk result }
+        ensures err { OnErr result (capacity_at self.new key ≡ capacity_at self.old key) }
+    {
+        if more == 0 {
+            return Ok(());
+        }
+        if let Some(list) = self.lists.get_mut(&key) {
+            list.reserve(more)?;
+            return Ok(());
+        }
+        let mut list = Vec::new(*self.lists.allocator());
+        list.reserve(more)?;
+        self.lists.insert(key, list)?;
+        Ok(())
+    }
+
+    /// Puts an item behind those under a key that has room for it. It takes no memory.
+    pub fn put(&mut self, key: u64, item: X)
+        requires { HasRoomAt self.old key 1 }
+        ensures items { items_at self.new key ≡ items_at self.old key ++ item ∷ [] }
+        ensures capacity { capacity_at self.new key ≡ capacity_at self.old key }
+        ensures others { KeepsOthers key self.old self.new }
+    {
+        if let Some(list) = self.lists.get_mut(&key) {
+            list.push_reserved(item);
+        }
+    }
+
+    /// Takes the item at a place out and gives it; the last one under the key takes its place. It
+    /// takes no memory, and there is room for one more after it.
+    pub fn take(&mut self, key: u64, place: usize) -> X
+        requires { place < length (items_at self.old key) }
+        ensures item { slice_get (items_at self.old key) place ≡ Some result }
+        ensures items { items_at self.new key ≡ swap_remove (items_at self.old key) place result }
+        ensures room { HasRoomAt self.new key 1 }
+        ensures capacity { capacity_at self.new key ≡ capacity_at self.old key }
+        ensures others { KeepsOthers key self.old self.new }
+    {
+        let list = self.lists.get_mut(&key).unwrap();
+        let _length = list.len();
+        list.swap_remove(place)
+    }
+
+    /// Puts an item in the place of another. It takes no memory.
+    pub fn set(&mut self, key: u64, place: usize, item: X)
+        requires { place < length (items_at self.old key) }
+        ensures items { items_at self.new key ≡ slice_set (items_at self.old key) place item }
+        ensures capacity { capacity_at self.new key ≡ capacity_at self.old key }
+        ensures others { KeepsOthers key self.old self.new }
+    {
+        let list = self.lists.get_mut(&key).unwrap();
+        list[place] = item;
+    }
+}

@@ -1,0 +1,86 @@
+ghost use Rattle.std.specs.Prelude.{OnOk};
+ghost use Rattle.key_lists.specs.Held.{HasRoomAt};
+
+use super::*;
+use std::alloc::AllocError;
+use std::process::Abort;
+use std::test::Fail;
+
+// Makes room under a key. A refused growth leaves all items as they are, and is tried again.
+fn make_room(
+    rt: &impl Abort,
+    lists: &mut KeyLists<u32>,
+    key: u64,
+    more: usize,
+) -> Result<(), AllocError>
+    ensures { OnOk result (HasRoomAt lists.new key more) }
+{
+    let before = [first_at(lists, 7), first_at(lists, 8)];
+    let count = lists.at(key).len();
+    if lists.reserve(key, more).is_err() {
+        assert_eq!(rt; [first_at(lists, 7), first_at(lists, 8)], before);
+        assert_eq!(rt; lists.at(key).len(), count);
+        lists.reserve(key, more)?;
+    }
+    Ok(())
+}
+
+// The first item under a key, 0 where there is none.
+fn first_at(lists: &KeyLists<u32>, key: u64) -> u32 {
+    match lists.at(key) {
+        [first, ..] => *first,
+        [] => 0,
+    }
+}
+
+fn add(rt: &impl Abort, lists: &mut KeyLists<u32>, key: u64, item: u32) -> Result<(), AllocError> {
+    make_room(rt, lists, key, 1)?;
+    lists.put(key, item);
+    Ok(())
+}
+
+// The items 70 to 75 under 7, and 80 under 8.
+fn fill(rt: &impl Abort, lists: &mut KeyLists<u32>) -> Result<(), AllocError> {
+    for item in 70..76 {
+        add(rt, lists, 7, item)?;
+    }
+    add(rt, lists, 8, 80)
+}
+
+#[test]
+fn put_in_turn(rt: HostRuntime) -> Result<(), Fail> {
+    let mut lists = KeyLists::new(rt.alloc());
+    assert!(rt; lists.at(7).is_empty());
+    fill(&rt, &mut lists)?;
+    assert_eq!(rt; lists.at(7), [70, 71, 72, 73, 74, 75].as_slice());
+    assert_eq!(rt; lists.at(8), [80].as_slice());
+    assert!(rt; lists.at(9).is_empty());
+    Ok(())
+}
+
+#[test]
+fn taken_and_set(rt: HostRuntime) -> Result<(), Fail> {
+    let mut lists = KeyLists::new(rt.alloc());
+    fill(&rt, &mut lists)?;
+    assert_eq!(rt; lists.at(7).len(), 6);
+    assert_eq!(rt; lists.take(7, 1), 71);
+    assert_eq!(rt; lists.at(7), [70, 75, 72, 73, 74].as_slice());
+    lists.put(7, 76);
+    assert_eq!(rt; lists.at(7), [70, 75, 72, 73, 74, 76].as_slice());
+    lists.set(7, 2, 77);
+    assert_eq!(rt; lists.at(7), [70, 75, 77, 73, 74, 76].as_slice());
+    assert_eq!(rt; lists.at(8), [80].as_slice());
+    Ok(())
+}
+
+#[test]
+fn refused_for_want_of_address_space(rt: HostRuntime) -> Result<(), Fail> {
+    let mut lists = KeyLists::new(rt.alloc());
+    fill(&rt, &mut lists)?;
+    assert!(rt; lists.reserve(7, usize::MAX).is_err());
+    assert!(rt; lists.reserve(9, usize::MAX).is_err());
+    assert_eq!(rt; lists.at(7), [70, 71, 72, 73, 74, 75].as_slice());
+    assert!(rt; lists.at(9).is_empty());
+    assert!(rt; lists.reserve(9, 0).is_ok());
+    Ok(())
+}
