@@ -56,7 +56,7 @@ first_of-append : (xs : List ℕ) (b : ℕ) (ys : List ℕ) (z : ℕ) → first_
 first_of-append [] b ys z = refl
 first_of-append (x ∷ xs) b ys z = refl
 
-first_of-reverse : (a : ℕ) (xs : List ℕ) → first_of (reverse xs) a ≡ last_of a xs
+pub first_of-reverse : (a : ℕ) (xs : List ℕ) → first_of (reverse xs) a ≡ last_of a xs
 first_of-reverse a [] = refl
 first_of-reverse a (x ∷ xs) = ap (λ (l : List ℕ). first_of l a) (reverse-append (x ∷ []) xs) ∙ first_of-append (reverse xs) x [] a ∙ first_of-reverse x xs
 
@@ -78,7 +78,7 @@ corner_at-is i ring xs b ys e =
 -- ---- The cut
 
 -- at each end of the chain a corner is parted in two, and the chain's own corners come in both ways
-corners-parts : (a : ℕ) (xs : List ℕ) (b : ℕ) (ys inner : List ℕ)
+pub corners-parts : (a : ℕ) (xs : List ℕ) (b : ℕ) (ys inner : List ℕ)
     → let at_a = corner (last_of b ys) a (first_of xs b) in let at_b = corner (last_of a xs) b (first_of ys a) in
     IsPermutation (at_a ∷ at_b ∷ (corners_of (a ∷ inner ++ b ∷ ys) ++ corners_of (b ∷ reverse inner ++ a ∷ xs)))
     (parted_by (first_of inner b) at_a ++ (parted_by (last_of a inner) at_b ++ ((between a inner b ++ between b (reverse inner) a) ++ corners_of (a ∷ xs ++ b ∷ ys))))
@@ -106,7 +106,7 @@ corners-parts a xs b ys inner =
     (parted_by (first_of inner b) at_a ++ (parted_by (last_of a inner) at_b ++ ((chain ++ back) ++ corners_of (a ∷ xs ++ b ∷ ys)))) (laid pieces (5 ∷ 7 ∷ 9 ∷ 3 ∷ 2 ∷ 6 ∷ 8 ∷ 1 ∷ 4 ∷ 0 ∷ [])) e1 e2
     (shuffled pieces (0 ∷ 1 ∷ 2 ∷ 3 ∷ 4 ∷ 5 ∷ 6 ∷ 7 ∷ 8 ∷ 9 ∷ []) (5 ∷ 7 ∷ 9 ∷ 3 ∷ 2 ∷ 6 ∷ 8 ∷ 1 ∷ 4 ∷ 0 ∷ []) refl)
 
-back_again : (a : ℕ) (inner : List ℕ) (b : ℕ) → reverse (a ∷ inner ++ b ∷ []) ≡ b ∷ reverse inner ++ a ∷ []
+pub back_again : (a : ℕ) (inner : List ℕ) (b : ℕ) → reverse (a ∷ inner ++ b ∷ []) ≡ b ∷ reverse inner ++ a ∷ []
 back_again a inner b = reverse-append (a ∷ inner) (b ∷ []) ∙ ap (λ (l : List ℕ). b ∷ l) (reverse-append (a ∷ []) inner)
 
 chain_both_ways : (a : ℕ) (inner : List ℕ) (b : ℕ) → IsPermutation (between a inner b ++ between b (reverse inner) a) (corners_both_ways (between a inner b))

@@ -16,7 +16,7 @@ use Rattle.geo_exact.proofs.Meeting.{swap_roles, swap_first, swap_second, backwa
 use Rattle.geo_exact.proofs.SignTestLemmas.{and_right, overlap_from}
 use Rattle.geo_exact.proofs.Toolbox.{by_parts, var, ◌⊞◌, ◌⊟◌, ◌⊠◌}
 pub use Rattle.geo_exact.specs.MeasureLaws.{doubled_area-odd, doubled_area-bounded, winding-odd, winding-bounded}
-pub use Rattle.geo_exact.proofs.Directions.{one_is_first}
+pub use Rattle.geo_exact.proofs.Directions.{one_is_first, in_one_sector}
 pub use Rattle.geo_exact.proofs.Borders.{in_sector-first_border, in_sector-last_border}
 pub use Rattle.geo_exact.proofs.SignTestLemmas.{passes_signs-is}
 

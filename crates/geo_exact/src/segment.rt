@@ -33,8 +33,9 @@ fn have_y_in_common(a: Pt, b: Pt, c: Pt, d: Pt) -> bool
     have_stretch_in_common(a.y, b.y, c.y, d.y)
 }
 
-// The boxes of the two have a location in common.
-fn have_boxes_in_common(a: Pt, b: Pt, c: Pt, d: Pt) -> bool
+/// Whether the boxes of the segments ab and cd have a location in common. Segments that meet have
+/// such boxes, so the test spares `meets` for those that lie apart.
+pub fn have_boxes_in_common(a: Pt, b: Pt, c: Pt, d: Pt) -> bool
     ensures { result ≡ boxes_overlap a b c d }
 {
     have_x_in_common(a, b, c, d) && have_y_in_common(a, b, c, d)
@@ -47,11 +48,12 @@ fn reaches_across(a: Pt, b: Pt, c: Pt, d: Pt) -> bool
     !(is_left_of(a, b, c) && is_left_of(a, b, d)) && !(is_right_of(a, b, c) && is_right_of(a, b, d))
 }
 
-// The test by signs alone.
+// The test by signs alone. It asks for the boxes first: that costs least, and most segments near one
+// another are apart by it.
 fn passes_sign_test(a: Pt, b: Pt, c: Pt, d: Pt) -> bool
     ensures { result ≡ passes_signs a b c d }
 {
-    reaches_across(c, d, a, b) && reaches_across(a, b, c, d) && have_boxes_in_common(a, b, c, d)
+    have_boxes_in_common(a, b, c, d) && reaches_across(c, d, a, b) && reaches_across(a, b, c, d)
 }
 
 /// Whether the segments ab and cd have a common location, their ends included. A segment may be a single position, and the

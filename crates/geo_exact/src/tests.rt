@@ -56,6 +56,25 @@ fn finds_common_locations(rt: HostRuntime) -> Result<(), Fail> {
 }
 
 #[test]
+fn finds_boxes_in_common(rt: HostRuntime) -> Result<(), Fail> {
+    let a = at(0, 4)?;
+    let b = at(4, 0)?;
+    for (cx, cy, dx, dy, have_common) in [
+        (3, 3, 9, 9, true),
+        (4, 4, 9, 9, true),
+        (5, 0, 9, 4, false),
+        (0, -9, 4, -1, false),
+    ] {
+        assert_eq!(rt;
+            have_boxes_in_common(a, b, at(cx, cy)?, at(dx, dy)?),
+            have_common,
+            "at {cx}, {cy}"
+        );
+    }
+    Ok(())
+}
+
+#[test]
 fn tells_sectors(rt: HostRuntime) -> Result<(), Fail> {
     let v = at(0, 0)?;
     for (nx, ny, px, py, wx, wy, is_in) in [
