@@ -1,0 +1,9 @@
+mod Placed
+mod Blocks
+mod Same
+mod Spreading
+mod Spreads
+mod Nearness
+mod Found
+mod Grids
+mod Passed

@@ -1,0 +1,18 @@
+use Rattle.cell_grid.specs.Grid.{entry_of}
+use Rattle.cell_grid.proofs.Grids.{numbers_given, strings_given}
+use Rattle.cell_grid.proofs.grid.CellGrid.candidates.Goals as goal
+
+pub invariant_of-result : goal.invariant_of-result
+invariant_of-result c = let s = c.self.inside.strings in
+    numbers_given s.side s.lists s.long.items c.self.invariant.strings
+    c.args.a c.args.b c.of.result
+    c.of.ensures.held
+
+pub returns-clause-held : goal.returns-clause-held
+returns-clause-held c = let s = c.self.inside.strings in
+    rw (← c.self.view_is) (strings_given s.side s.lists s.long.items c.self.invariant.strings
+    c.args.a c.args.b c.of.result c.of.ensures.held)
+
+pub returns-clause-all : goal.returns-clause-all
+returns-clause-all c =
+    rw (← c.self.view_is) (λ n a b held meet. c.of.ensures.all (entry_of n a b) held meet)

@@ -1,0 +1,8 @@
+use Rattle.std.proofs.Common.{◌≡◌, filter}
+use Rattle.cell_grid.specs.Near.{is_near, lists_from}
+use Rattle.cell_grid.proofs.near.find_from.Given as goal
+
+abbrev pub invariant-loop-step : goal.invariant-loop-step
+invariant-loop-step l =
+    let of = lists_from l.segments.lists l.segments.long.items l.query in
+    filter (is_near l.query) (of l.from) ≡ filter (is_near l.query) (of l.step)

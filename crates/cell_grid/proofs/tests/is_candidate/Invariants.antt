@@ -1,0 +1,7 @@
+use Rattle.std.proofs.Common.{◌≡◌, ℕ}
+use Rattle.std.specs.List.{Contains}
+use Rattle.cell_grid.proofs.tests.is_candidate.Given as goal
+
+-- none of the candidates so far is the one that is looked for
+abbrev pub invariant-loop-other : goal.invariant-loop-other
+invariant-loop-other l = (k : ℕ) → Contains l.yielded k → ¬ (k ≡ l.no)

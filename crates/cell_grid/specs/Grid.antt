@@ -1,0 +1,22 @@
+-- What a grid holds.
+use Rattle.std.specs.Prelude.{ℕ}
+use Rattle.geo_exact.specs.Position.{Position}
+use Rattle.cell_grid.specs.declared.entry.Entry.{Entry}
+use Rattle.cell_grid.specs.Kept.{Kept, IsHeld}
+
+-- what is kept of strings, and of points
+pub record Grid : Type 0 where
+  pub strings : Kept
+  pub points : Kept
+
+-- the entry of a number between two positions
+abbrev pub entry_of : ℕ → Position → Position → Entry
+entry_of n a b = record { number = n; from = a; to = b }
+
+-- the grid holds the string with this number between these positions
+abbrev pub HoldsString : Grid → ℕ → Position → Position → Type 0
+HoldsString g n a b = IsHeld g.strings (entry_of n a b)
+
+-- the grid holds the point with this number at this position
+abbrev pub HoldsPoint : Grid → ℕ → Position → Type 0
+HoldsPoint g n a = IsHeld g.points (entry_of n a a)

@@ -1,0 +1,9 @@
+pub mod Cells
+pub mod Entries
+pub mod Held
+pub mod Spread
+pub mod Kept
+pub mod Near
+pub mod Ahead
+pub mod Grid
+pub mod Inside

@@ -1,0 +1,94 @@
+//! Blocks of cells, and the cells that the box of a segment touches.
+ghost use Rattle.std.specs.Prelude.{◌≡◌, ◌<◌, ◌≤◌, ◌+◌, ◌-◌, ◌*◌, min, max};
+ghost use Rattle.geo_exact.specs.Position.{InRange};
+ghost use Rattle.cell_grid.specs.Cells.{place_along as place_along_of, IsSide, IsBlock, row_width, block_of as block_of_box, width as width_of, cell_count as cell_count_of, cell_at as cell_at_of};
+
+use geo_exact::{COORDINATE_LIMIT, Pt};
+
+/// How many numbers a row of cells takes: more than the cells that a row can have.
+pub(crate) const ROW_WIDTH: u64 = 33_554_432;
+
+/// Columns and rows of cells, from the first to the last of each. A cell is the number of its row
+/// times the width of a row, and its column.
+#[derive(Clone, Copy, Debug)]
+pub(crate) struct Block {
+    pub left: u64,
+    pub right: u64,
+    pub bottom: u64,
+    pub top: u64,
+}
+
+/// The column of an x, or the row of a y: the coordinate divided by the side, rounded down. Columns
+/// are counted from one west of every coordinate, so none is negative.
+fn place_along(side: u64, coordinate: i64) -> u64
+    requires side { IsSide side }
+    requires coordinate { InRange coordinate }
+    ensures { result ≡ place_along_of side coordinate }
+{
+    let shift = side * (COORDINATE_LIMIT as u64 / side + 1);
+    (coordinate + shift as i64).unsigned_abs() / side
+}
+
+/// The lesser of two numbers.
+fn lesser(a: u64, b: u64) -> u64
+    ensures first { result ≤ a }
+    ensures second { result ≤ b }
+    ensures value { result ≡ min a b }
+{
+    if a < b { a } else { b }
+}
+
+/// The greater of two numbers.
+fn greater(a: u64, b: u64) -> u64
+    ensures { result ≡ max a b }
+{
+    if a < b { b } else { a }
+}
+
+/// The cells that the box of a segment touches.
+pub(crate) fn block_of(side: u64, a: Pt, b: Pt) -> Block
+    requires { IsSide side }
+    ensures value { result ≡ block_of_box side a b }
+    ensures block { IsBlock result }
+{
+    let a_column = place_along(side, a.x);
+    let b_column = place_along(side, b.x);
+    let a_row = place_along(side, a.y);
+    let b_row = place_along(side, b.y);
+    Block {
+        left: lesser(a_column, b_column),
+        right: greater(a_column, b_column),
+        bottom: lesser(a_row, b_row),
+        top: greater(a_row, b_row),
+    }
+}
+
+impl Block {
+    /// How many columns it has.
+    fn width(&self) -> u64
+        requires { IsBlock self.now }
+        ensures value { result ≡ width_of self.now }
+        ensures some { 0 < result }
+        ensures within { result ≤ row_width }
+    {
+        self.right - self.left + 1
+    }
+
+    /// How many cells it has.
+    pub(crate) fn cell_count(&self) -> u64
+        requires { IsBlock self.now }
+        ensures { result ≡ cell_count_of self.now }
+    {
+        self.width() * (self.top - self.bottom + 1)
+    }
+
+    /// The cell at a place. Places are counted row by row.
+    pub(crate) fn cell_at(&self, place: u64) -> u64
+        requires block { IsBlock self.now }
+        requires there { place < cell_count_of self.now }
+        ensures { result ≡ cell_at_of self.now place }
+    {
+        let width = self.width();
+        (self.bottom + place / width) * ROW_WIDTH + self.left + place % width
+    }
+}

@@ -1,0 +1,24 @@
+//! What stands in a cell.
+ghost use Rattle.std.specs.Prelude.{◌≡◌};
+ghost use Rattle.cell_grid.specs.Entries.{is_same_entry};
+
+use geo_exact::Pt;
+
+/// A segment with the number of the string that lies there. A point is a segment of one position.
+#[derive(Clone, Copy, Debug)]
+pub(crate) struct Entry {
+    pub number: u32,
+    pub from: Pt,
+    pub to: Pt,
+}
+
+/// Whether two entries have the same number and the same positions.
+pub(crate) fn is_same(a: &Entry, b: &Entry) -> bool
+    ensures { result ≡ is_same_entry a.now b.now }
+{
+    a.number == b.number
+        && a.from.x == b.from.x
+        && a.from.y == b.from.y
+        && a.to.x == b.to.x
+        && a.to.y == b.to.y
+}

@@ -1,0 +1,209 @@
+//! The grid, and what it gives near a segment.
+ghost use Rattle.std.specs.Prelude.{ℕ, IsTrue, OnOk, OnErr, IfOk};
+ghost use Rattle.std.specs.List.{Contains};
+ghost use Rattle.std.specs.Iterator.{YieldsFirst, item_count};
+ghost use Rattle.geo_exact.specs.Position.{Position};
+ghost use Rattle.geo_exact.specs.Segment.{HaveCommonLocation, IsOnSegment};
+ghost use Rattle.geo_exact.specs.SignTest.{boxes_overlap};
+ghost use Rattle.cell_grid.specs.Cells.{IsSide};
+ghost use Rattle.cell_grid.specs.Kept.{HoldsNone, HoldsSame, HoldsOneMore, HoldsOneLess};
+ghost use Rattle.cell_grid.specs.Grid.{HoldsString, HoldsPoint, entry_of};
+
+use crate::entry::Entry;
+use crate::near::NearEntries;
+use crate::segments::Segments;
+use cad_rows::{Memory, PointNo, StringNo};
+use geo_exact::Pt;
+use std::alloc::Global;
+use std::marker::Model;
+
+/// Strings, with the positions of their two ends, and points, by the square cells that they touch.
+///
+/// The cell of a location is its two coordinates divided by the side, rounded down. A string stands
+/// in every cell that its box touches, or, where these are more than 64, in a list of long ones. A
+/// number may stand at several positions at once.
+///
+/// Only `new`, `put_string` and `put_point` take memory: some 40 bytes for each cell that an entry
+/// stands in. A cell keeps the room that it was given. A call takes time by the cells of the box
+/// and the entries that stand there.
+#[derive(Drop)]
+pub struct CellGrid {
+    strings: Segments,
+    points: Segments,
+}
+
+impl Model for CellGrid {
+    ghost use Rattle.cell_grid.specs.Grid.{Grid};
+
+    ghost Value = { Grid };
+
+    ghost use Rattle.cell_grid.specs.Inside.{grid_of, IsKept};
+
+    ghost view = { grid_of };
+
+    ghost invariant = { IsKept };
+}
+
+impl CellGrid {
+    /// A grid that holds nothing. The side of its cells is in millimetres, from 1,000 to
+    /// 1,000,000,000.
+    pub fn new(alloc: Global, side: u64) -> Result<CellGrid, Memory>
+        requires { IsSide side }
+        ensures strings { IfOk result (λ grid. HoldsNone grid.strings) }
+        ensures points { IfOk result (λ grid. HoldsNone grid.points) }
+    {
+        Ok(CellGrid {
+            strings: Segments::new(alloc, side),
+            points: Segments::new(alloc, side),
+        })
+    }
+
+    /// Puts a string in at the positions of its ends; it may be held at others as well. Where
+    /// memory runs out the grid holds what it held.
+    pub fn put_string(&mut self, no: StringNo, a: Pt, b: Pt) -> Result<(), Memory>
+        requires { ¬ HoldsString self.old no a b }
+        ensures put { OnOk result
+            (HoldsOneMore self.old.strings (entry_of no a b) self.new.strings) }
+        ensures points { HoldsSame self.old.points self.new.points }
+        ensures err { OnErr result (HoldsSame self.old.strings self.new.strings) }
+    {
+        self.strings.put(Entry {
+            number: no.get(),
+            from: a,
+            to: b,
+        })
+    }
+
+    /// Takes a string out from these positions of its ends. It takes no memory.
+    pub fn take_string(&mut self, no: StringNo, a: Pt, b: Pt)
+        requires { HoldsString self.old no a b }
+        ensures taken { HoldsOneLess self.old.strings (entry_of no a b) self.new.strings }
+        ensures points { HoldsSame self.old.points self.new.points }
+    {
+        self.strings.take(Entry {
+            number: no.get(),
+            from: a,
+            to: b,
+        });
+    }
+
+    /// Puts a point in at a position; it may be held at others as well. Where memory runs out the
+    /// grid holds what it held.
+    pub fn put_point(&mut self, no: PointNo, a: Pt) -> Result<(), Memory>
+        requires { ¬ HoldsPoint self.old no a }
+        ensures put { OnOk result (HoldsOneMore self.old.points (entry_of no a a) self.new.points) }
+        ensures strings { HoldsSame self.old.strings self.new.strings }
+        ensures err { OnErr result (HoldsSame self.old.points self.new.points) }
+    {
+        self.points.put(Entry {
+            number: no.get(),
+            from: a,
+            to: a,
+        })
+    }
+
+    /// Takes a point out from a position. It takes no memory.
+    pub fn take_point(&mut self, no: PointNo, a: Pt)
+        requires { HoldsPoint self.old no a }
+        ensures taken { HoldsOneLess self.old.points (entry_of no a a) self.new.points }
+        ensures strings { HoldsSame self.old.strings self.new.strings }
+    {
+        self.points.take(Entry {
+            number: no.get(),
+            from: a,
+            to: a,
+        });
+    }
+
+    /// Strings held near the segment ab: all that have a common location with it, and others whose
+    /// boxes overlap its own. A string may come several times. It takes no memory, and time by the
+    /// cells of the box of ab; where these are more than 4,096 it goes through all that is held.
+    pub fn candidates(&self, a: Pt, b: Pt) -> Candidates<'_>
+        ensures held { (n : ℕ) → Contains result n
+            → (c : Position) × (d : Position) × HoldsString self.now n c d
+            × IsTrue (boxes_overlap a b c d) }
+        ensures all { (n : ℕ) (c d : Position) → HoldsString self.now n c d
+            → HaveCommonLocation a b c d → Contains result n }
+    {
+        Candidates {
+            near: NearEntries::of(&self.strings, a, b),
+        }
+    }
+
+    /// Points held near the segment ab: all that lie on it, and others in its box. A point may come
+    /// several times. Memory and time are as for `candidates`.
+    pub fn point_candidates(&self, a: Pt, b: Pt) -> PointCandidates<'_>
+        ensures held { (n : ℕ) → Contains result n
+            → (c : Position) × HoldsPoint self.now n c × IsTrue (boxes_overlap a b c c) }
+        ensures all { (n : ℕ) (c : Position) → HoldsPoint self.now n c → IsOnSegment a b c
+            → Contains result n }
+    {
+        PointCandidates {
+            near: NearEntries::of(&self.points, a, b),
+        }
+    }
+}
+
+/// The strings near a segment, which [`CellGrid::candidates`] gives. A step goes over cells and
+/// entries until one is near; the search ends, and takes no memory.
+#[derive(Drop)]
+pub struct Candidates<'a> {
+    near: NearEntries<'a>,
+}
+
+impl<'a> Model for Candidates<'a> {
+    ghost use Rattle.std.specs.Prelude.{ℕ, List};
+    ghost use Rattle.std.specs.List.{AllByRecursion};
+    ghost use Rattle.cad_rows.specs.Limits.{IsNumber};
+
+    ghost Value = { List ℕ };
+
+    ghost view = { λ c. c.near };
+
+    ghost invariant = { λ c. AllByRecursion IsNumber c.near };
+}
+
+impl Iterator for Candidates<'_> {
+    type Item = StringNo;
+
+    ghost next_gives = { YieldsFirst (λ c. c) };
+
+    ghost remaining = { item_count (λ c. c) };
+
+    fn next(&mut self) -> Option<StringNo> {
+        let no = self.near.next()?;
+        StringNo::new(no)
+    }
+}
+
+/// The points near a segment, which [`CellGrid::point_candidates`] gives, as [`Candidates`] does
+/// strings.
+#[derive(Drop)]
+pub struct PointCandidates<'a> {
+    near: NearEntries<'a>,
+}
+
+impl<'a> Model for PointCandidates<'a> {
+    ghost use Rattle.std.specs.Prelude.{ℕ, List};
+    ghost use Rattle.std.specs.List.{AllByRecursion};
+    ghost use Rattle.cad_rows.specs.Limits.{IsNumber};
+
+    ghost Value = { List ℕ };
+
+    ghost view = { λ c. c.near };
+
+    ghost invariant = { λ c. AllByRecursion IsNumber c.near };
+}
+
+impl Iterator for PointCandidates<'_> {
+    type Item = PointNo;
+
+    ghost next_gives = { YieldsFirst (λ c. c) };
+
+    ghost remaining = { item_count (λ c. c) };
+
+    fn next(&mut self) -> Option<PointNo> {
+        let no = self.near.next()?;
+        PointNo::new(no)
+    }
+}

@@ -1,0 +1,20 @@
+//! The strings and points of a map by the square cells that they touch, so that what lies near a
+//! segment is found without a look at the rest of the map.
+//!
+//! Each segment stands in the list of every cell that its box touches. Two segments with a common
+//! location have a cell in common, so the cells of a segment's box have all that may meet it. The
+//! method is that of cells in J. L. Bentley and J. H. Friedman, "Data structures for range
+//! searching" (1979), and of W. R. Franklin's "Adaptive grids for geometric operations" (1984).
+#![tactic(auto)]
+
+mod block;
+mod entry;
+mod grid;
+mod lists;
+mod near;
+mod segments;
+
+pub use grid::{Candidates, CellGrid, PointCandidates};
+
+#[cfg(test)]
+mod tests;

@@ -1,0 +1,224 @@
+ghost use Rattle.std.specs.Prelude.{◌≡◌, false, OnOk};
+ghost use Rattle.cell_grid.specs.Grid.{HoldsString, HoldsPoint};
+
+use super::*;
+use cad_rows::{Memory, PointNo, StringNo};
+use geo_exact::Pt;
+use std::process::Abort;
+use std::test::Fail;
+
+type Place = (i64, i64);
+
+// A square of a metre, with the triangle of an island in it.
+const STRINGS: [(u32, Place, Place); 7] = [
+    (11, (0, 0), (1000, 0)),
+    (12, (1000, 0), (1000, 1000)),
+    (13, (1000, 1000), (0, 1000)),
+    (14, (0, 1000), (0, 0)),
+    (31, (700, 300), (800, 300)),
+    (32, (800, 300), (800, 500)),
+    (33, (800, 500), (700, 300)),
+];
+
+const POINTS: [(u32, Place); 7] = [
+    (1, (0, 0)),
+    (2, (1000, 0)),
+    (3, (1000, 1000)),
+    (4, (0, 1000)),
+    (6, (700, 300)),
+    (7, (800, 300)),
+    (8, (800, 500)),
+];
+
+fn string(rt: &impl Abort, number: u32) -> StringNo {
+    StringNo::new(number).expect(rt, "number")
+}
+
+fn point(rt: &impl Abort, number: u32) -> PointNo {
+    PointNo::new(number).expect(rt, "number")
+}
+
+fn position(rt: &impl Abort, place: Place) -> Pt {
+    Pt::new(place.0, place.1).expect(rt, "place")
+}
+
+// Whether a string is among the candidates of the segment ab. One that isn't can't lie there.
+fn is_candidate(grid: &CellGrid, no: StringNo, a: Pt, b: Pt) -> bool
+    ensures { result ≡ false → ¬ HoldsString grid.now no a b }
+{
+    for other in grid.candidates(a, b) {
+        if other.get() == no.get() {
+            return true;
+        }
+    }
+    false
+}
+
+// And a point.
+fn is_point_candidate(grid: &CellGrid, no: PointNo, a: Pt, b: Pt) -> bool
+    ensures { result ≡ false → ¬ HoldsPoint grid.now no a }
+{
+    for other in grid.point_candidates(a, b) {
+        if other.get() == no.get() {
+            return true;
+        }
+    }
+    false
+}
+
+// Which strings of the square and the island are candidates of a segment.
+fn strings_near(rt: &impl Abort, grid: &CellGrid, from: Place, to: Place) -> [bool; 7] {
+    let a = position(rt, from);
+    let b = position(rt, to);
+    [
+        is_candidate(grid, string(rt, 11), a, b),
+        is_candidate(grid, string(rt, 12), a, b),
+        is_candidate(grid, string(rt, 13), a, b),
+        is_candidate(grid, string(rt, 14), a, b),
+        is_candidate(grid, string(rt, 31), a, b),
+        is_candidate(grid, string(rt, 32), a, b),
+        is_candidate(grid, string(rt, 33), a, b),
+    ]
+}
+
+// And which points.
+fn points_near(rt: &impl Abort, grid: &CellGrid, from: Place, to: Place) -> [bool; 7] {
+    let a = position(rt, from);
+    let b = position(rt, to);
+    [
+        is_point_candidate(grid, point(rt, 1), a, b),
+        is_point_candidate(grid, point(rt, 2), a, b),
+        is_point_candidate(grid, point(rt, 3), a, b),
+        is_point_candidate(grid, point(rt, 4), a, b),
+        is_point_candidate(grid, point(rt, 6), a, b),
+        is_point_candidate(grid, point(rt, 7), a, b),
+        is_point_candidate(grid, point(rt, 8), a, b),
+    ]
+}
+
+const SOUTHWEST: Place = (0, 0);
+
+const NORTHEAST: Place = (1000, 1000);
+
+// Puts a string in. A refused growth leaves what is held, and is tried again.
+fn put(rt: &impl Abort, grid: &mut CellGrid, no: StringNo, a: Pt, b: Pt) -> Result<(), Memory>
+    ensures { OnOk result (HoldsString grid.new no a b) }
+{
+    let before = strings_near(rt, grid, SOUTHWEST, NORTHEAST);
+    assert!(rt; !is_candidate(grid, no, a, b));
+    match grid.put_string(no, a, b) {
+        Ok(()) => Ok(()),
+        Err(_) => {
+            assert_eq!(rt; strings_near(rt, grid, SOUTHWEST, NORTHEAST), before);
+            assert!(rt; !is_candidate(grid, no, a, b));
+            grid.put_string(no, a, b)
+        }
+    }
+}
+
+// And a point.
+fn put_spot(rt: &impl Abort, grid: &mut CellGrid, no: PointNo, a: Pt) -> Result<(), Memory>
+    ensures { OnOk result (HoldsPoint grid.new no a) }
+{
+    let before = points_near(rt, grid, SOUTHWEST, NORTHEAST);
+    assert!(rt; !is_point_candidate(grid, no, a, a));
+    match grid.put_point(no, a) {
+        Ok(()) => Ok(()),
+        Err(_) => {
+            assert_eq!(rt; points_near(rt, grid, SOUTHWEST, NORTHEAST), before);
+            assert!(rt; !is_point_candidate(grid, no, a, a));
+            grid.put_point(no, a)
+        }
+    }
+}
+
+// The strings and points of the square and the island.
+fn fill(rt: &impl Abort, grid: &mut CellGrid) -> Result<(), Memory> {
+    for (number, from, to) in STRINGS {
+        put(
+            rt,
+            grid,
+            string(rt, number),
+            position(rt, from),
+            position(rt, to),
+        )?;
+    }
+    for (number, place) in POINTS {
+        put_spot(rt, grid, point(rt, number), position(rt, place))?;
+    }
+    Ok(())
+}
+
+const ALL: [bool; 7] = [true, true, true, true, true, true, true];
+
+#[test]
+fn strings_and_points_of_a_square(rt: HostRuntime) -> Result<(), Fail> {
+    let mut grid = CellGrid::new(rt.alloc(), 1000)?;
+    fill(&rt, &mut grid)?;
+    assert_eq!(rt; strings_near(&rt, &grid, SOUTHWEST, NORTHEAST), ALL);
+    assert_eq!(rt; points_near(&rt, &grid, SOUTHWEST, NORTHEAST), ALL);
+    assert_eq!(rt;
+        strings_near(&rt, &grid, (0, 900), (100, 1000)),
+        [false, false, true, true, false, false, false]
+    );
+    assert_eq!(rt;
+        points_near(&rt, &grid, (0, 0), (1000, 0)),
+        [true, true, false, false, false, false, false]
+    );
+    Ok(())
+}
+
+#[test]
+fn far_away(rt: HostRuntime) -> Result<(), Fail> {
+    let mut grid = CellGrid::new(rt.alloc(), 1000)?;
+    fill(&rt, &mut grid)?;
+    let no = string(&rt, 41);
+    let a = position(&rt, (-1_000_000, 0));
+    let b = position(&rt, (-1_001_000, 0));
+    put(&rt, &mut grid, no, a, b)?;
+    assert!(rt; is_candidate(&grid, no, a, b));
+    let southwest = position(&rt, SOUTHWEST);
+    let northeast = position(&rt, NORTHEAST);
+    assert!(rt; !is_candidate(&grid, no, southwest, northeast));
+    let least = position(&rt, (-10_000_000_000, -10_000_000_000));
+    assert!(rt; is_candidate(&grid, no, least, northeast));
+    assert_eq!(rt;
+        strings_near(&rt, &grid, (-10_000_000_000, -10_000_000_000), NORTHEAST),
+        ALL
+    );
+    Ok(())
+}
+
+#[test]
+fn long_string_from_its_middle(rt: HostRuntime) -> Result<(), Fail> {
+    let mut grid = CellGrid::new(rt.alloc(), 1000)?;
+    let no = string(&rt, 51);
+    let a = position(&rt, (0, 0));
+    let b = position(&rt, (100_000, 100_000));
+    put(&rt, &mut grid, no, a, b)?;
+    let middle = position(&rt, (50_000, 50_000));
+    assert!(rt; is_candidate(&grid, no, middle, middle));
+    let beside = position(&rt, (50_000, 100_001));
+    assert!(rt; !is_candidate(&grid, no, beside, beside));
+    Ok(())
+}
+
+#[test]
+fn taken_out(rt: HostRuntime) -> Result<(), Fail> {
+    let mut grid = CellGrid::new(rt.alloc(), 1000)?;
+    fill(&rt, &mut grid)?;
+    let a = position(&rt, (-2500, 500));
+    let b = position(&rt, (2500, 600));
+    let no = string(&rt, 61);
+    put(&rt, &mut grid, no, a, b)?;
+    grid.take_string(no, a, b);
+    assert!(rt; !is_candidate(&grid, no, a, b));
+    let number = point(&rt, 9);
+    put_spot(&rt, &mut grid, number, a)?;
+    assert!(rt; is_point_candidate(&grid, number, a, b));
+    grid.take_point(number, a);
+    assert!(rt; !is_point_candidate(&grid, number, a, b));
+    assert_eq!(rt; strings_near(&rt, &grid, SOUTHWEST, NORTHEAST), ALL);
+    assert_eq!(rt; points_near(&rt, &grid, SOUTHWEST, NORTHEAST), ALL);
+    Ok(())
+}
