@@ -1,5 +1,5 @@
 //! The program's arguments, and a job in a file.
-use crate::cases::lines;
+use crate::cases::{AMPLE_DEPTH, lines};
 use cad_files::MemSink;
 use cad_history::Depth;
 use cad_job::{JobFault, args_status, read_args, run_path};
@@ -44,17 +44,10 @@ fn arguments_that_are_none(rt: HostRuntime) -> Result<(), Fail> {
 fn a_job_in_a_file(rt: HostRuntime) -> Result<(), Fail> {
     let job = lines(
         rt.alloc(),
-        &[
-            "plan,1",
-            "open",
-            "add-source,1,Plan 7",
-            "undo",
-            "undo",
-            "print",
-        ],
+        &["plan,1; open; add-source,1,Plan 7; undo; undo; print"],
     )?;
-    let answers = lines(rt.alloc(), &["ok", "ok", "nothing", "plan,2", "open"])?;
-    let depth = Depth::new(100).expect(&rt, "a depth");
+    let answers = lines(rt.alloc(), &["ok; ok; nothing; plan,2; open"])?;
+    let depth = Depth::new(AMPLE_DEPTH).expect(&rt, "a depth");
     fs::write(&rt, "job_in_a_file.csv", job.as_slice())?;
     let mut sink = MemSink::new(rt.alloc(), u64::MAX);
     let end = run_path(&rt, "job_in_a_file.csv", &mut sink, depth);

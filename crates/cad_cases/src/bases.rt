@@ -1,63 +1,29 @@
 //! The plans that jobs begin with: a square of a metre, and the same with an island.
 
 /// The rows of a square of a metre.
-pub(crate) const SQUARE: &[&str] = &[
-    "source,1,Plan 7",
-    "point,1,0,0,1",
-    "point,2,1000,0",
-    "point,3,1000,1000",
-    "point,4,0,1000",
-    "parcel,1,A",
-    "string,11,1,2,1,0",
-    "string,12,2,3,1,0",
-    "string,13,3,4,1,0",
-    "string,14,4,1,1,0",
-];
+pub(crate) const SQUARE: &str =
+    "source,1,Plan 7; point,1,0,0,1; point,2,1000,0; point,3,1000,1000; point,4,0,1000; \
+    parcel,1,A; string,11,1,2,1,0; string,12,2,3,1,0; string,13,3,4,1,0; string,14,4,1,1,0";
 
 /// The rows of an island in the square.
-pub(crate) const ISLAND: &[&str] = &[
-    "point,6,700,300",
-    "point,7,800,300",
-    "point,8,800,500",
-    "parcel,2,B",
-    "string,31,6,7,2,1",
-    "string,32,7,8,2,1",
-    "string,33,8,6,2,1",
-];
+pub(crate) const ISLAND: &str =
+    "point,6,700,300; point,7,800,300; point,8,800,500; parcel,2,B; string,31,6,7,2,1; \
+    string,32,7,8,2,1; string,33,8,6,2,1";
 
 /// The first record of a plan that is read.
-pub(crate) const PLAN: &[&str] = &["plan,1"];
+pub(crate) const PLAN: &str = "plan,1";
 
 /// The first record of a plan that is printed.
-pub(crate) const PRINTED: &[&str] = &["plan,2"];
+pub(crate) const PRINTED: &str = "plan,2";
 
 /// The last record of a plan.
-pub(crate) const OPEN: &[&str] = &["open"];
+pub(crate) const OPEN: &str = "open";
 
 /// The rows of a parcel round a triangle, which holds a triangle: all three meet in point 1.
-pub(crate) const PINCH: &[&str] = &[
-    "source,1,Plan 7",
-    "point,1,0,1000",
-    "point,2,3000,500",
-    "point,3,3000,1500",
-    "point,4,2000,900",
-    "point,5,2000,1100",
-    "point,6,1000,0",
-    "point,7,4000,0",
-    "point,8,4000,2000",
-    "point,9,1000,2000",
-    "parcel,1,A",
-    "parcel,2,B",
-    "parcel,3,C",
-    "string,11,1,6,1,0",
-    "string,12,6,7,1,0",
-    "string,13,7,8,1,0",
-    "string,14,8,9,1,0",
-    "string,15,9,1,1,0",
-    "string,21,1,2,2,1",
-    "string,22,2,3,2,1",
-    "string,23,3,1,2,1",
-    "string,31,1,4,3,2",
-    "string,32,4,5,3,2",
-    "string,33,5,1,3,2",
-];
+pub(crate) const PINCH: &str =
+    "source,1,Plan 7; point,1,0,1000; point,2,3000,500; point,3,3000,1500; point,4,2000,900; \
+    point,5,2000,1100; point,6,1000,0; point,7,4000,0; point,8,4000,2000; point,9,1000,2000; \
+    parcel,1,A; parcel,2,B; parcel,3,C; string,11,1,6,1,0; string,12,6,7,1,0; \
+    string,13,7,8,1,0; string,14,8,9,1,0; string,15,9,1,1,0; string,21,1,2,2,1; \
+    string,22,2,3,2,1; string,23,3,1,2,1; string,31,1,4,3,2; string,32,4,5,3,2; \
+    string,33,5,1,3,2";

@@ -1,5 +1,5 @@
 //! Readers and sinks that fail, and how a fault is told.
-use crate::cases::lines;
+use crate::cases::{AMPLE_DEPTH, lines};
 use cad_files::{MemSink, PlanFault, Sink, SinkFault};
 use cad_history::Depth;
 use cad_job::{JobFault, run_job, status};
@@ -9,23 +9,9 @@ use std::io::{self, Read};
 use std::process::Abort;
 use std::test::Fail;
 
-const JOB: &[&str] = &[
-    "plan,1",
-    "source,1,Plan 7",
-    "open",
-    "add-point,1,0,0",
-    "attach,point,1,1",
-    "print",
-];
+const JOB: &[&str] = &["plan,1; source,1,Plan 7; open; add-point,1,0,0; attach,point,1,1; print"];
 
-const ANSWERS: &[&str] = &[
-    "ok",
-    "ok",
-    "plan,2",
-    "source,1,Plan 7",
-    "point,1,0,0,1",
-    "open",
-];
+const ANSWERS: &[&str] = &["ok; ok; plan,2; source,1,Plan 7; point,1,0,0,1; open"];
 
 /// A reader that gives so many bytes in each read, and fails at one of them.
 #[derive(Drop)]
@@ -70,7 +56,7 @@ impl Sink for ByteByByte {
 }
 
 fn deep<R: Abort>(rt: &R) -> Depth {
-    Depth::new(100).expect(rt, "a depth")
+    Depth::new(AMPLE_DEPTH).expect(rt, "a depth")
 }
 
 #[test]

@@ -4,7 +4,7 @@ ghost use Rattle.cad_history.specs.Standing.{StandsForSome};
 ghost use Rattle.cad_map.specs.Valid.{IsValid};
 
 use crate::bases::{OPEN, PLAN, SQUARE};
-use crate::cases::{all_lines, lines};
+use crate::cases::{AMPLE_DEPTH, lines};
 use cad_edit::PlainStore;
 use cad_files::{Line, answer_text, build, next_row, read_line, read_plan};
 use cad_history::{Answer, Command, Depth, Editor, run};
@@ -14,7 +14,7 @@ use csv::{ByteRecord, ReaderBuilder};
 use std::alloc::Global;
 use std::test::Fail;
 
-/// A list of commands on the square of a metre, as records of a script, and the answers to them.
+/// A list of commands on the square of a metre, as parts of a script, and the answers to them.
 #[derive(Drop)]
 struct List {
     name: &'static str,
@@ -62,11 +62,13 @@ fn command_of(alloc: Global, record: &str) -> Result<Command, Fail> {
     }
 }
 
-/// The commands that records ask for.
-fn commands_of(alloc: Global, records: &[&str]) -> Result<Vec<Command>, Fail> {
+/// The commands that the records of all parts ask for.
+fn commands_of(alloc: Global, parts: &[&str]) -> Result<Vec<Command>, Fail> {
     let mut commands = Vec::new(alloc);
-    for record in records {
-        commands.push(command_of(alloc, record)?)?;
+    for part in parts {
+        for record in part.split("; ") {
+            commands.push(command_of(alloc, record)?)?;
+        }
     }
     Ok(commands)
 }
@@ -100,47 +102,27 @@ fn lists_of_commands(rt: HostRuntime) -> Result<(), Fail> {
         List {
             name: "one edit back at depth one",
             depth: 1,
-            commands: &[
-                "add-point,5,500,500",
-                "add-point,6,600,600",
-                "undo",
-                "undo",
-                "redo",
-                "redo",
-            ],
-            answers: &["ok", "ok", "ok", "nothing", "ok", "nothing"],
+            commands: &["add-point,5,500,500; add-point,6,600,600; undo; undo; redo; redo"],
+            answers: &["ok; ok; ok; nothing; ok; nothing"],
         },
         List {
             name: "a refused edit leaves what can be made again",
-            depth: 100,
-            commands: &["add-point,5,500,500", "undo", "drop-point,9", "redo"],
-            answers: &["ok", "ok", "refused,2,unknown,point,9", "ok"],
+            depth: AMPLE_DEPTH,
+            commands: &["add-point,5,500,500; undo; drop-point,9; redo"],
+            answers: &["ok; ok; refused,2,unknown,point,9; ok"],
         },
         List {
             name: "a number retired by a merger until it is undone",
-            depth: 100,
+            depth: AMPLE_DEPTH,
             commands: &[
-                "divide,1,1 3,21,2,C,1",
-                "merge,1,2",
-                "divide,1,1 3,21,2,C,1",
-                "undo",
-                "divide,1,1 3,22,2,C,1",
-                "undo",
-                "divide,1,1 3,22,2,C,1",
+                "divide,1,1 3,21,2,C,1; merge,1,2; divide,1,1 3,21,2,C,1; undo; divide,1,1 3,22,2,C,1",
+                "undo; divide,1,1 3,22,2,C,1",
             ],
-            answers: &[
-                "ok",
-                "ok",
-                "refused,4,retired,parcel,2",
-                "ok",
-                "refused,3,taken,parcel,2",
-                "ok",
-                "ok",
-            ],
+            answers: &["ok; ok; refused,4,retired,parcel,2; ok; refused,3,taken,parcel,2; ok; ok"],
         },
     ];
     let alloc = rt.alloc();
-    let plan = all_lines(alloc, &[PLAN, SQUARE, OPEN])?;
+    let plan = lines(alloc, &[PLAN, SQUARE, OPEN])?;
     for list in &lists {
         let depth = Depth::new(list.depth).ok_or("a depth")?;
         let commands = commands_of(alloc, list.commands)?;

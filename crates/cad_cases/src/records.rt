@@ -1,5 +1,5 @@
 //! Records, fields and plan faults.
-use crate::cases::{Case, check};
+use crate::cases::{AMPLE_DEPTH, Case, check};
 use cad_files::{MemSink, PlanFault};
 use cad_history::Depth;
 use cad_job::{JobFault, run_job};
@@ -11,172 +11,118 @@ fn records_and_fields(rt: HostRuntime) -> Result<(), Fail> {
     let cases = [
         Case {
             name: "an empty script",
-            depth: 100,
-            job: &["plan,2", "open"],
+            job: &["plan,2; open"],
             answers: &[],
             end: Ok(()),
         },
         Case {
             name: "words that are none",
-            depth: 100,
             job: &[
-                "plan,1",
-                "open",
-                "Undo",
-                "undo ",
-                "attach,source,1,1",
-                "undo,,,,,,0",
-                "plan,1",
-                "open",
-                "add-source,0,A",
-                "attach,parcel,0,1",
-                "drop-point,0",
-                "rename,0,X",
-                "outline,00",
+                "plan,1; open; Undo; undo ; attach,source,1,1; undo,,,,,,0; plan,1; open",
+                "add-source,0,A; attach,parcel,0,1; drop-point,0; rename,0,X; outline,00",
             ],
             answers: &[
-                "syntax", "syntax", "syntax", "syntax", "syntax", "syntax", "syntax", "syntax",
-                "syntax", "syntax", "syntax",
+                "syntax; syntax; syntax; syntax; syntax; syntax; syntax; syntax; syntax; syntax",
+                "syntax",
             ],
             end: Ok(()),
         },
         Case {
             name: "quotes and commas in texts",
-            depth: 100,
             job: &[
-                "plan,1",
-                "open",
-                "add-source,1,\"North, 7\"",
-                "add-source,2,\"a\"\"b\"",
-                "add-source,3,\" \"",
-                "add-source,4,\"\"",
-                "\"undo\",\"\"",
-                "print",
+                "plan,1; open; add-source,1,\"North, 7\"; add-source,2,\"a\"\"b\"; add-source,3,\" \"",
+                "add-source,4,\"\"; \"undo\",\"\"; print",
             ],
             answers: &[
-                "ok",
-                "ok",
-                "ok",
-                "syntax",
-                "ok",
-                "plan,2",
-                "source,1,\"North, 7\"",
-                "source,2,\"a\"\"b\"",
-                "open",
+                "ok; ok; ok; syntax; ok; plan,2; source,1,\"North, 7\"; source,2,\"a\"\"b\"; open",
             ],
             end: Ok(()),
         },
         Case {
             name: "a plan of version 1 past its limit",
-            depth: 100,
-            job: &["plan,1", "point,5,1000000001,0", "open"],
+            job: &["plan,1; point,5,1000000001,0; open"],
             answers: &[],
             end: Err(JobFault::Plan(PlanFault::Range(2))),
         },
         Case {
             name: "a plan of version 2 at its limit, and the wider limit of edits",
-            depth: 100,
             job: &[
-                "plan,2",
-                "point,5,10000000000,-10000000000",
-                "open",
-                "add-point,6,-10000000000,0",
-                "print",
+                "plan,2; point,5,10000000000,-10000000000; open; add-point,6,-10000000000,0; print",
             ],
             answers: &[
-                "ok",
-                "plan,2",
-                "point,5,10000000000,-10000000000",
-                "point,6,-10000000000,0",
-                "open",
+                "ok; plan,2; point,5,10000000000,-10000000000; point,6,-10000000000,0; open",
             ],
             end: Ok(()),
         },
         Case {
             name: "a plan of version 2 past its limit",
-            depth: 100,
-            job: &["plan,2", "point,5,0,10000000001", "open"],
+            job: &["plan,2; point,5,0,10000000001; open"],
             answers: &[],
             end: Err(JobFault::Plan(PlanFault::Range(2))),
         },
         Case {
             name: "version 3",
-            depth: 100,
-            job: &["plan,3", "open"],
+            job: &["plan,3; open"],
             answers: &[],
             end: Err(JobFault::Plan(PlanFault::Version)),
         },
         Case {
             name: "no plan at all",
-            depth: 100,
             job: &["open"],
             answers: &[],
             end: Err(JobFault::Plan(PlanFault::Version)),
         },
         Case {
             name: "a field too many in the first record",
-            depth: 100,
             job: &["plan,1,x"],
             answers: &[],
             end: Err(JobFault::Plan(PlanFault::Version)),
         },
         Case {
             name: "leading zeros",
-            depth: 100,
-            job: &["plan,1", "point,05,5,5", "open"],
+            job: &["plan,1; point,05,5,5; open"],
             answers: &[],
             end: Err(JobFault::Plan(PlanFault::Syntax(2))),
         },
         Case {
             name: "syntax before range and full, in one record",
-            depth: 100,
-            job: &["plan,1", "point,5,1000000001,0,1 1", "open"],
+            job: &["plan,1; point,5,1000000001,0,1 1; open"],
             answers: &[],
             end: Err(JobFault::Plan(PlanFault::Syntax(2))),
         },
         Case {
             name: "range before full, in one record",
-            depth: 100,
-            job: &[
-                "plan,1",
-                "point,5,1000000001,0,1 2 3 4 5 6 7 8 9 10 11 12 13 14 15 16 17",
-                "open",
-            ],
+            job: &["plan,1; point,5,1000000001,0,1 2 3 4 5 6 7 8 9 10 11 12 13 14 15 16 17; open"],
             answers: &[],
             end: Err(JobFault::Plan(PlanFault::Range(2))),
         },
         Case {
             name: "a second plan record",
-            depth: 100,
-            job: &["plan,1", "source,1,A", "plan,1", "open"],
+            job: &["plan,1; source,1,A; plan,1; open"],
             answers: &[],
             end: Err(JobFault::Plan(PlanFault::Syntax(3))),
         },
         Case {
             name: "a parcel without a label",
-            depth: 100,
-            job: &["plan,1", "parcel,1", "open"],
+            job: &["plan,1; parcel,1; open"],
             answers: &[],
             end: Err(JobFault::Plan(PlanFault::Syntax(2))),
         },
         Case {
             name: "no open",
-            depth: 100,
-            job: &["plan,1", "source,1,A"],
+            job: &["plan,1; source,1,A"],
             answers: &[],
             end: Err(JobFault::Plan(PlanFault::NoOpen)),
         },
         Case {
             name: "an empty input",
-            depth: 100,
             job: &[],
             answers: &[],
             end: Err(JobFault::Plan(PlanFault::NoOpen)),
         },
         Case {
             name: "two points at one position",
-            depth: 100,
-            job: &["plan,1", "point,1,5,5", "point,2,5,5", "open"],
+            job: &["plan,1; point,1,5,5; point,2,5,5; open"],
             answers: &[],
             end: Err(JobFault::Plan(PlanFault::Breaks(Rule::V3))),
         },
@@ -203,7 +149,7 @@ fn faults_that_name_a_row(rt: HostRuntime) -> Result<(), Fail> {
             PlanFault::Unknown(Name::Source(unknown)),
         ),
     ] {
-        let depth = Depth::new(100).expect(&rt, "a depth");
+        let depth = Depth::new(AMPLE_DEPTH).expect(&rt, "a depth");
         let mut sink = MemSink::new(rt.alloc(), u64::MAX);
         let end = run_job(rt.alloc(), job.as_bytes(), &mut sink, depth);
         assert_eq!(rt; end, Err(JobFault::Plan(fault)), "{job}");
@@ -262,7 +208,7 @@ fn lines_of_all_kinds(rt: HostRuntime) -> Result<(), Fail> {
             Ok(()),
         ),
     ] {
-        let depth = Depth::new(100).expect(&rt, "a depth");
+        let depth = Depth::new(AMPLE_DEPTH).expect(&rt, "a depth");
         let mut sink = MemSink::new(rt.alloc(), u64::MAX);
         let got = run_job(rt.alloc(), job, &mut sink, depth);
         assert_eq!(rt; got, end);

@@ -1,5 +1,5 @@
 -- The ring that a chain divides, the places of the two sides in it, and the points of the rings that it becomes.
-use Rattle.std.proofs.Common.{◌≡◌, ◌≢◌, ℕ, ◌-◌, ◌<◌, ◌≤◌, refl, sym, ap, subst, ◌∙◌, List, [], ◌∷◌, ◌++◌, append_assoc, length, take, drop, map, Bool, true, false, cond, true≢false, Option, Some, None, Bor, arith}
+use Rattle.std.proofs.Common.{◌≡◌, ◌≢◌, ℕ, suc, ◌+◌, ◌-◌, ◌<◌, ◌≤◌, refl, sym, ap, subst, ◌∙◌, List, [], ◌∷◌, ◌++◌, append_assoc, length, take, drop, map, Bool, true, false, cond, true≢false, Option, Some, None, Bor, slice_get, arith}
 use Rattle.std.specs.Prelude.{◌&&◌, nat_lt, find, option_map, IsSome, IsTrue, IsPermutation, slice_index}
 use Rattle.std.specs.List.{AllByRecursion, Contains, list_any, position, position_or_len}
 use Rattle.std.specs.Option.{option_copied}
@@ -8,7 +8,10 @@ use Rattle.std.proofs.lemmas.Bool.Decides.{nat_tests}
 use Rattle.std.proofs.lemmas.List.{take-append-drop, map-append}
 use Rattle.std.proofs.lemmas.List.Sorted.{IsPermutation-append_comm}
 use Rattle.cad_rows.specs.declared.names.Face.{Face}
-use Rattle.cad_rings.specs.Cycle.{Ring, Side, is_side, has_side, sides_of, Corner}
+use Rattle.cad_rings.specs.Cycle.{Ring, Side, is_side, has_side, sides_of, Corner, turned}
+use Rattle.cad_rings.proofs.CallerLemmas.{is_side-same, sides_of-turned}
+use Rattle.cad_map.specs.Walk.{first_side}
+use Rattle.cad_map.proofs.TrailsOfRings.{first-is}
 use Rattle.cad_rings.specs.Surgery.{stretch, left_ring, AreTwoPlaces}
 use Rattle.cad_map.specs.declared.boundary.Boundary.{Boundary}
 use Rattle.cad_map.specs.Boundaries.{shown, listed}
@@ -16,7 +19,7 @@ use Rattle.cad_map.specs.Chain.{leaving, inner_of}
 use Rattle.cad_map.specs.Division.{place_of, ring_with}
 use Rattle.cad_map.specs.Map.{Map, has_point, rings_of, all_sides}
 use Rattle.cad_map.specs.Rings.{HasWholeRings}
-use Rattle.cad_map.proofs.Lists.{All-append}
+use Rattle.cad_map.proofs.Lists.{All-append, drop-at}
 use Rattle.cad_map.proofs.Listed.{listed-permuted}
 use Rattle.cad_map.proofs.AddedRows.{All-join}
 use Rattle.cad_map.proofs.ChainFacts.{in_parts}
@@ -53,10 +56,40 @@ place-found s ring has =
     let within : nat_lt (position_or_len (is_side s) (sides_of ring)) (length (sides_of ring)) ≡ true = grind (arith, nat_tests, low) in
     rw within refl
 
+-- and there is a side that passes
+first-at : (test : Side → Bool) (sides : List Side) → list_any test sides ≡ true → (s : Side) × (slice_get sides (position_or_len test sides) ≡ Some s) × (test s ≡ true)
+first-at test [] some = absurd (true≢false (sym some))
+first-at test (s ∷ sides) some = by (test s) refl (λ rest. first-at test sides rest)
+  where
+    by : (t : Bool) → test s ≡ t → (list_any test sides ≡ true → (u : Side) × (slice_get sides (position_or_len test sides) ≡ Some u) × (test u ≡ true))
+        → (u : Side) × (slice_get (s ∷ sides) (position_or_len test (s ∷ sides)) ≡ Some u) × (test u ≡ true)
+    by true is again = rw is (s, refl, is)
+    by false is again =
+        let k = again (rw is at some) in
+        let next : 1 + position_or_len test sides ≡ suc (position_or_len test sides) = omega arith in
+        rw is (rw next (k.0, k.1, k.2))
+
+-- a ring that is written from the place of a side on begins with it
+pub place-begins : (s : Side) (ring : Ring) → has_side s (sides_of ring) ≡ true → first_side (turned (place_of s ring) ring) ≡ Some s
+place-begins s ring has =
+    let sides = sides_of ring in
+    let low = any-within (is_side s) sides has in
+    let within : nat_lt (position_or_len (is_side s) sides) (length sides) ≡ true = grind (arith, nat_tests, low) in
+    let place : place_of s ring ≡ position_or_len (is_side s) sides = rw within refl in
+    let i = place_of s ring in
+    let first = first-at (is_side s) sides has in
+    let here : slice_get sides i ≡ Some s = ap (slice_get sides) place ∙ first.1 ∙ ap Some (sym (is_side-same s first.0 first.2)) in
+    first-is (turned i ring) s (drop (i + 1) sides ++ take i sides) (sides_of-turned i ring ∙ ap (λ (l : List Side). l ++ take i sides) (drop-at sides i s here))
+
 -- what is copied from behind a reference that is there
 pub copied-some : {X : Type 0} (o : Option (Bor X)) (x : X) → option_copied o ≡ Some x → IsSome o
 copied-some None x is = cc
 copied-some (Some b) x is = refl
+
+-- what is found by one name of the side and of the rings is found by another
+pub told-by : (s t : Side) (bs cs : List Boundary) (o : Option (Bor Ring)) → s ≡ t → bs ≡ cs
+    → option_copied o ≡ option_map (λ b. b.ring) (find (λ b. has_side s (sides_of b.ring)) bs) → option_copied o ≡ option_map (λ b. b.ring) (find (λ b. has_side t (sides_of b.ring)) cs)
+told-by s t bs cs o side rings told = told ∙ (λ i. option_map (λ b. b.ring) (find (λ b. has_side (side i) (sides_of b.ring)) (rings i)))
 
 -- the ring that is told is the one with the side
 pub told-ring : (s : Side) (bs : List Boundary) → has_side s (sides_of (ring_with s bs)) ≡ true → (o : Option (Bor Ring)) (b : Bor Ring) → option_copied o ≡ option_map (λ b. b.ring) (find (λ b. has_side s (sides_of b.ring)) bs) → o ≡ Some b

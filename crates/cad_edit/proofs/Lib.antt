@@ -1,9 +1,8 @@
 pub mod SidesGiven
 pub mod PlacedSoFar
 pub mod CutRing
-pub mod PointLists
-pub mod FirstSeams
-pub mod MergedSeams
+pub mod SharedRings
 pub mod StringRows
 pub mod FirstNamed
 pub mod ChainRows
+pub mod FirstReasons

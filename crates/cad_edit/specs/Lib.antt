@@ -1,3 +1,4 @@
 pub mod SourceChange
 pub mod Cut
 pub mod Merging
+pub mod Admitted

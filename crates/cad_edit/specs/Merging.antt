@@ -1,38 +1,35 @@
--- What two rings have in common, and the seams of a ring with several.
-use Rattle.std.specs.Prelude.{ℕ, List, [], ◌∷◌, flat_map, if◌then◌else◌}
+-- The two rings along a shared chain, and the ring that they become.
+use Rattle.std.specs.Prelude.{⊤, ℕ, IsTrue, List, [], ◌∷◌}
 use Rattle.cad_rows.specs.declared.names.Face.{Face}
-use Rattle.cad_rings.specs.Cycle.{Ring, turned}
-use Rattle.cad_rings.specs.Surgery.{joined}
+use Rattle.cad_rings.specs.Cycle.{Ring, Side, has_side, opposite, sides_of}
+use Rattle.cad_rings.specs.Surgery.{HaveChainInCommon, joined}
 use Rattle.cad_map.specs.declared.boundary.Boundary.{Boundary}
+use Rattle.cad_map.specs.declared.seam.SharedChain.{SharedChain}
+use Rattle.cad_map.specs.declared.seam.SharedChain.TheVariants.{Along, Around}
 use Rattle.cad_map.specs.Boundaries.{bounding}
-use Rattle.cad_map.specs.Map.{rings_at}
-use Rattle.cad_map.specs.Merger.{Seam, is_along, places, seams_of_rings}
-use Rattle.cad_map.specs.Merger.Seam.{along, around}
-use Rattle.cad_edit.specs.declared.merger.Common.{Common}
-use Rattle.cad_edit.specs.declared.merger.Common.TheVariants.{Along, Around}
+use Rattle.cad_map.specs.Division.{place_of}
 
--- the seam of two rings along so many sides
-abbrev pub seam_of : ℕ → Ring → Ring → Common → Seam
-seam_of n kept ended (Along i j) = along n kept i ended j
-seam_of n kept ended Around = around kept ended
+-- the side of the kept ring that tells it: the first of the chain
+abbrev pub kept_side : SharedChain → Side
+kept_side (Along first last sides) = first
+kept_side (Around side) = side
 
--- the seam along a chain that begins at place i of the one ring, if it comes to its end at place j of the other
-abbrev pub along_at : ℕ → Ring → Ring → ℕ → ℕ → List Seam
-along_at n kept ended i j = if is_along n (turned i kept) (turned j ended) then along n kept i ended j ∷ [] else []
+-- the side of the ended ring that tells it: the first of the chain back
+abbrev pub ended_side : SharedChain → Side
+ended_side (Along first last sides) = opposite last
+ended_side (Around side) = opposite side
 
--- at whichever place it comes to its end
-abbrev pub along_from : ℕ → Ring → Ring → ℕ → List Seam
-along_from n kept ended i = flat_map (along_at n kept ended i) (places 0 ended)
+-- the two rings have the chain in common, from those sides on
+pub record HaveAlong (first back : Side) (sides : ℕ) (kept ended : Ring) : Type 0 where
+  pub has_first : IsTrue (has_side first (sides_of kept))
+  pub has_back : IsTrue (has_side back (sides_of ended))
+  pub common : HaveChainInCommon (place_of first kept) (place_of back ended) sides kept ended
 
--- the seams of a ring with those rings of these that have the face to their left
-abbrev pub seams_with : ℕ → Face → Ring → List Boundary → List Seam
-seams_with n face kept bs = flat_map (λ e. seams_of_rings n kept e) (rings_at face bs)
-
--- the seams of each of the kept face's rings with each of the ended one's
-abbrev pub seams_among : ℕ → Face → Face → List Boundary → List Boundary → List Seam
-seams_among n kept ended ks es = flat_map (λ k. seams_with n ended k es) (rings_at kept ks)
+abbrev pub CanBeJoined : SharedChain → Ring → Ring → Type 0
+CanBeJoined (Along first last sides) kept ended = HaveAlong first (opposite last) sides kept ended
+CanBeJoined (Around side) kept ended = ⊤
 
 -- the ring round both along their chain, and none where each is the other's reverse
-abbrev pub rings_joined : ℕ → Face → Ring → Ring → Common → List Boundary
-rings_joined n face kept ended (Along i j) = bounding face (joined i j n kept ended) ∷ []
-rings_joined n face kept ended Around = []
+abbrev pub rings_joined : Face → Ring → Ring → SharedChain → List Boundary
+rings_joined face kept ended (Along first last sides) = bounding face (joined (place_of first kept) (place_of (opposite last) ended) sides kept ended) ∷ []
+rings_joined face kept ended (Around side) = []

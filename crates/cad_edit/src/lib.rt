@@ -1,20 +1,19 @@
 //! Why an edit is refused before anything is tried, and edits on a plain map.
 #![tactic(auto)]
 
+mod admitted;
 mod chains;
-mod division;
-mod joining;
-mod made;
-mod meeting;
-mod merger;
+mod edits;
+mod effect;
 mod naming;
 mod parcels;
-mod parting;
 mod placing;
+mod reasons;
 mod refusal;
-mod sources;
-mod splitting;
+mod rings;
 mod store;
+mod strings_at;
 
-pub use refusal::first_refusal;
+pub use admitted::Admitted;
+pub use refusal::{admit, first_refusal};
 pub use store::{PlainStore, WholeMaps};

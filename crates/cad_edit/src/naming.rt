@@ -1,7 +1,7 @@
 //! What an edit names and isn't there, and what it gives a number to that is in use.
-ghost use Rattle.std.specs.Prelude.{◌≡◌, ◌++◌, ◌∷◌, [], not, find, option_map, if◌then◌else◌};
-ghost use Rattle.cad_rows.specs.declared.names.Name.TheVariants as NameOf;
+ghost use Rattle.std.specs.Prelude.{◌≡◌, None, [], ◌∷◌, not, ◌++◌, find, option_map, if◌then◌else◌, Some};
 ghost use Rattle.cad_map.specs.Refusals.{unknown, taken, is_there, item_named, face_named, points_named, strings_named};
+ghost use Rattle.cad_rows.specs.declared.names.Name.TheVariants as NameOf;
 
 use cad_map::MapView;
 use cad_rows::{Edit, Face, Item, Name, ParcelNo, PointNo, Refusal, SourceNo, StringNo};
@@ -28,7 +28,7 @@ fn name_of(item: Item) -> Name
 }
 
 /// The refusal of an edit that names this row, where it isn't there.
-fn unless_known<M: MapView>(map: &M, name: Name) -> Option<Refusal>
+fn refusal_unless_known<M: MapView>(map: &M, name: Name) -> Option<Refusal>
     ensures { result ≡ (if is_there (M.map map.now) name then None else Some (Refusal.Unknown name)) }
 {
     if is_known(map, &name) {
@@ -39,29 +39,29 @@ fn unless_known<M: MapView>(map: &M, name: Name) -> Option<Refusal>
 }
 
 /// A row that the edit names isn't there.
-pub(crate) fn unknown_row<M: MapView>(map: &M, edit: &Edit) -> Option<Refusal>
+pub(crate) fn unknown_refusal<M: MapView>(map: &M, edit: &Edit) -> Option<Refusal>
     ensures { result ≡ unknown (M.map map.now) edit.now }
 {
     match edit {
         Edit::AddSource { .. } | Edit::AddPoint { .. } => None,
         Edit::DropPoint { point } | Edit::Join { point, .. } | Edit::Move { point, .. } => {
             let no = *point;
-            unless_known(map, Name::Point(no))
+            refusal_unless_known(map, Name::Point(no))
         }
         Edit::Split { string, .. } => {
             let no = *string;
-            unless_known(map, Name::String(no))
+            refusal_unless_known(map, Name::String(no))
         }
         Edit::Attach { item, source } | Edit::Detach { item, source } => {
             let no = *source;
-            if let Some(refusal) = unless_known(map, name_of(*item)) {
+            if let Some(refusal) = refusal_unless_known(map, name_of(*item)) {
                 return Some(refusal);
             }
-            unless_known(map, Name::Source(no))
+            refusal_unless_known(map, Name::Source(no))
         }
         Edit::Rename { parcel, .. } => {
             let no = *parcel;
-            unless_known(map, Name::Parcel(no))
+            refusal_unless_known(map, Name::Parcel(no))
         }
         Edit::Divide {
             face,
@@ -76,33 +76,33 @@ pub(crate) fn unknown_row<M: MapView>(map: &M, edit: &Edit) -> Option<Refusal>
             ..
         } => unknown_for_parcel(map, face, points.as_slice(), *source),
         Edit::Merge { kept, ended } => {
-            if let Some(refusal) = unless_known_face(map, kept) {
+            if let Some(refusal) = refusal_unless_known_face(map, kept) {
                 return Some(refusal);
             }
-            unless_known_face(map, ended)
+            refusal_unless_known_face(map, ended)
         }
     }
 }
 
 /// The refusal of an edit that names this face, where it isn't there. The outside always is.
-fn unless_known_face<M: MapView>(map: &M, face: &Face) -> Option<Refusal>
+fn refusal_unless_known_face<M: MapView>(map: &M, face: &Face) -> Option<Refusal>
     ensures { result ≡ option_map (λ n. Refusal.Unknown n) (find (λ n. not (is_there (M.map map.now) n)) (face_named face.now)) }
 {
     match face {
         Face::Outside => None,
         Face::Parcel(no) => {
             let no = *no;
-            unless_known(map, Name::Parcel(no))
+            refusal_unless_known(map, Name::Parcel(no))
         }
     }
 }
 
 /// The refusal of an edit that names these points, where one isn't there: the first.
-fn unless_known_points<M: MapView>(map: &M, points: &[PointNo]) -> Option<Refusal>
+fn refusal_unless_known_points<M: MapView>(map: &M, points: &[PointNo]) -> Option<Refusal>
     ensures { result ≡ option_map (λ n. Refusal.Unknown n) (find (λ n. not (is_there (M.map map.now) n)) (points_named points.now)) }
 {
     for point in points {
-        if let Some(refusal) = unless_known(map, Name::Point(*point)) {
+        if let Some(refusal) = refusal_unless_known(map, Name::Point(*point)) {
             return Some(refusal);
         }
     }
@@ -118,17 +118,17 @@ fn unknown_for_parcel<M: MapView>(
 ) -> Option<Refusal>
     ensures { result ≡ option_map (λ n. Refusal.Unknown n) (find (λ n. not (is_there (M.map map.now) n)) (face_named face.now ++ points_named points.now ++ NameOf.Source source ∷ [])) }
 {
-    if let Some(refusal) = unless_known_face(map, face) {
+    if let Some(refusal) = refusal_unless_known_face(map, face) {
         return Some(refusal);
     }
-    if let Some(refusal) = unless_known_points(map, points) {
+    if let Some(refusal) = refusal_unless_known_points(map, points) {
         return Some(refusal);
     }
-    unless_known(map, Name::Source(source))
+    refusal_unless_known(map, Name::Source(source))
 }
 
 /// The refusal of an edit that gives this number, where it is in use.
-fn if_known<M: MapView>(map: &M, name: Name) -> Option<Refusal>
+fn refusal_if_known<M: MapView>(map: &M, name: Name) -> Option<Refusal>
     ensures { result ≡ (if is_there (M.map map.now) name then Some (Refusal.Taken name) else None) }
 {
     if is_known(map, &name) {
@@ -139,17 +139,17 @@ fn if_known<M: MapView>(map: &M, name: Name) -> Option<Refusal>
 }
 
 /// A number that the edit gives is in use.
-pub(crate) fn taken_row<M: MapView>(map: &M, edit: &Edit) -> Option<Refusal>
+pub(crate) fn taken_refusal<M: MapView>(map: &M, edit: &Edit) -> Option<Refusal>
     ensures { result ≡ taken (M.map map.now) edit.now }
 {
     match edit {
         Edit::AddSource { source, .. } => {
             let no = *source;
-            if_known(map, Name::Source(no))
+            refusal_if_known(map, Name::Source(no))
         }
         Edit::AddPoint { point, .. } => {
             let no = *point;
-            if_known(map, Name::Point(no))
+            refusal_if_known(map, Name::Point(no))
         }
         Edit::Split {
             point,
@@ -158,17 +158,17 @@ pub(crate) fn taken_row<M: MapView>(map: &M, edit: &Edit) -> Option<Refusal>
             ..
         } => {
             let (point, first, second) = (*point, *first, *second);
-            if let Some(refusal) = if_known(map, Name::Point(point)) {
+            if let Some(refusal) = refusal_if_known(map, Name::Point(point)) {
                 return Some(refusal);
             }
-            if let Some(refusal) = if_known(map, Name::String(first)) {
+            if let Some(refusal) = refusal_if_known(map, Name::String(first)) {
                 return Some(refusal);
             }
-            if_known(map, Name::String(second))
+            refusal_if_known(map, Name::String(second))
         }
         Edit::Join { string, .. } => {
             let no = *string;
-            if_known(map, Name::String(no))
+            refusal_if_known(map, Name::String(no))
         }
         Edit::Divide {
             strings,
@@ -190,11 +190,11 @@ pub(crate) fn taken_row<M: MapView>(map: &M, edit: &Edit) -> Option<Refusal>
 }
 
 /// The refusal of an edit that gives these strings' numbers, where one is in use: the first.
-fn if_known_strings<M: MapView>(map: &M, strings: &[StringNo]) -> Option<Refusal>
+fn refusal_if_known_strings<M: MapView>(map: &M, strings: &[StringNo]) -> Option<Refusal>
     ensures { result ≡ option_map (λ n. Refusal.Taken n) (find (is_there (M.map map.now)) (strings_named strings.now)) }
 {
     for string in strings {
-        if let Some(refusal) = if_known(map, Name::String(*string)) {
+        if let Some(refusal) = refusal_if_known(map, Name::String(*string)) {
             return Some(refusal);
         }
     }
@@ -205,8 +205,8 @@ fn if_known_strings<M: MapView>(map: &M, strings: &[StringNo]) -> Option<Refusal
 fn taken_for_parcel<M: MapView>(map: &M, strings: &[StringNo], parcel: ParcelNo) -> Option<Refusal>
     ensures { result ≡ option_map (λ n. Refusal.Taken n) (find (is_there (M.map map.now)) (strings_named strings.now ++ NameOf.Parcel parcel ∷ [])) }
 {
-    if let Some(refusal) = if_known_strings(map, strings) {
+    if let Some(refusal) = refusal_if_known_strings(map, strings) {
         return Some(refusal);
     }
-    if_known(map, Name::Parcel(parcel))
+    refusal_if_known(map, Name::Parcel(parcel))
 }

@@ -1,73 +1,43 @@
-//! Why two parcels aren't merged.
-ghost use Rattle.std.specs.Prelude.{◌≡◌};
-ghost use Rattle.cad_map.specs.Valid.{IsValid};
-ghost use Rattle.cad_map.specs.Refusals.{outside, same_parcel, not_neighbours, not_one_chain};
+//! A new parcel and its strings, put on a map.
+ghost use Rattle.std.specs.Prelude.{◌≡◌, ◌≢◌, None, [], ◌∷◌, map as map_of, ◌++◌, OnOk};
+ghost use Rattle.std.specs.List.{AllByRecursion};
+ghost use Rattle.cad_map.specs.Map.{string_of, parcel_of};
+ghost use Rattle.cad_map.specs.Valid.{EachPair};
 
-use cad_map::{MapView, has_seam, is_face, shared_count};
-use cad_rows::{Edit, Face, Refusal};
+use cad_map::PlainMap;
+use cad_rows::{Label, Memory, Numbers, ParcelNo, ParcelRow, SourceNo, StringRow};
 
-/// A merger names the outside.
-pub(crate) fn outside_row(edit: &Edit) -> Option<Refusal>
-    ensures { result ≡ outside edit.now }
-{
-    match edit {
-        Edit::Merge { kept, ended } => {
-            if is_face(&Face::Outside, kept) || is_face(&Face::Outside, ended) {
-                Some(Refusal::Outside)
-            } else {
-                None
-            }
-        }
-        _ => None,
-    }
+/// A new parcel: its number, its label, and the source that witnesses it and its strings.
+#[derive(Drop)]
+pub(crate) struct NewParcel<'a> {
+    pub number: ParcelNo,
+    pub label: &'a Label,
+    pub source: SourceNo,
 }
 
-/// A parcel would be merged with itself.
-pub(crate) fn same_parcel_row(edit: &Edit) -> Option<Refusal>
-    ensures { result ≡ same_parcel edit.now }
+/// Puts strings last.
+pub(crate) fn put_strings(map: &mut PlainMap, rows: &[StringRow]) -> Result<(), Memory>
+    requires new { AllByRecursion (λ row. string_of map.old row.number ≡ None) rows.now }
+    requires distinct { EachPair (λ a b. a ≢ b) (map_of (λ row. row.number) rows.now) }
+    ensures { OnOk result (map.new ≡ record map.old { strings = map.old.strings ++ rows.now }) }
 {
-    match edit {
-        Edit::Merge { kept, ended } => {
-            if is_face(kept, ended) {
-                Some(Refusal::SameParcel)
-            } else {
-                None
-            }
-        }
-        _ => None,
+    for place in 0..rows.len() {
+        map.put_string(rows[place].copy()?)?;
     }
+    Ok(())
 }
 
-/// No string has the two parcels on its sides.
-pub(crate) fn not_neighbours_row<M: MapView>(map: &M, edit: &Edit) -> Option<Refusal>
-    requires { IsValid (M.map map.now) }
-    ensures { result ≡ not_neighbours (M.map map.now) edit.now }
+/// Puts a new parcel last.
+pub(crate) fn put_new_parcel(map: &mut PlainMap, new: &NewParcel<'_>) -> Result<(), Memory>
+    requires { parcel_of map.old new.now.number ≡ None }
+    ensures { OnOk result (map.new ≡ record map.old { parcels = map.old.parcels ++ record { number = new.now.number; label = new.now.label.now; sources = new.now.source ∷ [] } ∷ [] }) }
 {
-    match edit {
-        Edit::Merge { kept, ended } => {
-            if shared_count(map, kept, ended) == 0 {
-                Some(Refusal::NotNeighbours)
-            } else {
-                None
-            }
-        }
-        _ => None,
-    }
-}
-
-/// What the two parcels have in common is neither one chain nor one whole ring.
-pub(crate) fn not_one_chain_row<M: MapView>(map: &M, edit: &Edit) -> Option<Refusal>
-    requires { IsValid (M.map map.now) }
-    ensures { result ≡ not_one_chain (M.map map.now) edit.now }
-{
-    match edit {
-        Edit::Merge { kept, ended } => {
-            if has_seam(map, kept, ended) {
-                None
-            } else {
-                Some(Refusal::NotOneChain)
-            }
-        }
-        _ => None,
-    }
+    let mut sources = Numbers::new(map.allocator());
+    sources.push(new.source)?;
+    let label = new.label.copy()?;
+    map.put_parcel(ParcelRow {
+        number: new.number,
+        label,
+        sources,
+    })
 }

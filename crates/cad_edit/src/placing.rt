@@ -1,14 +1,14 @@
 //! Which holes of a face go to a new face with the ring that is put round them.
-ghost use Rattle.std.specs.Prelude.{◌≡◌, ◌&&◌, IsTrue, IfOk};
+ghost use Rattle.std.specs.Prelude.{◌≡◌, IsTrue, ◌&&◌, IfOk};
 ghost use Rattle.std.specs.List.{AllByRecursion, Contains};
+ghost use Rattle.cad_map.specs.Map.{has_point, sum_of_ring, is_negative, is_in_ring as is_in_ring_of};
+ghost use Rattle.cad_map.specs.Division.{hole_placed as hole_placed_of};
+ghost use Rattle.cad_map.specs.Rings.{HasWholeRings};
 ghost use Rattle.geo_exact.specs.Measure.{doubled_area as doubled_area_of};
 ghost use Rattle.cad_rings.specs.Cycle.{anchor_of};
 ghost use Rattle.cad_map.specs.Boundaries.{is_face as is_face_of};
-ghost use Rattle.cad_map.specs.Division.{hole_placed as hole_placed_of};
-ghost use Rattle.cad_map.specs.Map.{has_point, sum_of_ring, is_negative, is_in_ring as is_in_ring_of};
-ghost use Rattle.cad_map.specs.Rings.{HasWholeRings};
 
-use cad_map::{Boundary, PlainMap, position};
+use cad_map::{Boundary, PlainMap, is_face, position};
 use cad_rings::Ring;
 use cad_rows::{Face, Memory, PointNo};
 use geo_exact::{DoubledArea, SideMeasure, crosses};
@@ -43,16 +43,6 @@ fn is_hole_inside(map: &PlainMap, face: &Face, ring: &Ring, boundary: &Boundary)
     is_face(face, &boundary.face)
         && doubled_area(map, boundary) < 0
         && is_in_ring(map, ring, boundary.ring.anchor())
-}
-
-fn is_face(a: &Face, b: &Face) -> bool
-    ensures { result ≡ is_face_of a.now b.now }
-{
-    match (a, b) {
-        (Face::Outside, Face::Outside) => true,
-        (Face::Parcel(m), Face::Parcel(n)) => m.get() == n.get(),
-        _ => false,
-    }
 }
 
 /// The doubled area of a ring of the map, in doubled square millimetres.

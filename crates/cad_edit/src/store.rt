@@ -1,8 +1,8 @@
 //! A plain map that can be edited. Its records are two whole maps.
 ghost use Rattle.std.specs.Prelude.{◌≡◌};
 
-use crate::made::{are_in_range, made_by};
-use crate::refusal::first_refusal;
+use crate::effect::{are_in_range, effect_of};
+use crate::refusal::admit;
 use cad_map::{Counts, MapStore, MapView, PlainMap};
 use cad_rows::{
     Edit, Face, Memory, ParcelNo, ParcelRow, PointNo, PointRow, Refusal, SourceNo, SourceRow,
@@ -108,11 +108,12 @@ impl MapStore for PlainStore {
     ghost belongs = { λ r b a. (r.before ≡ b) × (r.after ≡ a) };
 
     fn apply(&mut self, edit: &Edit) -> Result<WholeMaps, Refusal> {
-        if let Some(refusal) = first_refusal(&self.map, edit) {
-            return Err(refusal);
-        }
+        let found = match admit(&self.map, edit) {
+            Ok(found) => found,
+            Err(refusal) => return Err(refusal),
+        };
         are_in_range(edit);
-        let Ok(made) = made_by(&self.map, edit) else {
+        let Ok(made) = effect_of(&self.map, edit, &found) else {
             return Err(Refusal::Memory);
         };
         if let Some(rule) = first_broken(&made) {

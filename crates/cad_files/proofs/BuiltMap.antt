@@ -2,17 +2,18 @@
 use Rattle.std.proofs.Common.{◌≡◌, ◌≤◌, ◌∷◌, [], ◌∙◌, refl, List, length, Option, Some, None}
 use Rattle.std.specs.Prelude.{IsPermutation}
 use Rattle.std.specs.List.{AllByRecursion}
+use Rattle.cad_rows.specs.declared.refusals.Rule.TheVariants.{V6}
 use Rattle.cad_map.specs.declared.boundary.Boundary.{Boundary}
 use Rattle.cad_map.specs.Boundaries.{listed}
-use Rattle.cad_map.specs.Valid.{HasSoundRows, HasTwoEnds, HasCompleteRings, CanBeTested, KeepsAll}
+use Rattle.cad_map.specs.Valid.{HasSoundRows, HasTwoEnds, HasCompleteRings, CanBeTested, Keeps, KeepsAll}
 use Rattle.cad_map.proofs.Kept.{valid-from_kept}
 use Rattle.cad_map.proofs.Lists.{All-follows}
 use Rattle.cad_map.proofs.Listed.{listed-listed}
 use Rattle.cad_files.specs.Rows.{Rows, AreInRange}
 use Rattle.cad_files.specs.Building.{map_of, first_fault, first_some, IsMapOf, IsBuilt}
 use Rattle.cad_files.specs.Follower.{HasRingsOf, followers}
-use Rattle.cad_files.specs.Cycles.{AreSidesOf, AreFollowed, followed_in, side_of}
-use Rattle.cad_files.specs.declared.cycles.FollowedSide.{FollowedSide}
+use Rattle.cad_files.specs.Cycles.{FollowedSide, AreSidesOf, AreFollowed, followed_in, side_of}
+use Rattle.cad_files.proofs.NoCornerMet.{corners-empty}
 use Rattle.cad_files.proofs.CycleSides.{are-followed}
 use Rattle.cad_files.proofs.CycleRings.{has-rings, followers-same, two-listed}
 use Rattle.cad_files.proofs.CycleRules.{complete-rings, points-known}
@@ -56,6 +57,10 @@ module _ (rows : Rows) (range : AreInRange rows) (none : first_fault rows ≡ No
     -- it can be asked of it what rule it breaks first
     pub tested : CanBeTested (with_rings rows (listed bs))
     tested = record { v1 = sound; v2 = ends; v5 = λ v3 v4. complete }
+
+    -- its corners are empty, since each is that of a side and its follower
+    pub corners : Keeps (with_rings rows (listed bs)) V6
+    corners = corners-empty (with_rings rows (listed bs)) has.followers
 
     -- where it breaks none, it is built
     pub built : KeepsAll (with_rings rows (listed bs)) → IsBuilt rows (with_rings rows (listed bs))

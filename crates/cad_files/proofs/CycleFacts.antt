@@ -3,7 +3,7 @@ use Rattle.std.proofs.Common.{◌≡◌, ◌≢◌, ℕ, ◌+◌, ◌≤◌, ◌
 use Rattle.std.proofs.lemmas.List.{map-append, append-nil, length-append, length-map}
 use Rattle.cad_rings.proofs.CallerLemmas.{length-corners_of}
 use Rattle.std.proofs.lemmas.List.Sums.{sum_by-cons}
-use Rattle.std.proofs.lemmas.List.Sorted.{IsPermutation-refl, IsPermutation-cons, IsPermutation-trans, IsPermutation-append_right, IsPermutation-to_front, IsPermutation-pop_more, length_permutation, Contains-permutation, sum_by-IsPermutation}
+use Rattle.std.proofs.lemmas.List.Sorted.{IsPermutation-refl, IsPermutation-cons, IsPermutation-trans, IsPermutation-append_right, IsPermutation-pop_more, length_permutation, Contains-permutation, sum_by-IsPermutation}
 use Rattle.std.specs.Prelude.{count_by, IsPermutation}
 use Rattle.std.specs.List.{AllByRecursion, Contains}
 use Rattle.cad_rows.specs.declared.names.Face.{Face}
@@ -13,8 +13,7 @@ use Rattle.cad_map.specs.Valid.{EachPair}
 use Rattle.cad_map.proofs.Lists.{All-push, All-map, All-follows, All-from_Contains, All-permuted, All-Contains}
 use Rattle.cad_map.proofs.Elements.{Contains-cases, Contains-first, Contains-later, count-some, count-map, one-only}
 use Rattle.cad_map.proofs.Walks.{is_side-refl, once-from_pairs}
-use Rattle.cad_files.specs.Cycles.{side_of, side_behind, HasNext, AreFollowed, followed_of, followed_in}
-use Rattle.cad_files.specs.declared.cycles.FollowedSide.{FollowedSide}
+use Rattle.cad_files.specs.Cycles.{FollowedSide, side_of, side_behind, HasNext, AreFollowed, followed_of, followed_in}
 
 -- ---- Sides of which no two have the same key
 
@@ -238,19 +237,16 @@ pub record AreMade (sides : List FollowedSide) (rings : List Boundary) (rest : L
   pub two : AllByRecursion (λ b. 2 ≤ length b.ring) rings
   pub left : AreFollowed rest
 
-pub AreFollowed-popped : (rest : List FollowedSide) (first : FollowedSide) → AreFollowed (rest ++ first ∷ []) → AreFollowed (first ∷ rest)
-AreFollowed-popped rest first = AreFollowed-permuted (rest ++ first ∷ []) (first ∷ rest) (IsPermutation-to_front rest first)
-
 followed_in-push : (rings : List Boundary) (b : Boundary) → followed_in (rings ++ b ∷ []) ≡ followed_in rings ++ followed_of b
 followed_in-push [] b = append-nil (followed_of b)
 followed_in-push (a ∷ rings) b = ap (λ (l : List FollowedSide). followed_of a ++ l) (followed_in-push rings b) ∙ sym (append_assoc (followed_of a) (followed_in rings) (followed_of b))
 
-pub made-more : (sides : List FollowedSide) (rings : List Boundary) (rest : List FollowedSide) (first : FollowedSide) (b : Boundary) (left : List FollowedSide) → AreMade sides rings (rest ++ first ∷ [])
-    → IsPermutation (first ∷ rest) (followed_of b ++ left) → 2 ≤ length b.ring → AreFollowed left → AreMade sides (rings ++ b ∷ []) left
-made-more sides rings rest first b left made p two are = record {
+pub made-more : (sides : List FollowedSide) (rings : List Boundary) (old rest : List FollowedSide) (first : FollowedSide) (b : Boundary) (left : List FollowedSide) → AreMade sides rings old
+    → IsPermutation old (first ∷ rest) → IsPermutation (first ∷ rest) (followed_of b ++ left) → 2 ≤ length b.ring → AreFollowed left → AreMade sides (rings ++ b ∷ []) left
+made-more sides rings old rest first b left made out p two are = record {
   all =
-      let step = IsPermutation-trans (rest ++ first ∷ []) (first ∷ rest) (followed_of b ++ left) (IsPermutation-to_front rest first) p in
-      let more = IsPermutation-trans sides (followed_in rings ++ (rest ++ first ∷ [])) (followed_in rings ++ (followed_of b ++ left)) made.all (IsPermutation-append_right (followed_in rings) (rest ++ first ∷ []) (followed_of b ++ left) step) in
+      let step = IsPermutation-trans old (first ∷ rest) (followed_of b ++ left) out p in
+      let more = IsPermutation-trans sides (followed_in rings ++ old) (followed_in rings ++ (followed_of b ++ left)) made.all (IsPermutation-append_right (followed_in rings) old (followed_of b ++ left) step) in
       subst (λ (l : List FollowedSide). IsPermutation sides l) (sym (append_assoc (followed_in rings) (followed_of b) left) ∙ ap (λ (l : List FollowedSide). l ++ left) (sym (followed_in-push rings b))) more;
   two = All-push (λ b. 2 ≤ length b.ring) rings b made.two two;
   left = are;

@@ -20,8 +20,7 @@ use Rattle.cad_map.proofs.ListedSides.{sides_in-listed, corners_in-listed}
 use Rattle.cad_map.proofs.Elements.{Contains-cases, Contains-first, Contains-later, Contains-flat_map}
 use Rattle.cad_map.proofs.Walks.{side_before, sides-before, is_side-refl}
 use Rattle.cad_files.specs.Follower.{may_follow, followers, LabelledSide, labelled_sides, HasRingsOf}
-use Rattle.cad_files.specs.Cycles.{side_of, corner_of, faced, faced_as, AreFollowed, AreSidesOf, followed_of, followed_in}
-use Rattle.cad_files.specs.declared.cycles.FollowedSide.{FollowedSide}
+use Rattle.cad_files.specs.Cycles.{FollowedSide, side_of, corner_of, faced, faced_as, AreFollowed, AreSidesOf, followed_of, followed_in}
 use Rattle.cad_files.specs.declared.rows.PlanString.{PlanString}
 use Rattle.cad_files.proofs.CycleFacts.{Once-same, Once-from_pairs, with_face}
 

@@ -12,8 +12,7 @@ use Rattle.cad_map.specs.Valid.{HasCompleteRings}
 use Rattle.cad_map.proofs.Lists.{All-map, All-permuted, All-append, All-flat_map}
 use Rattle.cad_map.proofs.Listed.{IsPermutation-listed}
 use Rattle.cad_files.specs.Follower.{labelled_sides, HasRingsOf}
-use Rattle.cad_files.specs.Cycles.{AreSidesOf, faced, faced_as, followed_of, followed_in}
-use Rattle.cad_files.specs.declared.cycles.FollowedSide.{FollowedSide}
+use Rattle.cad_files.specs.Cycles.{FollowedSide, AreSidesOf, faced, faced_as, followed_of, followed_in}
 use Rattle.cad_files.specs.declared.rows.PlanString.{PlanString}
 use Rattle.cad_files.proofs.CycleRings.{three}
 

@@ -18,8 +18,7 @@ use Rattle.cad_map.proofs.Elements.{Contains-first, Contains-later}
 use Rattle.cad_map.proofs.Walks.{is_side-refl}
 use Rattle.cad_files.specs.Follower.{followers, labelled_sides}
 use Rattle.cad_files.specs.Building.{is_dangling, dangling, is_bad_corner, first_bad_corner, bad_corner, keeps_face, other_label}
-use Rattle.cad_files.specs.Cycles.{side_of, side_behind, HasNext, AreFollowed, AreSidesOf, faced, faced_as}
-use Rattle.cad_files.specs.declared.cycles.FollowedSide.{FollowedSide}
+use Rattle.cad_files.specs.Cycles.{FollowedSide, side_of, side_behind, HasNext, AreFollowed, AreSidesOf, faced, faced_as}
 use Rattle.cad_files.specs.declared.rows.PlanString.{PlanString}
 use Rattle.cad_files.proofs.CycleRings.{sides-faced, sides-faced_as}
 
@@ -205,6 +204,12 @@ ends-each (s ∷ strings) all = (all.0, ((λ same. all.0 (sym same)), ends-each 
 no-bad : (m : Map) (strings : List PlanString) → bad_corner m strings ≡ None → first_bad_corner m [] (map (λ s. s.side) (labelled_sides strings)) ≡ None
 unfolding bad_corner
 no-bad m strings none = none
+
+-- where there is no bad corner, no side stands twice
+pub sides-once : (m : Map) (strings : List PlanString) → bad_corner m strings ≡ None → EachPair (λ a b. a ≢ b) (map (λ s. s.side) (labelled_sides strings))
+sides-once m strings none =
+    let L = map (λ s. s.side) (labelled_sides strings) in
+    (good-pairs m (λ a b. a ≢ b) (good-once m) [] L (good-each m [] L (no-bad m strings none))).0
 
 no-other : (m : Map) (strings : List PlanString) → other_label m strings ≡ None → AllByRecursion (λ s. keeps_face m (labelled_sides strings) s ≡ true) (labelled_sides strings)
 unfolding other_label

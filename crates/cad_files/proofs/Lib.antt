@@ -14,13 +14,12 @@ pub mod CycleRings
 pub mod CycleSides
 pub mod CycleRules
 pub mod FollowerFacts
+pub mod StringSides
 pub mod CornerFacts
 pub mod LabelFacts
 pub mod FaultFacts
 pub mod Faces
-pub mod SameDirection
 pub mod RingCorners
-pub mod StringEnds
 pub mod OneFollower
 pub mod MapAgain
 pub mod NoneTaken
@@ -32,3 +31,9 @@ pub mod BuiltAgain
 pub mod BuiltMap
 mod OutlineFacts
 mod FollowedRows
+mod RepeatedSources
+pub mod SoleFollower
+pub mod NoCornerMet
+pub mod NextSides
+pub mod PoolFacts
+pub mod RepeatFacts

@@ -12,7 +12,7 @@ use Rattle.cad_files.specs.Building.{map_of, rows_of, plan_string_of, is_danglin
 use Rattle.cad_files.specs.declared.rows.PlanString.{PlanString}
 use Rattle.cad_map.proofs.ElementFacts.{Contains-filter, Contains-one, find-nothing, map-Contains}
 use Rattle.cad_map.proofs.FacesBeside.{is_face-same, both_sides, in_all}
-use Rattle.cad_files.proofs.StringEnds.{joins-end, joins-far_end, two_ends}
+use Rattle.cad_map.proofs.StringEnds.{joins-end, joins-far_end, two_ends}
 use Rattle.cad_files.proofs.RingCorners.{corner_of, turns_on}
 use Rattle.cad_files.proofs.OneFollower.{before, behind, from_before, to_behind}
 use Rattle.cad_files.proofs.MapAgain.{without_rings, left_known, right_known}

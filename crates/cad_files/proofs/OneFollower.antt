@@ -14,13 +14,13 @@ use Rattle.cad_map.proofs.Walks.{side_before, side_behind}
 use Rattle.cad_files.specs.Follower.{once_each, may_follow, followers}
 use Rattle.cad_map.proofs.ElementFacts.{list_all-at, list_all-from, filter-Contains, Contains-filter, map-Contains}
 use Rattle.cad_map.proofs.FacesBeside.{IsSideOf, of_string}
-use Rattle.cad_files.proofs.StringEnds.{IsString, Joins, joins-end, joins-far_end, joins-far, side-joins, two_ends, first_met}
+use Rattle.cad_map.proofs.StringEnds.{IsString, Joins, joins-end, joins-far_end, joins-far, side-joins, two_ends, first_met}
 use Rattle.cad_files.proofs.RingCorners.{before-in, behind-in_all, turns_on}
 
 -- ---- The one number that passes a test
 
 module _ (test : ℕ → Bool) where
-  All-once_each : (P : ℕ → Type 0) (ns : List ℕ) → AllByRecursion P ns → AllByRecursion P (once_each ns)
+  pub All-once_each : (P : ℕ → Type 0) (ns : List ℕ) → AllByRecursion P ns → AllByRecursion P (once_each ns)
   All-once_each P [] all = tt
   All-once_each P (n ∷ ns) all = (all.0, All-filter P (λ k. not (k == n)) (once_each ns) (All-once_each P ns all.1))
 
@@ -45,7 +45,7 @@ module _ (test : ℕ → Bool) where
       by false true is passes rest = rw is (rw passes (ap (λ (l : List ℕ). k ∷ l) rest))
       by false false is passes rest = rw is (rw passes rest)
 
-  only-one : (ns : List ℕ) (w : ℕ) → Contains ns w → test w ≡ true → AllByRecursion (λ k. test k ≡ true → k ≡ w) ns → filter test (once_each ns) ≡ w ∷ []
+  pub only-one : (ns : List ℕ) (w : ℕ) → Contains ns w → test w ≡ true → AllByRecursion (λ k. test k ≡ true → k ≡ w) ns → filter test (once_each ns) ≡ w ∷ []
   only-one [] w h passes all = let low = h.1 in absurd (omega (arith, low))
   only-one (n ∷ ns) w h passes all = by (test n) refl (Contains-cases n ns w h) (λ later. only-one ns w later passes all.1)
     where

@@ -1,58 +1,77 @@
--- The followers of a plan's sides, as they are looked for.
-use Rattle.std.specs.Prelude.{◌≡◌, ℕ, Bool, not, ◌&&◌, ◌||◌, ◌==◌, List, [], ◌∷◌, ◌++◌, map, reverse, if◌then◌else◌}
-use Rattle.std.specs.List.{list_all, list_any}
-use Rattle.geo_exact.specs.Sector.{in_sector}
+-- The sides of a plan's strings, as they are found one after another.
+use Rattle.std.specs.Prelude.{◌≡◌, ◌<◌, ◌+◌, ◌*◌, ◌^◌, ◌⊎◌, ℕ, Bool, true, false, ◌&&◌, ◌||◌, ◌==◌, List, [], ◌∷◌, ◌++◌, length, map, reverse, take, slice_get, min, Option, Some, None}
+use Rattle.std.specs.List.{list_any, AllByRecursion}
 use Rattle.cad_rings.specs.Cycle.{Side, is_side}
 use Rattle.cad_map.specs.Boundaries.{is_face}
-use Rattle.cad_map.specs.Map.{Map, position_of, strings_at, far_end}
-use Rattle.cad_files.specs.Follower.{LabelledSide, followers}
-use Rattle.cad_files.specs.declared.cycles.FollowedSide.{FollowedSide}
-use Rattle.cad_files.specs.declared.corners.Found.{Found}
-use Rattle.cad_files.specs.declared.corners.Found.TheVariants.{Nothing, One, Several}
-use Rattle.cad_files.specs.declared.corners.PlanSide.{PlanSide}
-use Rattle.cad_files.specs.declared.corners.Followed.{Followed}
-
--- the points that the strings at a point lead to
-abbrev pub far_ends : Map → ℕ → List ℕ
-far_ends m p = map (λ t. far_end t p) (strings_at m p)
-
--- e isn't in the sector at the end of the side from w to where the side comes from, or is w
-abbrev pub leaves_open : Map → Side → ℕ → ℕ → Bool
-leaves_open m s w e = (e == w) || not (in_sector (position_of m s.1) (position_of m w) (position_of m s.0) (position_of m e))
-
--- the point may follow the side, where these are the ends of the strings at the side's end
-abbrev pub may_follow_among : Map → List ℕ → Side → ℕ → Bool
-may_follow_among m ends s w = not (w == s.0) && list_all (leaves_open m s w) ends
-
--- the points with this one, where it isn't one of them
-abbrev pub with_point : ℕ → List ℕ → List ℕ
-with_point n points = if list_any (λ k. k == n) points then points else points ++ n ∷ []
-
--- how many these are, and which one it is where it is just one
-abbrev pub found_of : List ℕ → Found
-found_of [] = Nothing
-found_of (n ∷ []) = One n
-found_of (n ∷ k ∷ ns) = Several
-
-abbrev pub plan_side_of : PlanSide → Side
-plan_side_of s = (s.from, s.to)
+use Rattle.cad_map.specs.Map.{Map}
+use Rattle.cad_files.specs.Follower.{LabelledSide, followers, labelled_sides}
+use Rattle.cad_files.specs.Cycles.{plan_side_of}
+use Rattle.cad_map.specs.declared.stars.Spoke.{Spoke}
+use Rattle.cad_files.specs.declared.rows.PlanString.{PlanString}
+use Rattle.cad_files.specs.declared.sides.PlanSide.{PlanSide}
 
 abbrev pub labelled : PlanSide → LabelledSide
 labelled s = record { side = plan_side_of s; string = s.string; face = s.face }
 
--- the point follows the side, and no other does
-abbrev pub HasFollower : Map → Followed → Type 0
-HasFollower m f = followers m (plan_side_of f.side) ≡ f.after ∷ []
+-- its point follows the side, and no other does
+abbrev pub HasFollower : Map → PlanSide → Type 0
+HasFollower m s = followers m (plan_side_of s) ≡ s.after ∷ []
+
+-- of each of these the side after it stands among the sides of the strings, at the place that it tells
+abbrev pub AreLinkedIn : List PlanString → List PlanSide → Type 0
+AreLinkedIn strings sides =
+    AllByRecursion (λ s. slice_get (map (λ l. l.side) (labelled_sides strings)) s.next ≡ Some (s.to, s.after)) sides
+
+-- one of these strings leads from one end of the spoke to the other
+pub record IsSpokeOf (strings : List PlanString) (spoke : Spoke) : Type 0 where
+  pub string : PlanString
+  pub there : slice_get strings spoke.place ≡ Some string
+  pub ends : ((string.row.from ≡ spoke.at) × (string.row.to ≡ spoke.far)) ⊎ ((string.row.from ≡ spoke.far) × (string.row.to ≡ spoke.at))
+
+-- after these sides of the strings comes one to this point that hasn't just one follower
+pub record IsStop (m : Map) (strings : List PlanString) (passed : List PlanSide) (end : ℕ) : Type 0 where
+  pub side : LabelledSide
+  pub rest : List LabelledSide
+  pub are : map labelled passed ++ side ∷ rest ≡ labelled_sides strings
+  pub ends : side.side.1 ≡ end
+  pub bad : (length (followers m side.side) == 1) ≡ false
+
+-- ---- Sides that are met again
 
 -- these sides, the last one first
 abbrev pub passed_sides : List PlanSide → List Side
 passed_sides sides = reverse (map plan_side_of sides)
 
+-- the side is among these, or one of them to the same point has its follower
+abbrev pub is_met : List PlanSide → PlanSide → Bool
+is_met sides s =
+    list_any (λ f. is_side (plan_side_of s) (plan_side_of f) || ((f.to == s.to) && (f.after == s.after))) sides
+
+-- none of the first n sides is met among those before it
+abbrev pub NoneMet : List PlanSide → ℕ → Type 0
+NoneMet sides n =
+    (k : ℕ) (s : PlanSide) → k < n → slice_get sides k ≡ Some s → is_met (take k sides) s ≡ false
+
+-- the side at this place is the first that is met among those before it
+pub record IsFirstMet (sides : List PlanSide) (k : ℕ) : Type 0 where
+  pub side : PlanSide
+  pub there : slice_get sides k ≡ Some side
+  pub met : is_met (take k sides) side ≡ true
+  pub before : NoneMet sides k
+
+-- two numbers as one
+abbrev pub key_of : Side → ℕ
+key_of s = s.0 * 2 ^ 32 + s.1
+
+-- the lesser of two places, where they are there
+abbrev pub lesser_of : Option ℕ → Option ℕ → Option ℕ
+lesser_of None b = b
+lesser_of (Some p) None = Some p
+lesser_of (Some p) (Some q) = Some (min p q)
+
 -- ---- Faces
 
 -- one of these is the side after it, and has its face
-abbrev pub keeps_face_among : List Followed → Followed → Bool
-keeps_face_among sides f = list_any (λ t. is_side (f.side.to, f.after) (plan_side_of t.side) && is_face f.side.face t.side.face) sides
-
-abbrev pub followed_side : Followed → FollowedSide
-followed_side f = record { from = f.side.from; to = f.side.to; after = f.after; face = f.side.face }
+abbrev pub keeps_face_among : List PlanSide → PlanSide → Bool
+keeps_face_among sides s =
+    list_any (λ t. is_side (s.to, s.after) (plan_side_of t) && is_face s.face t.face) sides

@@ -1,5 +1,5 @@
 -- Sides, each with the point that follows it, and the rings that they make.
-use Rattle.std.specs.Prelude.{◌≡◌, ◌≢◌, List, [], ◌∷◌, map}
+use Rattle.std.specs.Prelude.{◌≡◌, ◌≢◌, ℕ, List, [], ◌∷◌, map, slice_get, Some}
 use Rattle.std.specs.List.{flat_map, AllByRecursion, Contains}
 use Rattle.cad_rows.specs.declared.names.Face.{Face}
 use Rattle.cad_rings.specs.Cycle.{Side, Corner, corners_of}
@@ -7,10 +7,17 @@ use Rattle.cad_map.specs.declared.boundary.Boundary.{Boundary}
 use Rattle.cad_map.specs.Map.{Map}
 use Rattle.cad_map.specs.Valid.{EachPair}
 use Rattle.cad_files.specs.Follower.{followers, LabelledSide, labelled_sides}
-use Rattle.cad_files.specs.declared.cycles.FollowedSide.{FollowedSide}
 use Rattle.cad_files.specs.declared.rows.PlanString.{PlanString}
+use Rattle.cad_files.specs.declared.sides.PlanSide.{PlanSide}
 
 -- ---- Sides and the points that follow them
+
+-- a side with the point that follows it and the face to its left
+pub record FollowedSide : Type 0 where
+  pub from : ℕ
+  pub to : ℕ
+  pub after : ℕ
+  pub face : Face
 
 abbrev pub side_of : FollowedSide → Side
 side_of s = (s.from, s.to)
@@ -52,6 +59,18 @@ faced_as s = (s.side, s.face)
 pub record AreSidesOf (m : Map) (strings : List PlanString) (sides : List FollowedSide) : Type 0 where
   pub labels : map faced sides ≡ map faced_as (labelled_sides strings)
   pub followers : AllByRecursion (λ s. followers m (side_of s) ≡ s.after ∷ []) sides
+
+abbrev pub plan_side_of : PlanSide → Side
+plan_side_of s = (s.from, s.to)
+
+-- the side without its string, and without the place of the next one
+abbrev pub followed_side : PlanSide → FollowedSide
+followed_side s = record { from = s.from; to = s.to; after = s.after; face = s.face }
+
+-- of each of these the side after it stands among them, at the place that it tells
+abbrev pub AreLinked : List PlanSide → Type 0
+AreLinked sides =
+    AllByRecursion (λ s. slice_get (map plan_side_of sides) s.next ≡ Some (s.to, s.after)) sides
 
 -- ---- Rings
 

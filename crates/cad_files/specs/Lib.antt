@@ -12,5 +12,7 @@ pub mod Answers
 pub mod Sinks
 pub mod FaultTexts
 pub mod Cycles
+pub mod Pool
+pub mod Arrival
 pub mod Corners
 pub mod Reports

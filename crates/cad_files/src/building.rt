@@ -2,17 +2,17 @@
 ghost use Rattle.std.specs.Prelude.{◌≡◌, ◌≢◌, [], ◌||◌, IfOk, IfErr, OnOk, Some, None, option_map, map};
 ghost use Rattle.cad_map.specs.Map.{empty_map, has_parcel, is_retired};
 ghost use Rattle.cad_files.specs.Building.{source_taken, point_taken, parcel_taken, string_taken, retired_taken, taken, map_of, first_fault};
-ghost use Rattle.cad_files.specs.Cycles.{AreSidesOf};
+ghost use Rattle.cad_files.specs.Cycles.{AreSidesOf, AreLinked, followed_side};
 ghost use Rattle.cad_files.specs.declared.faults.PlanFault.TheVariants as faults;
 
 use crate::corners::follow_sides;
-use crate::cycles::FollowedSide;
 use crate::dangling::first_dangling;
 use crate::faults::PlanFault;
-use crate::labels::{first_other_label, without_strings};
+use crate::labels::first_other_label;
 use crate::naming::missing_row;
 use crate::rows::{PlanRows, PlanString};
-use cad_map::{MapView, PlainMap};
+use crate::sides::PlanSide;
+use cad_map::{MapView, PlainMap, Stars};
 use cad_rows::{Name, ParcelNo, ParcelRow, PointRow, SourceRow};
 use std::alloc::Global;
 
@@ -140,22 +140,24 @@ pub(crate) fn find_sides(
     alloc: Global,
     plain: &PlainMap,
     rows: &PlanRows,
-) -> Result<Vec<FollowedSide>, PlanFault>
+) -> Result<Vec<PlanSide>, PlanFault>
     requires map { plain.now ≡ map_of rows.now }
     requires free { taken rows.now ≡ None }
     ensures faultless { OnOk result (first_fault rows.now ≡ None) }
-    ensures sides { IfOk result (λ sides. AreSidesOf plain.now rows.now.strings sides.items) }
+    ensures sides { IfOk result (λ sides. AreSidesOf plain.now rows.now.strings (map followed_side sides.items)) }
+    ensures linked { IfOk result (λ sides. AreLinked sides.items) }
     ensures err { IfErr result (λ fault. fault ≢ faults.Memory → first_fault rows.now ≡ Some fault) }
 {
     if let Some(name) = missing_row(plain, rows) {
         return Err(PlanFault::Unknown(name));
     }
-    if let Some(string) = first_dangling(plain, rows.strings.as_slice()) {
+    let stars = Stars::of(alloc, plain)?;
+    if let Some(string) = first_dangling(&stars, rows.strings.as_slice()) {
         return Err(PlanFault::Dangling(string));
     }
-    let sides = follow_sides(alloc, plain, rows.strings.as_slice())?;
+    let sides = follow_sides(alloc, plain, &stars, rows.strings.as_slice())?;
     if let Some(string) = first_other_label(sides.as_slice()) {
         return Err(PlanFault::Labels(string));
     }
-    Ok(without_strings(alloc, sides.as_slice())?)
+    Ok(sides)
 }

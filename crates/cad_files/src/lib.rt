@@ -10,6 +10,7 @@ mod dangling;
 mod edit_lines;
 mod faults;
 mod fields;
+mod followers;
 mod input;
 mod labels;
 mod line;
@@ -22,7 +23,10 @@ mod plan;
 mod plan_map;
 mod plan_records;
 mod plan_texts;
+mod repeats;
 mod rows;
+mod side_pool;
+mod sides;
 mod sink;
 mod writing;
 

@@ -7,6 +7,7 @@ use crate::fields::{point_no, source_no, string_no};
 use cad_rows::{Memory, Numbers, PointNo, SourceNo, StringNo};
 use std::alloc::Global;
 use std::marker::Model;
+use sweep::first_repeated;
 
 // The text before the first space, and the text after it, where there is one.
 fn first_part(text: &[u8]) -> (&[u8], Option<&[u8]>)
@@ -104,8 +105,11 @@ fn is_among(no: u32, list: &[SourceNo]) -> bool
     false
 }
 
-// Whether a number stands twice.
-fn has_repeated(list: &[SourceNo]) -> bool
+// The longest list whose numbers are compared two by two. A longer one is sorted.
+const FEW: usize = 16;
+
+// Whether a number stands twice: each is compared with those before it.
+fn is_repeated_among_few(list: &[SourceNo]) -> bool
     ensures { result ≡ is_some (repeated [] list.now) }
 {
     for i in 0..list.len() {
@@ -114,6 +118,28 @@ fn has_repeated(list: &[SourceNo]) -> bool
         }
     }
     false
+}
+
+// These numbers as keys to sort by.
+fn sort_keys(alloc: Global, list: &[SourceNo]) -> Result<Vec<u64>, Memory>
+    ensures { IfOk result (λ keys. keys.items ≡ list.now) }
+{
+    let mut keys = Vec::with_capacity(alloc, list.len())?;
+    for source in list {
+        keys.push(u64::from(source.get()))?;
+    }
+    Ok(keys)
+}
+
+// Whether a number stands twice. An error where memory runs out.
+fn has_repeated(alloc: Global, list: &[SourceNo]) -> Result<bool, Memory>
+    ensures { IfOk result (λ again. again ≡ is_some (repeated [] list.now)) }
+{
+    if list.len() <= FEW {
+        return Ok(is_repeated_among_few(list));
+    }
+    let keys = sort_keys(alloc, list)?;
+    Ok(first_repeated(alloc, keys.as_slice())?.is_some())
 }
 
 /// Sources of which none stands twice.
@@ -134,14 +160,14 @@ impl Model for DistinctSources {
 }
 
 impl DistinctSources {
-    // The same sources, or `None` where one stands twice.
-    fn new(list: Numbers<SourceNo>) -> Option<DistinctSources>
-        ensures { result ≡ (if is_some (repeated [] list) then None else Some list) }
+    // The same sources, or `None` where one stands twice. An error where memory runs out.
+    fn new(alloc: Global, list: Numbers<SourceNo>) -> Result<Option<DistinctSources>, Memory>
+        ensures { IfOk result (λ sources. sources ≡ (if is_some (repeated [] list) then None else Some list)) }
     {
-        if has_repeated(list.as_slice()) {
-            return None;
+        if has_repeated(alloc, list.as_slice())? {
+            return Ok(None);
         }
-        Some(DistinctSources { list })
+        Ok(Some(DistinctSources { list }))
     }
 
     // How many there are.
@@ -169,7 +195,7 @@ pub(crate) fn distinct_sources(
     ensures { IfOk result (λ sources. sources ≡ distinct_of text.now) }
 {
     match source_list(alloc, text)? {
-        Some(list) => Ok(DistinctSources::new(list)),
+        Some(list) => DistinctSources::new(alloc, list),
         None => Ok(None),
     }
 }

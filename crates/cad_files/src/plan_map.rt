@@ -9,14 +9,14 @@ use crate::cycles::rings_of;
 use crate::faults::PlanFault;
 use crate::rows::PlanRows;
 use cad_map::PlainMap;
-use cad_valid::first_broken;
+use cad_valid::first_broken_swept;
 use std::alloc::Global;
 
 /// Builds the map of a plan's rows: the rows in their order, and the rings that its strings make, found by followers as
 /// in de Berg et al., Computational Geometry, chapter 2.
 ///
-/// A fault is the first in the rows, or the first rule that their map breaks. Takes time by the number of strings,
-/// squared.
+/// A fault is the first in the rows, or the first rule that their map breaks. Up to that rule it takes n log n steps for n
+/// strings, and at a point of d strings d squared.
 pub fn build(alloc: Global, rows: &PlanRows) -> Result<PlainMap, PlanFault>
     ensures ok { IfOk result (IsBuilt rows.now) }
     ensures err { IfErr result (λ fault. fault ≢ faults.Memory → IsBuildFault rows.now fault) }
@@ -31,9 +31,9 @@ pub fn build(alloc: Global, rows: &PlanRows) -> Result<PlainMap, PlanFault>
         Ok(sides) => sides,
         Err(fault) => return Err(fault),
     };
-    let rings = rings_of(alloc, sides.as_slice())?;
+    let rings = rings_of(alloc, sides)?;
     plain.set_boundaries(rings);
-    if let Some(rule) = first_broken(&plain) {
+    if let Some(rule) = first_broken_swept(alloc, &plain)? {
         return Err(PlanFault::Breaks(rule));
     }
     Ok(plain)

@@ -37,13 +37,17 @@ pub fn read_args<'a>(alloc: Global, words: &'a [&'a str]) -> Result<Args<'a>, Er
     Err(command.error(ErrorKind::ValueValidation, "a depth from 1 to 1000")?)
 }
 
-/// The status with which the program ends after these arguments: 0 for help, 5 where memory ran out, else 64.
+/// The status with which the program ends where its arguments aren't as they should be.
+pub const ARGUMENTS_STATUS: u8 = 64;
+
+/// The status with which the program ends after these arguments: 0 for help, 5 where memory ran out, else
+/// [`ARGUMENTS_STATUS`].
 pub fn args_status(error: &Error) -> u8
     ensures { result ≡ status_of_kind (kind_of error.now) }
 {
     match error.kind() {
         ErrorKind::DisplayHelp => 0,
         ErrorKind::OutOfMemory => 5,
-        _ => 64,
+        _ => ARGUMENTS_STATUS,
     }
 }

@@ -7,7 +7,7 @@ mod job;
 mod path;
 mod program;
 
-pub use args::{Args, args_status, read_args};
+pub use args::{ARGUMENTS_STATUS, Args, args_status, read_args};
 pub use faults::{JobFault, status};
 pub use job::run_job;
 pub use path::run_path;

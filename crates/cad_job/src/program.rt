@@ -1,6 +1,7 @@
 //! What the program does with the words of its command line, and what it tells of it.
-ghost use Rattle.std.specs.Prelude.{◌≡◌, IfOk};
-ghost use Rattle.cad_job.specs.Told.{status_of};
+ghost use Rattle.std.specs.Prelude.{◌≡◌};
+ghost use Rattle.clap.specs.Values.{kind_of};
+ghost use Rattle.cad_job.specs.Told.{status_of, status_of_kind};
 
 use crate::args::{Args, args_status, read_args};
 use crate::faults::{JobFault, status};
@@ -15,10 +16,7 @@ use std::io::{self, BufWriter};
 /// Reads the words of the command line, the program's name first, and does the job that they name: that in a file, or
 /// on standard input. Its answers go to standard output, and a fault is told on standard error. Gives the status with
 /// which the program ends.
-pub fn run_words<R: Files + Input + Print + Eprint + AllocGlobal>(
-    rt: &R,
-    words: &[&str],
-) -> io::Result<u8>
+pub fn run_words<R: Files + Input + Print + Eprint + AllocGlobal>(rt: &R, words: &[&str]) -> u8
 where
     R::File: Drop,
 {
@@ -29,15 +27,12 @@ where
 }
 
 /// Does the job that the arguments name.
-fn run_args<R: Files + Input + Print + Eprint + AllocGlobal>(
-    rt: &R,
-    args: &Args<'_>,
-) -> io::Result<u8>
+fn run_args<R: Files + Input + Print + Eprint + AllocGlobal>(rt: &R, args: &Args<'_>) -> u8
 where
     R::File: Drop,
 {
     match job_of(rt, args) {
-        Ok(()) => Ok(0),
+        Ok(()) => 0,
         Err(fault) => tell(rt, &fault),
     }
 }
@@ -58,19 +53,21 @@ where
     }
 }
 
-/// Tells why the arguments weren't read. Gives the status.
-fn tell_refused<R: Print + Eprint + AllocGlobal>(rt: &R, error: &Error) -> io::Result<u8> {
+/// Tells why the arguments weren't read. Gives the status, also where the text can't be written.
+fn tell_refused<R: Print + Eprint + AllocGlobal>(rt: &R, error: &Error) -> u8
+    ensures { result ≡ status_of_kind (kind_of error.now) }
+{
     if error.kind() == ErrorKind::OutOfMemory {
         return tell(rt, &JobFault::Memory);
     }
-    error.print(rt)?;
-    Ok(args_status(error))
+    let _ = error.print(rt);
+    args_status(error)
 }
 
-/// Tells a fault on standard error. Gives the status with which the program ends.
-pub fn tell<R: Eprint>(rt: &R, fault: &JobFault) -> io::Result<u8>
-    ensures { IfOk result (λ told. told ≡ status_of fault.now) }
+/// Tells a fault on standard error. Gives the status with which the program ends, also where the line can't be written.
+pub fn tell<R: Eprint>(rt: &R, fault: &JobFault) -> u8
+    ensures { result ≡ status_of fault.now }
 {
-    eprintln!(rt; "{fault}")?;
-    Ok(status(fault))
+    let _ = eprintln!(rt; "{fault}");
+    status(fault)
 }

@@ -47,12 +47,18 @@ chosen m face at w c is =
     record { there = kept.0; stands = eqb-true c.at at both.0; has = both.1 }
 
 -- in a valid map no string at a corner's point lies in the corner's sector
-pub none-in_sector : (m : Map) → IsValid m → (face : Face) (c : Corner) → Contains (face_corners m face) c → (t : StringRow) → Contains m.strings t → is_end t c.at ≡ true → has_in_sector m c (far_end t c.at) ≡ true → ⊥
+pub none-in_corner : (m : Map) → IsValid m → (c : Corner) → Contains (all_corners m) c → (t : StringRow) → Contains m.strings t → is_end t c.at ≡ true
+    → has_in_sector m c (far_end t c.at) ≡ true → ⊥
+none-in_corner m valid c there t here end inside =
+    let empty = list_all-at (is_empty_corner m) (all_corners m) c valid.keeps.v6 there in
+    let test : StringRow → Bool = λ s. not (in_sector (position_of m c.at) (position_of m c.after) (position_of m c.before) (position_of m (far_end s c.at))) in
+    let out = list_all-at test (strings_at m c.at) t empty (Contains-filter (λ s. is_end s c.at) m.strings t here end) in
+    true≢false (sym out ∙ ap not inside)
+
+pub none-in_sector : (m : Map) → IsValid m → (face : Face) (c : Corner) → Contains (face_corners m face) c → (t : StringRow) → Contains m.strings t → is_end t c.at ≡ true
+    → has_in_sector m c (far_end t c.at) ≡ true → ⊥
 none-in_sector m valid face c there t here end inside =
     let part = Contains-in_part corners_of (rings_of m face) c there in
     let b = face-ring m face part.0 part.1 in
     let in_ring : Contains (corners_of b.0.ring) c = subst (λ (r : Ring). Contains (corners_of r) c) (sym b.3) part.2 in
-    let empty = list_all-at (is_empty_corner m) (all_corners m) c valid.keeps.v6 (Contains-flat_map (λ b. corners_of b.ring) m.boundaries b.0 c b.1 in_ring) in
-    let test : StringRow → Bool = λ s. not (in_sector (position_of m c.at) (position_of m c.after) (position_of m c.before) (position_of m (far_end s c.at))) in
-    let out = list_all-at test (strings_at m c.at) t empty (Contains-filter (λ s. is_end s c.at) m.strings t here end) in
-    true≢false (sym out ∙ ap not inside)
+    none-in_corner m valid c (Contains-flat_map (λ b. corners_of b.ring) m.boundaries b.0 c b.1 in_ring) t here end inside

@@ -100,10 +100,10 @@ module _ (m : Map) (valid : IsValid m) (face : Face) (chain strings : List ℕ) 
   none-opposite : HasNoOpposites (sides_of_chain chain)
   none-opposite = subst HasNoOpposites (sym sides-chain) (no_opposites-along a inner z each-differs)
 
-  at_first : IsChosen m face a (next_of chain) can.first
+  pub at_first : IsChosen m face a (next_of chain) can.first
   at_first = chosen m face a (next_of chain) can.first can.at_first
 
-  at_last : IsChosen m face z (last_but_one chain) can.last
+  pub at_last : IsChosen m face z (last_but_one chain) can.last
   at_last = chosen m face z (last_but_one chain) can.last can.at_last
 
   -- where the chain is one side, no string joins its ends: it would lie in the sector of the first corner
@@ -119,7 +119,7 @@ module _ (m : Map) (valid : IsValid m) (face : Face) (chain strings : List ℕ) 
   free-inner p h = All-at_each (λ p. is_free m p ≡ true) inner p can.inner_free h
 
   -- no ring has a side of the chain, in either direction
-  new-side : (s : Side) → Contains (sides_of_chain chain) s → Contains (all_sides m) s → ⊥
+  pub new-side : (s : Side) → Contains (sides_of_chain chain) s → Contains (all_sides m) s → ⊥
   new-side s h old = elim (inner-along a inner z s (subst (λ (l : List Side). Contains l s) sides-chain h)) [
     | inl only ↦
         let k = joined-in m valid s old in
@@ -130,7 +130,7 @@ module _ (m : Map) (valid : IsValid m) (face : Face) (chain strings : List ℕ) 
     ]
   ]
 
-  new-side_back : (s : Side) → Contains (sides_of_chain chain) s → Contains (all_sides m) (opposite s) → ⊥
+  pub new-side_back : (s : Side) → Contains (sides_of_chain chain) s → Contains (all_sides m) (opposite s) → ⊥
   new-side_back s h old = elim (inner-along a inner z s (subst (λ (l : List Side). Contains l s) sides-chain h)) [
     | inl only ↦
         let k = joined-in m valid (opposite s) old in
@@ -177,17 +177,17 @@ module _ (m : Map) (valid : IsValid m) (face : Face) (chain strings : List ℕ) 
     at_j = (place-of (leaving can.last) b.ring cut.has_last).at ∙ at_last.stands
 
     -- the corners stand at two places
-    two : AreTwoPlaces i j b.ring
+    pub two : AreTwoPlaces i j b.ring
     two = record {
       first = (place-of (leaving can.first) b.ring cut.has_first).within;
       second = (place-of (leaving can.last) b.ring cut.has_last).within;
       apart = λ same. ends-differ (sym at_i ∙ ap (slice_index b.ring) same ∙ at_j);
     }
 
-    across : chain_across i j inner b.ring ≡ chain
+    pub across : chain_across i j inner b.ring ≡ chain
     across = (λ k. at_i k ∷ inner ++ at_j k ∷ []) ∙ sym parts
 
-    only : IsOnlyIn (leaving can.first) m.boundaries b
+    pub only : IsOnlyIn (leaving can.first) m.boundaries b
     only = only-in (leaving can.first) m.boundaries b cut.there (has_side-Contains (leaving can.first) (sides_of b.ring) cut.has_first) (once-from_pairs (all_sides m) (sides-once m valid) (leaving can.first))
 
     beside-cut : (s : Side) → Contains (sides_of b.ring) s → IsBeside face s m.boundaries
@@ -229,7 +229,7 @@ module _ (m : Map) (valid : IsValid m) (face : Face) (chain strings : List ℕ) 
     abbrev rows : List StringRow
     rows = strings_along (source ∷ []) strings chain
 
-    divide-is : divide m face chain strings parcel label source ≡ with_boundaries (divided_in b.ring) (with_new_parcel rows parcel label source m)
+    pub divide-is : divide m face chain strings parcel label source ≡ with_boundaries (divided_in b.ring) (with_new_parcel rows parcel label source m)
     divide-is =
         ap (λ (bs : List Boundary). with_boundaries bs (with_new_parcel rows parcel label source m))
         ((λ k. divide_at m face chain parcel (can.at_first k) (can.at_last k)) ∙ ap divided_in only.ring)

@@ -198,7 +198,7 @@ module _ (m : Map) (valid : IsValid m) (p : ℕ) (s t : StringRow) (at : IsPermu
       | inr e ↦ inr (λ i. corner (e.0 i) (k.point i) (e.1 i))
     ]
 
-  in_ring-of : (c : Corner) → Contains (filter (λ c. c.at == p) (corners_in m.boundaries)) c → (r : Boundary) × IsThere r c
+  pub in_ring-of : (c : Corner) → Contains (filter (λ c. c.at == p) (corners_in m.boundaries)) c → (r : Boundary) × IsThere r c
   in_ring-of c h =
       let kept = filter-Contains (λ c. c.at == p) (corners_in m.boundaries) c h in
       let part = Contains-in_part (λ b. corners_of b.ring) m.boundaries c kept.0 in
@@ -225,7 +225,7 @@ module _ (m : Map) (valid : IsValid m) (p : ℕ) (s t : StringRow) (at : IsPermu
         | inr f ↦ let one : ℕ = 1 in let y : amount (x, p) (b, p) ≡ one = ap (λ (q : ℕ). amount (x, p) (q, p)) (sym f) ∙ itself (x, p) in omega (arith, e, a1, a2, a3, y)
       ]))
 
-  the-corners : IsPermutation (filter (λ c. c.at == p) (corners_in m.boundaries)) (corner a p b ∷ corner b p a ∷ [])
+  pub the-corners : IsPermutation (filter (λ c. c.at == p) (corners_in m.boundaries)) (corner a p b ∷ corner b p a ∷ [])
   the-corners =
       permuted-two side_before (filter (λ c. c.at == p) (corners_in m.boundaries)) (corner a p b) (corner b p a) first second (λ e. differ (ap (λ (c : Corner). c.before) e))
       (λ c h. let k = in_ring-of c h in is-one k.0 c k.1)

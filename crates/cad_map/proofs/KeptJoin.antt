@@ -143,7 +143,7 @@ module _ (m : Map) (valid : IsValid m) (p : ℕ) (s t : StringRow) (at : IsPermu
     in-all : (f : Face) (u : Side) → IsBeside f u m.boundaries → Contains (all_sides m) u
     in-all f u k = Contains-flat_map (λ b. sides_of b.ring) m.boundaries k.boundary u k.there k.has
 
-    apart-join : AreApart rings
+    pub apart-join : AreApart rings
     apart-join = record { apart = λ u f g here there. by u f g (came f u here) (came g (opposite u) there) }
       where
         before : AreApart m.boundaries
@@ -185,7 +185,7 @@ module _ (m : Map) (valid : IsValid m) (p : ℕ) (s t : StringRow) (at : IsPermu
             length_more [] = omega arith
             length_more (x ∷ points) = omega arith
 
-    three-join : AllByRecursion (λ b. 3 ≤ length b.ring) rings
+    pub three-join : AllByRecursion (λ b. 3 ≤ length b.ring) rings
     three-join = All-map (λ b. 3 ≤ length b.ring) (dropped p) m.boundaries (All-from_each (λ r. 3 ≤ length (without p r.ring)) m.boundaries one)
       where
         one : (r : Boundary) → Contains m.boundaries r → 3 ≤ length (without p r.ring)

@@ -54,13 +54,13 @@ All-put_on P s p ring new all = each (sides_of ring) (starts_of ring all)
 -- ---- The sides of the rings
 
 -- a ring with the point on both sides of the string
-abbrev split_ring : Side → ℕ → Ring → Ring
+abbrev pub split_ring : Side → ℕ → Ring → Ring
 split_ring s p ring = put_on (opposite s) p (put_on s p ring)
 
 sides-split_ring : (s : Side) (p : ℕ) (ring : Ring) → sides_of (split_ring s p ring) ≡ flat_map (halves_by (opposite s) p) (flat_map (halves_by s p) (sides_of ring))
 sides-split_ring s p ring = sides_of-put_on (opposite s) p (put_on s p ring) ∙ ap (λ (l : List Side). flat_map (halves_by (opposite s) p) l) (sides_of-put_on s p ring)
 
-abbrev split_boundary : Side → ℕ → Boundary → Boundary
+abbrev pub split_boundary : Side → ℕ → Boundary → Boundary
 split_boundary s p b = bounding b.face (split_ring s p b.ring)
 
 sides-split : (s : Side) (p : ℕ) (bs : List Boundary) → sides_in (map (split_boundary s p) bs) ≡ flat_map (halves_by (opposite s) p) (flat_map (halves_by s p) (sides_in bs))
@@ -139,22 +139,22 @@ module _ (m : Map) (valid : IsValid m) (s : StringRow) (there : Contains m.strin
   -- ---- Where a side of the new rings comes from
 
   -- the side leads along the string, one way or the other
-  abbrev IsAlong : ℕ → ℕ → Type 0
+  abbrev pub IsAlong : ℕ → ℕ → Type 0
   IsAlong a b = ((a ≡ s.from) × (b ≡ s.to)) ⊎ ((a ≡ s.to) × (b ≡ s.from))
 
-  data Came (f : Face) (u : Side) : Type 0 where
+  pub data Came (f : Face) (u : Side) : Type 0 where
     whole : IsBeside f u m.boundaries → Came f u
     first_half : (a b : ℕ) → IsAlong a b → IsBeside f (a, b) m.boundaries → u ≡ (a, p) → Came f u
     second_half : (a b : ℕ) → IsAlong a b → IsBeside f (a, b) m.boundaries → u ≡ (p, b) → Came f u
 
-  along-known : (a b : ℕ) → IsAlong a b → (a ≢ p) × (b ≢ p)
+  pub along-known : (a b : ℕ) → IsAlong a b → (a ≢ p) × (b ≢ p)
   along-known a b along = elim along [
     | inl e ↦ ((λ h. not-new s.from ends-there.0 (sym e.0 ∙ h)), (λ h. not-new s.to ends-there.1 (sym e.1 ∙ h)))
     | inr e ↦ ((λ h. not-new s.to ends-there.1 (sym e.0 ∙ h)), (λ h. not-new s.from ends-there.0 (sym e.1 ∙ h)))
   ]
 
   -- an old side doesn't touch the new point
-  old-known : (f : Face) (u : Side) → IsBeside f u m.boundaries → (u.0 ≢ p) × (u.1 ≢ p)
+  pub old-known : (f : Face) (u : Side) → IsBeside f u m.boundaries → (u.0 ≢ p) × (u.1 ≢ p)
   old-known f u k =
       let string = of_string m valid u (Contains-flat_map (λ b. sides_of b.ring) m.boundaries k.boundary u k.there k.has) in
       let t = string.string in
@@ -191,7 +191,7 @@ module _ (m : Map) (valid : IsValid m) (s : StringRow) (there : Contains m.strin
   came-from f t v u k (second_of is e) (first_of is' e') = absurd (not-new s.to ends-there.1 (ap (λ (w : Side). w.0) (is' ∙ e)))
   came-from f t v u k (second_of is e) (second_of is' e') = absurd (not-new s.to ends-there.1 (ap (λ (w : Side). w.0) (is' ∙ e)))
 
-  came : (f : Face) (u : Side) → IsBeside f u (map (split_boundary forth p) m.boundaries) → Came f u
+  pub came : (f : Face) (u : Side) → IsBeside f u (map (split_boundary forth p) m.boundaries) → Came f u
   came f u k =
       let from = map-Contains (split_boundary forth p) m.boundaries k.boundary k.there in
       let b = from.0 in
@@ -212,7 +212,7 @@ module _ (m : Map) (valid : IsValid m) (s : StringRow) (there : Contains m.strin
   along-before : (a b c : ℕ) → IsAlong a b → IsAlong c a → c ≡ b
   along-before a b c one other = sym (along-back c a b other one)
 
-  apart-split : AreApart (map (split_boundary forth p) m.boundaries)
+  pub apart-split : AreApart (map (split_boundary forth p) m.boundaries)
   apart-split = record { apart = λ u f g here there. by u f g (came f u here) (came g (opposite u) there) }
     where
       old : AreApart m.boundaries

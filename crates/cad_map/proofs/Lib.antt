@@ -25,6 +25,7 @@ mod WorkedRows
 pub mod SharedEnds
 pub mod Meetings
 pub mod Parallel
+mod FaceRuns
 pub mod ElementFacts
 pub mod FacesBeside
 pub mod Faced
@@ -53,12 +54,20 @@ pub mod RingsFrom
 pub mod TrailSteps
 pub mod TrailsOfRings
 pub mod SeamsOfRings
+pub mod SameDirection
+pub mod StringEnds
+pub mod WholeSides
 pub mod NextSides
+pub mod TwoWays
+pub mod SharedTrails
 pub mod SeamsOfMap
-pub mod TrailLoops
+pub mod OneSeam
 mod WorkedParcels
 pub mod AllFaces
 pub mod RowsInTurn
 pub mod AllowedParcels
 pub mod Kept
 mod WorkedCosts
+pub mod Runs
+pub mod StarFacts
+pub mod PairsByPlace

@@ -50,7 +50,7 @@ boundaries-distinct (b ∷ bs) three once =
 -- ---- Sides both ways
 
 -- a side of these both ways, or its opposite, is one of these
-of_both_ways : (sides : List Side) (s : Side) → Contains (both_ways sides) s → Contains sides s ⊎ Contains sides (opposite s)
+pub of_both_ways : (sides : List Side) (s : Side) → Contains (both_ways sides) s → Contains sides s ⊎ Contains sides (opposite s)
 of_both_ways sides s h =
     let part = Contains-in_part (λ (t : Side). t ∷ opposite t ∷ []) sides s h in
     let t = part.0 in
@@ -59,7 +59,7 @@ of_both_ways sides s h =
       | inr later ↦ elim (Contains-cases (opposite t) [] s later) [ inl same ↦ inr (subst (Contains sides) (ap opposite same) part.1) | inr none ↦ let low = none.1 in absurd (omega arith) ]
     ]
 
-in_both_ways : (sides : List Side) (s : Side) → Contains sides s → Contains (both_ways sides) s × Contains (both_ways sides) (opposite s)
+pub in_both_ways : (sides : List Side) (s : Side) → Contains sides s → Contains (both_ways sides) s × Contains (both_ways sides) (opposite s)
 in_both_ways sides s h = (
   Contains-flat_map (λ (t : Side). t ∷ opposite t ∷ []) sides s s h (Contains-first s (opposite s ∷ [])),
   Contains-flat_map (λ (t : Side). t ∷ opposite t ∷ []) sides s (opposite s) h (Contains-later s (opposite s ∷ []) (opposite s) (Contains-first (opposite s) [])),
@@ -162,7 +162,7 @@ module _ (m : Map) (kept ended : Face) (valid : IsValid m) (two : kept ≢ ended
         ∙ (λ i. flat_map-map (λ (b : Boundary). sides_of b.ring) (bounding kept) it.more i ++ sides_in-handed kept ended (stays m kept ended it.k it.e) i)
 
     -- all sides, as they were: those of the chain both ways, and those of the new rings
-    sides-parted : IsPermutation (all_sides m) (both_ways it.chain ++ sides_in new)
+    pub sides-parted : IsPermutation (all_sides m) (both_ways it.chain ++ sides_in new)
     sides-parted =
         let K = sides_of it.k in
         let E = sides_of it.e in
@@ -178,7 +178,7 @@ module _ (m : Map) (kept ended : Face) (valid : IsValid m) (two : kept ≢ ended
     parted-once : EachPair (λ a b. a ≢ b) (both_ways it.chain) × EachPair (λ a b. a ≢ b) (sides_in new) × AllByRecursion (λ x. AllByRecursion (λ y. x ≢ y) (sides_in new)) (both_ways it.chain)
     parted-once = EachPair-append (λ (a b : Side). a ≢ b) (both_ways it.chain) (sides_in new) (pairs-IsPermutation is_side is_side-is (all_sides m) (both_ways it.chain ++ sides_in new) sides-parted (sides-once m valid))
 
-    gone : (s : Side) → Contains (both_ways it.chain) s → Contains (sides_in new) s → ⊥
+    pub gone : (s : Side) → Contains (both_ways it.chain) s → Contains (sides_in new) s → ⊥
     gone s one other = All-at_each (λ y. s ≢ y) (sides_in new) s (All-at_each (λ x. AllByRecursion (λ y. x ≢ y) (sides_in new)) (both_ways it.chain) s parted-once.2 one) other refl
 
     common-shared : (s : Side) → Contains (sides_of it.k) s → Contains (sides_of it.e) (opposite s) → Contains shared s
@@ -187,7 +187,7 @@ module _ (m : Map) (kept ended : Face) (valid : IsValid m) (two : kept ≢ ended
         (Contains-has_side (opposite s) (face_sides m ended) (of_face m ended it.e (opposite s) it.e_there other))
 
     -- the shared sides are those of the chain
-    shared-chain : IsPermutation it.chain shared
+    pub shared-chain : IsPermutation it.chain shared
     shared-chain =
         let apart = pairs-IsPermutation is_side is_side-is (both_ways it.chain) (it.chain ++ map opposite it.chain) (both_ways-apart it.chain) parted-once.0 in
         let once = EachPair-append (λ (a b : Side). a ≢ b) it.chain (map opposite it.chain) apart in
@@ -275,7 +275,7 @@ module _ (m : Map) (kept ended : Face) (valid : IsValid m) (two : kept ≢ ended
         ]
 
     -- the face that a side had before
-    was-beside : (f : Face) (s : Side) → IsBeside f s new → (old : Face) × IsBeside old s m.boundaries × (f ≡ face_over kept ended old)
+    pub was-beside : (f : Face) (s : Side) → IsBeside f s new → (old : Face) × IsBeside old s m.boundaries × (f ≡ face_over kept ended old)
     was-beside f s at = elim (come-from at.boundary at.there) [
       | inl more ↦
           let has = subst (λ (c : Boundary). Contains (sides_of c.ring) s) more.2 at.has in

@@ -21,7 +21,8 @@ use Rattle.cad_map.specs.Chain.{are_distinct}
 use Rattle.cad_map.specs.Merger.{Seam, shared_sides, is_along, is_around, places, seams, seams_of_rings, boundaries_by, boundaries_merged}
 use Rattle.cad_map.specs.Merger.Seam.{along, around}
 use Rattle.cad_map.proofs.Elements.{Contains-in_part, Contains-cases, Contains-first, Contains-map}
-use Rattle.cad_map.proofs.ElementFacts.{filter-Contains, map-Contains}
+use Rattle.cad_map.proofs.ElementFacts.{Contains-filter, filter-Contains, map-Contains}
+use Rattle.cad_map.proofs.Looks.{is_face-refl}
 use Rattle.cad_map.proofs.FacesBeside.{is_face-same}
 
 -- ---- What a seam is
@@ -60,7 +61,7 @@ module _ (i j n : ℕ) (k e : Ring) (common : HaveChainInCommon i j n k e) where
   chain-is : chain_of ≡ sides_along it.c it.mid it.d
   chain-is = ap sides_of_chain it.chain ∙ sides_of_chain-is it.c it.mid it.d
 
-  length-chain : length chain_of ≡ n
+  pub length-chain : length chain_of ≡ n
   length-chain = ap length chain-is ∙ length-sides_along it.c it.mid it.d ∙ it.long
 
   -- the sides of the first ring, and of the second, from the chain on
@@ -76,12 +77,12 @@ module _ (i j n : ℕ) (k e : Ring) (common : HaveChainInCommon i j n k e) where
   to_second : (s : Side) → Contains (sides_of (turned j e)) s → Contains (sides_of e) s
   to_second s there = Contains-permutation (sides_of (turned j e)) (sides_of e) s (IsPermutation-sym (sides_of e) (sides_of (turned j e)) (sides_of-same e (turned j e) (IsSameRing-turned j e))) there
 
-  chain-first : (s : Side) → Contains chain_of s → Contains (sides_of k) s
+  pub chain-first : (s : Side) → Contains chain_of s → Contains (sides_of k) s
   chain-first s there =
       let C = sides_along it.c it.mid it.d in
       to_first s (subst (λ (l : List Side). Contains l s) (sym sides_of-first) (Contains-append_left C (sides_along it.d it.r it.c) s (subst (λ (l : List Side). Contains l s) chain-is there)))
 
-  chain-second : (s : Side) → Contains chain_of s → Contains (sides_of e) (opposite s)
+  pub chain-second : (s : Side) → Contains chain_of s → Contains (sides_of e) (opposite s)
   chain-second s there =
       let C = sides_along it.c it.mid it.d in
       let back = map opposite C in
@@ -89,7 +90,7 @@ module _ (i j n : ℕ) (k e : Ring) (common : HaveChainInCommon i j n k e) where
       to_second (opposite s) (subst (λ (l : List Side). Contains l (opposite s)) (sym sides_of-second) (Contains-append_left (reverse back) (sides_along it.c it.s it.d) (opposite s) has))
 
   -- the ring round both has three points, or it goes there and back along a side that both have
-  joined-long : (3 ≤ length (joined i j n k e)) ⊎ HasCommon (joined i j n k e) k e
+  pub joined-long : (3 ≤ length (joined i j n k e)) ⊎ HasCommon (joined i j n k e) k e
   joined-long = by it.r it.s refl refl
     where
       by : (r s : List ℕ) → it.r ≡ r → it.s ≡ s → (3 ≤ length (joined i j n k e)) ⊎ HasCommon (joined i j n k e) k e
@@ -149,7 +150,7 @@ common-along n i j k e is =
 
 -- ---- Rings that are each other's reverse
 
-around-sides : (k e : Ring) → IsPermutation (map opposite (sides_of k)) (sides_of e) → IsPermutation (sides_of k ++ sides_of e) (both_ways (sides_of k) ++ [])
+pub around-sides : (k e : Ring) → IsPermutation (map opposite (sides_of k)) (sides_of e) → IsPermutation (sides_of k ++ sides_of e) (both_ways (sides_of k) ++ [])
 around-sides k e back =
     permuted_as (sides_of k ++ sides_of e) (sides_of k ++ sides_of e) (both_ways (sides_of k) ++ []) (both_ways (sides_of k)) refl (append-nil (both_ways (sides_of k)))
     (IsPermutation-trans (sides_of k ++ sides_of e) (sides_of k ++ map opposite (sides_of k)) (both_ways (sides_of k))
@@ -176,6 +177,10 @@ among-ring f bs ring h =
     let there = filter-Contains (λ (b : Boundary). is_face f b.face) bs one.0 one.1 in
     subst (Contains bs) (λ i. bounding (sym (is_face-same f one.0.face there.1) i) (one.2 i)) there.0
 
+pub ring-among : (f : Face) (bs : List Boundary) (ring : Ring) → Contains bs (bounding f ring) → Contains (rings_at f bs) ring
+ring-among f bs ring there =
+    Contains-map (λ (b : Boundary). b.ring) (filter (λ b. is_face f b.face) bs) (bounding f ring) (Contains-filter (λ (b : Boundary). is_face f b.face) bs (bounding f ring) there (is_face-refl f))
+
 pub ring-there : (m : Map) (f : Face) (ring : Ring) → Contains (rings_of m f) ring → Contains m.boundaries (bounding f ring)
 ring-there m f ring h = among-ring f m.boundaries ring h
 
@@ -184,7 +189,7 @@ module _ (m : Map) (kept ended : Face) where
   n = length (shared_sides m kept ended)
 
   module _ (k e : Ring) (k_there : Contains m.boundaries (bounding kept k)) (e_there : Contains m.boundaries (bounding ended e)) where
-    along-found : (i j : ℕ) → is_along n (turned i k) (turned j e) ≡ true → IsSeam m kept ended (along n k i e j)
+    unfoldable pub along-found : (i j : ℕ) → is_along n (turned i k) (turned j e) ≡ true → IsSeam m kept ended (along n k i e j)
     along-found i j is =
         let common = common-along n i j k e is in
         record {
@@ -205,7 +210,7 @@ module _ (m : Map) (kept ended : Face) where
           merged = refl;
         }
 
-    around-found : is_around n k e ≡ true → IsSeam m kept ended (around k e)
+    unfoldable pub around-found : is_around n k e ≡ true → IsSeam m kept ended (around k e)
     around-found is =
         let back = around-back n k e is in
         let parts = and_parts (n == length k) _ is in

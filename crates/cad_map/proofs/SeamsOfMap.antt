@@ -1,5 +1,6 @@
--- Two faces of a valid map have a seam exactly where the ended one comes back along a ring of the kept one.
-use Rattle.std.proofs.Common.{◌≡◌, ℕ, zero, suc, ◌+◌, ◌-◌, ◌<◌, inl, inr, refl, sym, ap, subst, ◌∙◌, List, [], ◌∷◌, length, map, filter, Bool, true, false, true≢false, not, arith}
+-- Two faces of a valid map have a seam exactly where the ended one comes back along a ring of the kept one, from a side on
+-- that it isn't beyond.
+use Rattle.std.proofs.Common.{◌≡◌, ◌≢◌, ℕ, zero, suc, ◌+◌, ◌-◌, ◌<◌, le_refl, inl, inr, refl, sym, ap, subst, ◌∙◌, List, [], ◌∷◌, length, map, Bool, true, false, true≢false, not, arith}
 use Rattle.std.proofs.lemmas.Bool.{and_parts, and_from, or_cases, or_left, or_right, eqb-true}
 use Rattle.std.proofs.lemmas.Bool.Decides.{nat_tests}
 use Rattle.std.proofs.lemmas.Cmp.{nat_eq_equiv}
@@ -12,22 +13,25 @@ use Rattle.cad_rings.specs.Cycle.{Ring, Side, opposite, sides_of, turned, IsSame
 use Rattle.cad_rings.specs.Shown.{least_rotation}
 use Rattle.cad_rings.proofs.CallerLemmas.{IsSameRing-sym, IsSameRing-length, IsSameRing-least_rotation}
 use Rattle.cad_map.specs.declared.boundary.Boundary.{Boundary}
-use Rattle.cad_map.specs.Boundaries.{is_face, bounding, shown, listed}
+use Rattle.cad_map.specs.Boundaries.{bounding, shown, listed}
 use Rattle.cad_map.specs.Map.{Map, rings_at, rings_of, all_sides}
 use Rattle.cad_map.specs.Chain.{are_distinct}
 use Rattle.cad_map.specs.Valid.{IsValid}
 use Rattle.cad_map.specs.Walk.{first_side}
 use Rattle.cad_map.specs.Merger.{Seam, shared_sides, is_along, is_around, places, seams, seams_of_rings}
 use Rattle.cad_map.specs.Merger.Seam.{along, around}
-use Rattle.cad_map.specs.Trails.{next_side, trail, turns_back, runs_back, is_beyond, begins_chain, runs_round, has_seam_along}
+use Rattle.cad_map.specs.declared.seam.SharedChain.{SharedChain}
+use Rattle.cad_map.specs.declared.seam.SharedChain.TheVariants.{Along, Around}
+use Rattle.cad_map.specs.SharedChains.{IsSharedChain}
+use Rattle.cad_map.specs.Trails.{next_side, steps, runs_back, is_beyond, chain_along, begins_chain, is_before_chain, runs_round, has_chain_along, IsFoundAlong}
 use Rattle.cad_map.proofs.Elements.{Contains-first, Contains-later, Contains-flat_map, Contains-in_part, Contains-map, list_any-Contains}
-use Rattle.cad_map.proofs.ElementFacts.{Contains-filter, map-Contains}
-use Rattle.cad_map.proofs.Looks.{is_face-refl}
+use Rattle.cad_map.proofs.ElementFacts.{map-Contains}
 use Rattle.cad_map.proofs.Listed.{IsPermutation-listed}
-use Rattle.cad_map.proofs.Seams.{one_if, among-ring, ring-there}
-use Rattle.cad_map.proofs.TrailSteps.{steps}
-use Rattle.cad_map.proofs.TrailsOfRings.{IsWalked, side-same, has_first}
-use Rattle.cad_map.proofs.NextSides.{ring-walked, next-in_all, comes_from, opposite-in_all, beyond-ring, beyond-from}
+use Rattle.cad_map.proofs.Seams.{one_if, among-ring, ring-among, ring-there}
+use Rattle.cad_map.proofs.TrailSteps.{trail, distinct-open}
+use Rattle.cad_map.proofs.TrailsOfRings.{IsWalked, side-same, has_first, next-there, side-leading}
+use Rattle.cad_map.proofs.SharedTrails.{two_faces, back, points-differ, before-unshared}
+use Rattle.cad_map.proofs.NextSides.{ring-walked, beyond-ring, beyond-from}
 use Rattle.cad_map.proofs.SeamsOfRings as two_rings
 
 -- an element that passes the test
@@ -54,9 +58,6 @@ place-there : (i : ℕ) (xs : List ℕ) → i < length xs → Contains (places 0
 place-there i xs within = let e : 0 + i ≡ i = omega arith in subst (Contains (places 0 xs)) e (places-Contains 0 i xs within)
 
 -- ---- The rings of a face, as they are kept and as they are listed
-
-ring-among : (f : Face) (bs : List Boundary) (ring : Ring) → Contains bs (bounding f ring) → Contains (rings_at f bs) ring
-ring-among f bs ring there = Contains-map (λ (b : Boundary). b.ring) (filter (λ b. is_face f b.face) bs) (bounding f ring) (Contains-filter (λ (b : Boundary). is_face f b.face) bs (bounding f ring) there (is_face-refl f))
 
 module _ (m : Map) (f : Face) (bs : List Boundary) (is : listed bs ≡ m.boundaries) where
   pub as_listed : (ring : Ring) → Contains (rings_at f bs) ring → Contains (rings_of m f) (least_rotation ring)
@@ -110,24 +111,14 @@ module _ (m : Map) (valid : IsValid m) (kept ended : Face) where
       (Contains-flat_map (λ i. flat_map (along_of k e i) (places 0 e)) (places 0 k) i seam (place-there i k in_k)
       (Contains-flat_map (along_of k e i) (places 0 e) j seam (place-there j e in_e) (if_one (is_along n (turned i k) (turned j e)) seam is)))
 
-  -- Where the opposites follow one another backwards, all are of one ring.
-  back-there : (e : Ring) → Contains (rings_of m ended) e → (r : ℕ) (s : Side) → Contains (all_sides m) s → Contains (sides_of e) (opposite s) → runs_back next s r ≡ true → Contains (sides_of e) (opposite (steps next r s))
-  back-there e there zero s known has runs = has
-  back-there e there (suc r) s known has runs =
-      let parts = and_parts (turns_back next s) (runs_back next (next s) r) runs in
-      let on = next-in_all m valid s known in
-      let turned_round : next (opposite (next s)) ≡ opposite s = λ i. (s.1, eqb-true (next (opposite (next s))).1 s.0 parts.0 i) in
-      let has_next = comes_from m valid (bounding ended e) (ring-there m ended e there) (opposite (next s)) (opposite-in_all m valid (next s) on) (subst (Contains (sides_of e)) (sym turned_round) has) in
-      back-there e there r (next s) on has_next parts.1
-
   -- ---- One ring of the kept face
 
   module _ (k r : Ring) (k_there : Contains (rings_of m kept) k) (same : IsSameRing k r) where
     side-in : (s : Side) → Contains (sides_of r) s → Contains (sides_of k) s
     side-in s there = side-same r k s (IsSameRing-sym k r same) there
 
-    round-found : runs_round m ended n r ≡ true → (seam : Seam) × Contains (seams m kept ended) seam
-    round-found runs =
+    round-found : runs_round m ended n r ≡ true → (side : Side) → Contains (sides_of r) side → IsSharedChain m kept ended (Around side)
+    round-found runs side side_there =
         let long = IsSameRing-length k r same in
         let first = has_first r (let two = (walked kept k k_there).two in omega (arith, two, long)) in
         let s = first.0 in
@@ -138,13 +129,18 @@ module _ (m : Map) (valid : IsValid m) (kept ended : Face) where
         let e = beyond-ring m valid ended s passes.0 in
         let e_there = ring-among ended m.boundaries e.0 e.1 in
         let found = two_rings.around-found next joins k e.0 (walked kept k k_there) (walked ended e.0 e_there) s (side-in s first.2) e.2 (subst (λ (l : ℕ). runs_back next s l ≡ true) (sym all) passes.1) in
-        (around k e.0, seam-of_rings k e.0 (around k e.0) k_there e_there (around-among k e.0 (subst (λ (l : ℕ). is_around l k e.0 ≡ true) all found)))
+        record {
+          seam = around k e.0;
+          there = seam-of_rings k e.0 (around k e.0) k_there e_there (around-among k e.0 (subst (λ (l : ℕ). is_around l k e.0 ≡ true) all found));
+          is = side-in side side_there;
+        }
 
-    chain-found : list_any (begins_chain m ended n) (sides_of r) ≡ true → (seam : Seam) × Contains (seams m kept ended) seam
-    chain-found some =
-        let found = list_any-found (begins_chain m ended n) (sides_of r) some in
-        let s = found.0 in
-        let c = and_parts (nat_lt 0 n && is_beyond m ended s && runs_back next s (n - 1)) (are_distinct (trail next s n)) found.2 in
+    chain-found : (p : Side) → Contains (sides_of r) p → is_before_chain m ended n p ≡ true → IsSharedChain m kept ended (chain_along next (next p) n)
+    chain-found p p_there before =
+        let s = next p in
+        let last = steps next (n - 1) s in
+        let whole = and_parts (not (is_beyond m ended p)) (begins_chain m ended n s) before in
+        let c = and_parts (nat_lt 0 n && is_beyond m ended s && runs_back next s (n - 1)) (not (s.0 == last.1)) whole.1 in
         let b = and_parts (nat_lt 0 n && is_beyond m ended s) (runs_back next s (n - 1)) c.0 in
         let a = and_parts (nat_lt 0 n) (is_beyond m ended s) b.0 in
         let positive = a.0 in
@@ -152,17 +148,27 @@ module _ (m : Map) (valid : IsValid m) (kept ended : Face) where
         let pred : suc (n - 1) ≡ n = omega (arith, some_sides) in
         let e = beyond-ring m valid ended s a.1 in
         let e_there = ring-among ended m.boundaries e.0 e.1 in
-        let s_there = side-in s found.1 in
-        let back = back-there e.0 e_there (n - 1) s (side-there kept k s k_there s_there) e.2 b.1 in
-        let at = two_rings.along-found next joins k e.0 (walked kept k k_there) (walked ended e.0 e_there) (n - 1) s s_there back b.1 (subst (λ (l : ℕ). are_distinct (trail next s l) ≡ true) (sym pred) c.1) in
+        let k_in = ring-there m kept k k_there in
+        let p_in = side-in p p_there in
+        let s_in = next-there next joins k p (walked kept k k_there) p_in in
+        let off : ¬ Contains (sides_of e.0) (opposite p) = λ h. true≢false (sym whole.0 ∙ ap not (beyond-from m valid ended p e.0 e_there h)) in
+        let apart : s.0 ≢ last.1 = λ is. true≢false (sym c.1 ∙ ap not (ap (λ (q : ℕ). s.0 == q) (sym is) ∙ nat_eq_equiv.refl s.0)) in
+        let distinct = points-differ m valid kept ended k e.0 k_in e.1 s s_in e.2 (n - 1) b.1 p p_in off apart in
+        let ended_back = back m valid kept ended k e.0 k_in e.1 s s_in e.2 (n - 1) b.1 p p_in off (n - 1) (le_refl (n - 1)) in
+        let at = two_rings.along-found next joins k e.0 (walked kept k k_there) (walked ended e.0 e_there) (n - 1) s s_in ended_back b.1 distinct in
         let is = subst (λ (l : ℕ). is_along l (turned at.0 k) (turned at.1 e.0) ≡ true) pred at.4 in
         let seam = along n k at.0 e.0 at.1 in
-        (seam, seam-of_rings k e.0 seam k_there e_there (along-among k e.0 at.0 at.1 at.2 at.3 is))
+        record {
+          seam = seam;
+          there = seam-of_rings k e.0 seam k_there e_there (along-among k e.0 at.0 at.1 at.2 at.3 is);
+          is = record { as_many = refl; begins = at.5; ends = at.6 };
+        }
 
-    pub ring-found : has_seam_along m ended n r ≡ true → (seam : Seam) × Contains (seams m kept ended) seam
-    ring-found some = elim (or_cases (runs_round m ended n r) (list_any (begins_chain m ended n) (sides_of r)) some) [ inl round ↦ round-found round | inr chain ↦ chain-found chain ]
+    pub ring-found : (chain : SharedChain) → IsFoundAlong m ended n r chain → IsSharedChain m kept ended chain
+    ring-found (Along first last sides) found = subst (IsSharedChain m kept ended) (sym found.3) (chain-found found.0 found.1 found.2)
+    ring-found (Around side) found = round-found found.0 side found.1
 
-    around-told : (e : Ring) → Contains (rings_of m ended) e → is_around n k e ≡ true → has_seam_along m ended n r ≡ true
+    around-told : (e : Ring) → Contains (rings_of m ended) e → is_around n k e ≡ true → has_chain_along m ended n r ≡ true
     around-told e e_there is =
         let kw = walked kept k k_there in
         let ew = walked ended e e_there in
@@ -174,23 +180,33 @@ module _ (m : Map) (valid : IsValid m) (kept ended : Face) where
         let all : length r ≡ n = long ∙ sym (two_rings.around-long next joins k e kw ew n is) in
         let beyond = beyond-from m valid ended s e e_there (two_rings.around-beyond next joins k e kw ew n is s s_there) in
         let runs = two_rings.around-back_along next joins k e kw ew n is n s s_there in
-        or_left (runs_round m ended n r) (list_any (begins_chain m ended n) (sides_of r))
+        or_left (runs_round m ended n r) (list_any (is_before_chain m ended n) (sides_of r))
         (and_from (length r == n) (test (first_side r)) (ap (λ (l : ℕ). l == n) all ∙ nat_eq_equiv.refl n)
         (ap test first.1 ∙ and_from (is_beyond m ended s) (runs_back next s n) beyond runs))
 
-    along-told : (e : Ring) (i j : ℕ) → Contains (rings_of m ended) e → is_along n (turned i k) (turned j e) ≡ true → has_seam_along m ended n r ≡ true
+    along-told : (e : Ring) (i j : ℕ) → Contains (rings_of m ended) e → is_along n (turned i k) (turned j e) ≡ true → has_chain_along m ended n r ≡ true
     along-told e i j e_there is =
-        let back = two_rings.along-back next joins k e (walked kept k k_there) (walked ended e e_there) n i j is in
-        let s = back.0 in
-        let some = back.1 in
+        let kw = walked kept k k_there in
+        let k_in = ring-there m kept k k_there in
+        let e_in = ring-there m ended e e_there in
+        let chain = two_rings.along-back next joins k e kw (walked ended e e_there) n i j is in
+        let s = chain.0 in
+        let some = chain.1 in
+        let last = steps next (n - 1) s in
         let positive : nat_lt 0 n ≡ true = grind (arith, nat_tests, some) in
-        let beyond = beyond-from m valid ended s e e_there back.3 in
-        let begins : begins_chain m ended n s ≡ true =
-        and_from (nat_lt 0 n && is_beyond m ended s && runs_back next s (n - 1)) (are_distinct (trail next s n))
-        (and_from (nat_lt 0 n && is_beyond m ended s) (runs_back next s (n - 1)) (and_from (nat_lt 0 n) (is_beyond m ended s) positive beyond) back.4) back.5 in
-        or_right (runs_round m ended n r) (list_any (begins_chain m ended n) (sides_of r)) (list_any-Contains (begins_chain m ended n) (sides_of r) s (side-same k r s same back.2) begins)
+        let beyond = beyond-from m valid ended s e e_there chain.3 in
+        let before = side-leading next joins k s kw chain.2 in
+        let p = before.0 in
+        let unshared = before-unshared m valid kept ended k e k_in e_in i j is s p chain.6 (two_faces m valid kept ended k e k_in e_in s chain.2 chain.3) before.1 before.2 chain.5 in
+        let leads_on = distinct-open next joins (n - 1) s (let pred : suc (n - 1) ≡ n = omega (arith, some) in subst (λ (l : ℕ). are_distinct (trail next s l) ≡ true) (sym pred) chain.5) in
+        let begins : begins_chain m ended n (next p) ≡ true = ap (begins_chain m ended n) before.2 ∙
+        and_from (nat_lt 0 n && is_beyond m ended s && runs_back next s (n - 1)) (not (s.0 == last.1))
+        (and_from (nat_lt 0 n && is_beyond m ended s) (runs_back next s (n - 1)) (and_from (nat_lt 0 n) (is_beyond m ended s) positive beyond) chain.4) (ap not leads_on) in
+        or_right (runs_round m ended n r) (list_any (is_before_chain m ended n) (sides_of r))
+        (list_any-Contains (is_before_chain m ended n) (sides_of r) p (side-same k r p same before.1)
+        (and_from (not (is_beyond m ended p)) (begins_chain m ended n (next p)) (ap not unshared) begins))
 
-    pub ring-told : (e : Ring) (seam : Seam) → Contains (rings_of m ended) e → Contains (seams_of_rings n k e) seam → has_seam_along m ended n r ≡ true
+    pub ring-told : (e : Ring) (seam : Seam) → Contains (rings_of m ended) e → Contains (seams_of_rings n k e) seam → has_chain_along m ended n r ≡ true
     ring-told e seam e_there h = elim (Contains-append_cases (if is_around n k e then around k e ∷ [] else []) (flat_map (λ i. flat_map (along_of k e i) (places 0 e)) (places 0 k)) seam h) [
       | inl here ↦ around-told e e_there (one_if (is_around n k e) (around k e) seam here).0
       | inr there ↦
@@ -202,25 +218,22 @@ module _ (m : Map) (valid : IsValid m) (kept ended : Face) where
   -- ---- All rings of the kept face, as something keeps them
 
   module _ (bs : List Boundary) (is : listed bs ≡ m.boundaries) where
-    some-seam : list_any (has_seam_along m ended n) (rings_at kept bs) ≡ true → (seam : Seam) × Contains (seams m kept ended) seam
-    some-seam some =
-        let found = list_any-found (has_seam_along m ended n) (rings_at kept bs) some in
-        let r = found.0 in
-        ring-found (least_rotation r) r (as_listed m kept bs is r found.1) (IsSameRing-sym r (least_rotation r) (IsSameRing-least_rotation r)) found.2
+    -- What is found along one of them is a shared chain.
+    pub chain-shared : (ring : Ring) → Contains (rings_at kept bs) ring → (chain : SharedChain) → IsFoundAlong m ended n ring chain → IsSharedChain m kept ended chain
+    chain-shared ring there chain found =
+        ring-found (least_rotation ring) ring (as_listed m kept bs is ring there) (IsSameRing-sym ring (least_rotation ring) (IsSameRing-least_rotation ring)) chain found
 
-    seam-some : (seam : Seam) → Contains (seams m kept ended) seam → list_any (has_seam_along m ended n) (rings_at kept bs) ≡ true
-    seam-some seam h =
-        let k = Contains-in_part (λ k. flat_map (λ e. seams_of_rings n k e) (rings_of m ended)) (rings_of m kept) seam h in
-        let e = Contains-in_part (λ e. seams_of_rings n k.0 e) (rings_of m ended) seam k.2 in
-        let r = as_kept m kept bs is k.0 k.1 in
-        list_any-Contains (has_seam_along m ended n) (rings_at kept bs) r.0 r.1 (ring-told k.0 r.0 k.1 r.2 e.0 seam e.1 e.2)
-
-    -- There is a seam exactly where the ended face comes back along one of them.
-    pub seam-told : list_any (has_seam_along m ended n) (rings_at kept bs) ≡ not (length (seams m kept ended) == 0)
-    seam-told = by (list_any (has_seam_along m ended n) (rings_at kept bs)) (seams m kept ended) refl refl
+    -- And where nothing is found along any there is no seam.
+    pub seam-none : list_any (has_chain_along m ended n) (rings_at kept bs) ≡ false → seams m kept ended ≡ []
+    seam-none none = by (seams m kept ended) refl
       where
-        by : (b : Bool) (found : List Seam) → list_any (has_seam_along m ended n) (rings_at kept bs) ≡ b → seams m kept ended ≡ found → b ≡ not (length found == 0)
-        by true [] is none = let one = some-seam is in let low = (subst (λ (l : List Seam). Contains l one.0) none one.1).1 in absurd (omega arith)
-        by true (seam ∷ found) is some = let e : (suc (length found) == 0) ≡ false = grind (arith, nat_tests) in sym (ap not e)
-        by false [] is none = refl
-        by false (seam ∷ found) is some = absurd (true≢false (sym (seam-some seam (subst (λ (l : List Seam). Contains l seam) (sym some) (Contains-first seam found))) ∙ is))
+        some : (seam : Seam) → Contains (seams m kept ended) seam → ⊥
+        some seam h =
+            let k = Contains-in_part (λ k. flat_map (λ e. seams_of_rings n k e) (rings_of m ended)) (rings_of m kept) seam h in
+            let e = Contains-in_part (λ e. seams_of_rings n k.0 e) (rings_of m ended) seam k.2 in
+            let r = as_kept m kept bs is k.0 k.1 in
+            true≢false (sym (list_any-Contains (has_chain_along m ended n) (rings_at kept bs) r.0 r.1 (ring-told k.0 r.0 k.1 r.2 e.0 seam e.1 e.2)) ∙ none)
+
+        by : (found : List Seam) → seams m kept ended ≡ found → found ≡ []
+        by [] same = refl
+        by (seam ∷ found) same = absurd (some seam (subst (λ (l : List Seam). Contains l seam) (sym same) (Contains-first seam found)))

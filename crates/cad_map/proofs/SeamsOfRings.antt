@@ -16,14 +16,14 @@ use Rattle.cad_map.specs.Chain.{are_distinct}
 use Rattle.cad_map.specs.Valid.{EachPair}
 use Rattle.cad_map.specs.Walk.{first_side}
 use Rattle.cad_map.specs.Merger.{is_along, is_around}
-use Rattle.cad_map.specs.Trails.{trail, turns_back, runs_back}
+use Rattle.cad_map.specs.Trails.{steps, turns_back, runs_back}
 use Rattle.cad_map.proofs.Elements.{Contains-map, All-at_each}
 use Rattle.cad_map.proofs.ElementFacts.{list_any-none}
 use Rattle.cad_map.proofs.ChainFacts.{pairs-from_distinct}
 use Rattle.cad_map.proofs.Parallel.{pairs-IsPermutation}
 use Rattle.cad_map.proofs.Seams.{BeginAlong, along-passed, around-back}
 use Rattle.cad_map.proofs.Walks.{side_behind}
-use Rattle.cad_map.proofs.TrailSteps.{steps, steps-add, runs_back-later, steps-back, trail-back, runs_back-from}
+use Rattle.cad_map.proofs.TrailSteps.{trail, steps-add, runs_back-later, steps-back, trail-back, runs_back-from}
 use Rattle.cad_map.proofs.TrailsOfRings.{IsWalked, walked-same, side-same, side-place, has_first, trail-round, trail-ring, steps-round, round-least, distinct-short, corner-after, next-there, steps-there}
 
 -- ---- Numbers none of which stands twice, in the other order
@@ -70,6 +70,7 @@ module _ (next : Side → Side) (joins : (s : Side) → (next s).0 ≡ s.1) (k e
   -- Where the ended ring comes back along a chain of suc n sides, whose points differ, the rings begin along it.
   pub along-found : (n : ℕ) (s : Side) → Contains (sides_of k) s → Contains (sides_of e) (opposite (steps next n s)) → runs_back next s n ≡ true → are_distinct (trail next s (suc n)) ≡ true
       → (i : ℕ) × (j : ℕ) × (i < length k) × (j < length e) × (is_along (suc n) (turned i k) (turned j e) ≡ true)
+      × (first_side (turned i k) ≡ Some s) × (first_side (turned j e) ≡ Some (opposite (steps next n s)))
   along-found n s there back runs distinct =
       let t = opposite (steps next n s) in
       let at = side-place k s there in
@@ -95,11 +96,14 @@ module _ (next : Side → Side) (joins : (s : Side) → (next s).0 ≡ s.1) (k e
           more_in_kept = k_more;
           more_in_ended = e_more;
         }),
+        at.2,
+        from.2,
       )
 
   -- Where they begin along a chain, it begins with a side of the kept ring, and the ended ring comes back along it.
   pub along-back : (n i j : ℕ) → is_along n (turned i k) (turned j e) ≡ true
       → (s : Side) × (0 < n) × Contains (sides_of k) s × Contains (sides_of e) (opposite s) × (runs_back next s (n - 1) ≡ true) × (are_distinct (trail next s n) ≡ true)
+      × (first_side (turned i k) ≡ Some s)
   along-back n i j is =
       let K = turned i k in
       let E = turned j e in
@@ -117,7 +121,7 @@ module _ (next : Side → Side) (joins : (s : Side) → (next s).0 ≡ s.1) (k e
       let s_there = side-same K k s.0 (IsSameRing-sym k K (IsSameRing-turned i k)) s.2 in
       let t_there = side-same E e t.0 (IsSameRing-sym e E (IsSameRing-turned j e)) t.2 in
       let back = subst (Contains (sides_of e)) runs.1 (steps-there next joins e (n - 1) t.0 e_walked t_there) in
-      (s.0, some, s_there, back, runs.0, ap are_distinct k_is ∙ it.distinct)
+      (s.0, some, s_there, back, runs.0, ap are_distinct k_is ∙ it.distinct, s.1)
 
   -- ---- Round the whole ring
 

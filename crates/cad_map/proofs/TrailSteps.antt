@@ -1,14 +1,16 @@
 -- Steps from side to side, and the same steps back.
-use Rattle.std.proofs.Common.{◌≡◌, ◌≢◌, ℕ, zero, suc, ◌+◌, ◌≤◌, refl, sym, ap, ◌∙◌, List, [], ◌∷◌, ◌++◌, reverse, true, true≢false, arith}
+use Rattle.std.proofs.Common.{◌≡◌, ◌≢◌, ℕ, zero, suc, ◌+◌, ◌<◌, ◌≤◌, le_refl, inl, inr, refl, sym, ap, ◌∙◌, List, [], ◌∷◌, ◌++◌, reverse, Bool, true, false, true≢false, arith}
 use Rattle.std.proofs.lemmas.Bool.{and_parts, and_from, eqb-true}
 use Rattle.std.proofs.lemmas.Cmp.{nat_eq_equiv}
 use Rattle.std.proofs.lemmas.List.{reverse-append, reverse-reverse}
 use Rattle.std.specs.Prelude.{◌==◌, not}
 use Rattle.std.specs.List.{Contains, list_any}
 use Rattle.cad_rings.specs.Cycle.{Side, opposite}
+use Rattle.cad_rings.specs.Surgery.{sides_of_chain}
 use Rattle.cad_map.specs.Chain.{are_distinct}
-use Rattle.cad_map.specs.Trails.{trail, turns_back, runs_back}
-use Rattle.cad_map.proofs.Elements.{Contains-first, Contains-later, list_any-Contains}
+use Rattle.cad_map.specs.Trails.{steps, turns_back, runs_back}
+use Rattle.cad_map.proofs.Elements.{Contains-cases, Contains-first, Contains-later, list_any-Contains}
+use Rattle.cad_map.proofs.ElementFacts.{list_any-none}
 
 -- two lists with one more element each
 pub push-same : {X : Type 0} (xs ys : List X) (x y : X) → xs ++ x ∷ [] ≡ ys ++ y ∷ [] → (xs ≡ ys) × (x ≡ y)
@@ -20,10 +22,10 @@ push-same xs ys x y same =
 pub reverse-more : {X : Type 0} (x : X) (xs : List X) → reverse (x ∷ xs) ≡ reverse xs ++ x ∷ []
 reverse-more x xs = reverse-append (x ∷ []) xs
 
--- so many steps on
-abbrev pub steps : (Side → Side) → ℕ → Side → Side
-steps next zero s = s
-steps next (suc n) s = steps next n (next s)
+-- the first points of the side and of so many sides after it
+abbrev pub trail : (Side → Side) → Side → ℕ → List ℕ
+trail next s zero = s.0 ∷ []
+trail next s (suc n) = s.0 ∷ trail next (next s) n
 
 module _ (next : Side → Side) where
   pub step-last : (n : ℕ) (s : Side) → steps next n (next s) ≡ next (steps next n s)
@@ -45,6 +47,39 @@ module _ (next : Side → Side) where
   trail-Contains (suc i) zero s within = absurd (omega arith)
   trail-Contains (suc i) (suc n) s within = Contains-later s.0 (trail next (next s) n) (steps next i (next s)).0 (trail-Contains i n (next s) (omega arith))
 
+  -- a point of a trail is the first of one of its sides, or the last
+  pub trail-place : (n : ℕ) (s : Side) (y : ℕ) → Contains (trail next s n) y → (q : ℕ) × (q ≤ n) × (y ≡ (steps next q s).0)
+  trail-place zero s y h = elim (Contains-cases s.0 [] y h) [ inl is ↦ (0, omega arith, sym is) | inr none ↦ let low = none.1 in absurd (omega arith) ]
+  trail-place (suc n) s y h = elim (Contains-cases s.0 (trail next (next s) n) y h) [
+    | inl is ↦ (0, omega arith, sym is)
+    | inr later ↦ let at = trail-place n (next s) y later in let within = at.1 in (suc at.0, omega arith, at.2)
+  ]
+
+  -- the sides along its points are those that the steps lead to
+  pub trail-side : ((s : Side) → (next s).0 ≡ s.1) → (n : ℕ) (s t : Side) → Contains (sides_of_chain (trail next s n)) t → (q : ℕ) × (q < n) × (t ≡ steps next q s)
+  trail-side joins zero s t h = let low = h.1 in absurd (omega arith)
+  trail-side joins (suc zero) s t h = elim (Contains-cases (s.0, (next s).0) [] t h) [
+    | inl is ↦ (0, omega arith, sym is ∙ (λ i. (s.0, joins s i)))
+    | inr none ↦ let low = none.1 in absurd (omega arith)
+  ]
+  trail-side joins (suc (suc n)) s t h = elim (Contains-cases (s.0, (next s).0) (sides_of_chain (trail next (next s) (suc n))) t h) [
+    | inl is ↦ (0, omega arith, sym is ∙ (λ i. (s.0, joins s i)))
+    | inr later ↦ let at = trail-side joins (suc n) (next s) t later in let within = at.1 in (suc at.0, omega arith, at.2)
+  ]
+
+  -- where no two of them are one, its points differ
+  pub trail-distinct : (n : ℕ) (s : Side) → ((i j : ℕ) → i < j → j ≤ n → (steps next i s).0 ≢ (steps next j s).0) → are_distinct (trail next s n) ≡ true
+  trail-distinct zero s apart = refl
+  trail-distinct (suc n) s apart =
+      rw (list_any-none (λ p. s.0 == p) (trail next (next s) n) other) (trail-distinct n (next s) (λ i j less within. apart (suc i) (suc j) (omega arith) (omega arith)))
+    where
+      other : (y : ℕ) → Contains (trail next (next s) n) y → (s.0 == y) ≡ false
+      other y there = by (s.0 == y) refl
+        where
+          by : (b : Bool) → (s.0 == y) ≡ b → b ≡ false
+          by true is = let at = trail-place n (next s) y there in let within = at.1 in absurd (apart 0 (suc at.0) (omega arith) (omega arith) (eqb-true s.0 y is ∙ at.2))
+          by false is = refl
+
   -- a trail whose points differ isn't back at its first side
   pub distinct-away : (i n : ℕ) (s : Side) → are_distinct (trail next s n) ≡ true → suc i ≤ n → steps next (suc i) s ≢ s
   distinct-away i zero s distinct within same = absurd (omega arith)
@@ -54,6 +89,30 @@ module _ (next : Side → Side) where
       let equal : (s.0 == point) ≡ true = ap (λ (t : Side). s.0 == t.0) same ∙ nat_eq_equiv.refl s.0 in
       let some = list_any-Contains (λ p. s.0 == p) others point (trail-Contains i n (next s) (omega arith)) equal in
       true≢false (sym (and_parts (not (list_any (λ p. s.0 == p) others)) (are_distinct others) distinct).0 ∙ ap not some)
+
+  -- and leads to another point than it begins with
+  pub distinct-open : ((s : Side) → (next s).0 ≡ s.1) → (n : ℕ) (s : Side) → are_distinct (trail next s (suc n)) ≡ true → (s.0 == (steps next n s).1) ≡ false
+  distinct-open joins n s distinct = by (s.0 == (steps next n s).1) refl
+    where
+      others : List ℕ
+      others = trail next (next s) n
+
+      last : (steps next n (next s)).0 ≡ (steps next n s).1
+      last = ap (λ (t : Side). t.0) (step-last n s) ∙ joins (steps next n s)
+
+      by : (b : Bool) → (s.0 == (steps next n s).1) ≡ b → b ≡ false
+      by true is =
+          let some = list_any-Contains (λ p. s.0 == p) others (steps next n (next s)).0 (trail-Contains n n (next s) (le_refl n)) (ap (λ (p : ℕ). s.0 == p) last ∙ is) in
+          absurd (true≢false (sym (and_parts (not (list_any (λ p. s.0 == p) others)) (are_distinct others) distinct).0 ∙ ap not some))
+      by false none = refl
+
+  pub runs_back-first : (m n : ℕ) (s : Side) → runs_back next s (m + n) ≡ true → runs_back next s m ≡ true
+  runs_back-first zero n s runs = refl
+  runs_back-first (suc m) n s runs =
+      let more : suc (m + n) ≡ suc m + n = omega arith in
+      let e : runs_back next s (suc (m + n)) ≡ true = ap (λ (k : ℕ). runs_back next s k) more ∙ runs in
+      let parts = and_parts (turns_back next s) (runs_back next (next s) (m + n)) e in
+      and_from (turns_back next s) (runs_back next (next s) m) parts.0 (runs_back-first m n (next s) parts.1)
 
   pub runs_back-later : (m n : ℕ) (s : Side) → runs_back next s (m + n) ≡ true → runs_back next (steps next m s) n ≡ true
   runs_back-later zero n s runs = let e : n ≡ 0 + n = omega arith in ap (λ (k : ℕ). runs_back next s k) e ∙ runs

@@ -8,15 +8,15 @@ use Rattle.std.proofs.lemmas.Option.{slice_get-get_or}
 use Rattle.std.specs.Prelude.{count_by}
 use Rattle.std.specs.List.{Contains}
 use Rattle.cad_rings.specs.Cycle.{Ring, Side, is_side, sides_along, sides_of, Corner, corners_along, corners_of, turned, IsSameRing}
-use Rattle.cad_rings.proofs.CallerLemmas.{IsSameRing-length, corners_of-same, sides_of-same, sides_of-turned, length-sides_of}
+use Rattle.cad_rings.proofs.CallerLemmas.{IsSameRing-length, IsSameRing-turned, length-turned, corners_of-same, sides_of-same, sides_of-turned, length-sides_of}
 use Rattle.cad_map.specs.Chain.{are_distinct}
 use Rattle.cad_map.specs.Walk.{first_side}
-use Rattle.cad_map.specs.Trails.{trail}
+use Rattle.cad_map.specs.Trails.{steps}
 use Rattle.cad_map.proofs.Elements.{Contains-cases, Contains-first, Contains-later, Contains-at, count-yes, count-some, Contains-map}
 use Rattle.cad_map.proofs.ElementFacts.{map-Contains}
 use Rattle.cad_map.proofs.Lists.{drop-at}
 use Rattle.cad_map.proofs.Walks.{side_before, side_behind, is_side-refl, sides-before, sides-behind}
-use Rattle.cad_map.proofs.TrailSteps.{steps, distinct-away}
+use Rattle.cad_map.proofs.TrailSteps.{trail, step-last, distinct-away}
 
 -- The ring has two points or more, no side stands twice in it, and each is followed by the next.
 pub record IsWalked (next : Side → Side) (r : Ring) : Type 0 where
@@ -37,7 +37,7 @@ walked-same next r s same walked = record {
 pub side-same : (r s : Ring) (t : Side) → IsSameRing r s → Contains (sides_of r) t → Contains (sides_of s) t
 side-same r s t same there = Contains-permutation (sides_of r) (sides_of s) t (sides_of-same r s same) there
 
-first-is : (ring : Ring) (s : Side) (rest : List Side) → sides_of ring ≡ s ∷ rest → first_side ring ≡ Some s
+pub first-is : (ring : Ring) (s : Side) (rest : List Side) → sides_of ring ≡ s ∷ rest → first_side ring ≡ Some s
 first-is [] s rest is = cc
 first-is (a ∷ []) s rest is = let e : (a, a) ≡ s = cc in ap Some e
 first-is (a ∷ b ∷ points) s rest is = let e : (a, b) ≡ s = cc in ap Some e
@@ -122,6 +122,14 @@ module _ (next : Side → Side) (joins : (s : Side) → (next s).0 ≡ s.1) wher
       let e : (a, b) ≡ s = cc in
       subst (λ (t : Side). steps next (suc (suc (length points))) t ≡ t) e (steps-along a b points a b walked.follows)
 
+  -- its sides are those that the steps lead to
+  pub side-at : (r : Ring) (s : Side) → IsWalked next r → first_side r ≡ Some s → (q : ℕ) → q < length r → slice_get (sides_of r) q ≡ Some (steps next q s)
+  side-at [] s walked begins q within = absurd (omega arith)
+  side-at (a ∷ []) s walked begins q within = let two = walked.two in absurd (omega (arith, two))
+  side-at (a ∷ b ∷ points) s walked begins q within =
+      let e : (a, b) ≡ s = cc in
+      side-along a b points a (b ∷ []) walked.follows q (omega arith) ∙ ap (λ (t : Side). Some (steps next q t)) e
+
   -- fewer steps don't lead back to the first side
   pub round-least : (r : Ring) (s : Side) → IsWalked next r → first_side r ≡ Some s → (q : ℕ) → steps next (suc q) s ≡ s → length r ≤ suc q
   round-least [] s walked begins q back = omega arith
@@ -172,3 +180,16 @@ module _ (next : Side → Side) (joins : (s : Side) → (next s).0 ≡ s.1) wher
   pub steps-there : (r : Ring) (n : ℕ) (s : Side) → IsWalked next r → Contains (sides_of r) s → Contains (sides_of r) (steps next n s)
   steps-there r zero s walked there = there
   steps-there r (suc n) s walked there = steps-there r n (next s) walked (next-there r s walked there)
+
+  -- a side of the ring is the next of another
+  pub side-leading : (r : Ring) (s : Side) → IsWalked next r → Contains (sides_of r) s → (p : Side) × Contains (sides_of r) p × (next p ≡ s)
+  side-leading r s walked there = by (length r) refl
+    where
+      by : (l : ℕ) → length r ≡ l → (p : Side) × Contains (sides_of r) p × (next p ≡ s)
+      by zero none = let two = walked.two in absurd (omega (arith, two, none))
+      by (suc l) long =
+          let at = side-place r s there in
+          let R = turned at.0 r in
+          let round = steps-round R s (walked-same next r R (IsSameRing-turned at.0 r) walked) at.2 in
+          let same : length R ≡ suc l = length-turned at.0 r ∙ long in
+          (steps next l s, steps-there r l s walked there, sym (step-last next l s) ∙ ap (λ (n : ℕ). steps next n s) (sym same) ∙ round)

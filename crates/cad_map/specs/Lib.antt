@@ -18,5 +18,7 @@ pub mod Crossings
 pub mod Rings
 pub mod Outline
 pub mod Trails
+pub mod SharedChains
 pub mod Costs
 pub mod Touched
+pub mod Stars

@@ -47,7 +47,7 @@ seams_of_rings m kept ended =
     (if is_around m kept ended then around kept ended ∷ [] else [])
     ++ flat_map (λ i. flat_map (λ j. if is_along m (turned i kept) (turned j ended) then along m kept i ended j ∷ [] else []) (places 0 ended)) (places 0 kept)
 
--- the seams of two parcels: in a valid map there is at most one
+-- The seams of two parcels. In a valid map there is at most one: any two give the same boundaries, as the law `one_seam` says.
 abbrev pub seams : Map → Face → Face → List Seam
 seams m kept ended = flat_map (λ k. flat_map (λ e. seams_of_rings (length (shared_sides m kept ended)) k e) (rings_of m ended)) (rings_of m kept)
 

@@ -1,5 +1,6 @@
 //! The laws of maps. Each function does nothing, and its contract holds for all maps.
-ghost use Rattle.std.specs.Prelude.{◌≡◌, ℕ, List, map, IsPermutation};
+ghost use Rattle.std.specs.Prelude.{◌≡◌, ◌≢◌, ℕ, List, map, IsPermutation};
+ghost use Rattle.std.specs.List.{Contains};
 ghost use Rattle.geo_exact.specs.Measure.{Measure, IsOdd};
 ghost use Rattle.cad_rows.specs.declared.names.Face.{Face};
 ghost use Rattle.cad_rows.specs.declared.edits.Edit.{Edit};
@@ -13,6 +14,8 @@ ghost use Rattle.cad_map.specs.Sums.{IsBalanced, IsSharedOut, IsTakenIn};
 ghost use Rattle.cad_map.specs.Valid.{IsValid, FirstBroken};
 ghost use Rattle.cad_map.specs.Asked.{GivesInRange};
 ghost use Rattle.cad_map.specs.Outcome.{LeadsTo, IsRefused};
+ghost use Rattle.cad_map.specs.Merger.{Seam, seams, boundaries_by};
+ghost use Rattle.cad_map.specs.Changes.{merge_at};
 
 /// An edit leads to one map at most, is refused in one way at most, and never both; and a map breaks one rule first
 /// at most.
@@ -47,4 +50,15 @@ pub fn one_list()
     ensures any_order { (bs cs : List Boundary) → IsPermutation (map shown bs) (map shown cs) → listed bs ≡ listed cs }
     ensures sides { (bs : List Boundary) → IsPermutation (sides_in bs) (sides_in (listed bs)) }
     ensures corners { (bs : List Boundary) → IsPermutation (corners_in bs) (corners_in (listed bs)) }
+{}
+
+/// Two parcels of a valid map have one seam at most: any two give the same boundaries, and by whichever is found they
+/// are those of the merger.
+pub fn one_seam()
+    ensures same { (m : Map) (kept ended : Face) (x y : Seam) → IsValid m → kept ≢ ended
+        → Contains (seams m kept ended) x → Contains (seams m kept ended) y
+        → boundaries_by m kept ended x ≡ boundaries_by m kept ended y }
+    ensures merged { (m : Map) (kept ended : Face) (x : Seam) → IsValid m → kept ≢ ended
+        → Contains (seams m kept ended) x
+        → merge_at m kept ended (seams m kept ended) ≡ boundaries_by m kept ended x }
 {}

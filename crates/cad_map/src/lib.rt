@@ -9,8 +9,10 @@ mod listing;
 mod look;
 mod outlines;
 mod plain;
+mod retired;
 mod rings;
 mod seam;
+mod stars;
 mod store;
 mod sums;
 mod table;
@@ -18,13 +20,17 @@ mod walk;
 
 pub use boundary::Boundary;
 pub use corner::{Corner, are_in_one_ring, chosen_corner};
-pub use laws::{faces_balance, one_list, one_outcome, parcels_add_up};
+pub use laws::{faces_balance, one_list, one_outcome, one_seam, parcels_add_up};
 pub use look::{far_end, is_end, is_face};
 pub use outlines::outline;
 pub use plain::PlainMap;
 pub use rings::{position, ring_count, ring_sum};
-pub use seam::{has_seam, is_shared, shared_count};
+pub use seam::{SharedChain, find_shared_chain, has_seam, is_shared, shared_count};
+pub use stars::{Spoke, Stars};
 pub use store::{Counts, MapStore, MapView};
 pub use sums::sum_of;
 pub use table::{Numbered, Table};
 pub use walk::Walk;
+
+#[cfg(test)]
+mod tests;

@@ -1,19 +1,19 @@
 //! A map kept as rows in order of entry, and its rings in the order in which a map lists them.
-ghost use Rattle.std.specs.Prelude.{◌≡◌, ◌≤◌, ◌++◌, ◌∷◌, [], None, length, IsSome, IfOk, OnOk, OnErr};
+ghost use Rattle.std.specs.Prelude.{◌≡◌, ◌≤◌, ◌++◌, ◌∷◌, [], None, length, map, IsSome, IfOk, OnOk, OnErr};
 ghost use Rattle.std.specs.List.{AllByRecursion};
 ghost use Rattle.cad_map.specs.Boundaries.{listed};
-ghost use Rattle.cad_map.specs.Map.{empty_map, source_of, point_of, parcel_of, string_of};
+ghost use Rattle.cad_map.specs.Map.{empty_map, rings_at, source_of, point_of, parcel_of, string_of};
 ghost use Rattle.cad_map.specs.Table.{without_row, with_row};
 ghost use Rattle.cad_map.specs.Valid.{IsValid};
 
 use crate::boundary::Boundary;
 use crate::listing::in_order;
 use crate::look;
+use crate::retired::Retired;
 use crate::store::{Counts, MapView};
 use crate::table::{Numbered, Table};
 use cad_rows::{
-    Face, Memory, Numbers, ParcelNo, ParcelRow, PointNo, PointRow, SourceNo, SourceRow, StringNo,
-    StringRow,
+    Face, Memory, ParcelNo, ParcelRow, PointNo, PointRow, SourceNo, SourceRow, StringNo, StringRow,
 };
 use std::alloc::Global;
 use std::marker::Model;
@@ -73,7 +73,7 @@ pub struct PlainMap {
     points: Table<PointRow>,
     parcels: Table<ParcelRow>,
     strings: Table<StringRow>,
-    retired: Numbers<ParcelNo>,
+    retired: Retired,
     boundaries: Vec<Boundary>,
 }
 
@@ -108,7 +108,7 @@ impl PlainMap {
             points: Table::new(alloc),
             parcels: Table::new(alloc),
             strings: Table::new(alloc),
-            retired: Numbers::new(alloc),
+            retired: Retired::new(alloc),
             boundaries: Vec::new(alloc),
         }
     }
@@ -138,6 +138,14 @@ impl PlainMap {
         ensures { result.now ≡ self.now.boundaries }
     {
         self.boundaries.as_slice()
+    }
+
+    /// The rings of a face, in the order of `boundaries`. Takes no memory. They stand together there,
+    /// and are found by halving: in as many steps as the number of all rings has binary digits.
+    pub fn run_of(&self, face: Face) -> &[Boundary]
+        ensures { map (λ b. b.ring) result.now ≡ rings_at face self.now.boundaries }
+    {
+        look::run_of(self.boundaries.as_slice(), &face)
     }
 
     /// Puts a source last. Where memory runs out the map stays.
@@ -301,7 +309,7 @@ impl MapView for PlainMap {
     }
 
     fn is_retired(&self, no: ParcelNo) -> bool {
-        self.retired.as_slice().iter().any(|n| n.get() == no.get())
+        self.retired.contains(no)
     }
 
     fn degree(&self, no: PointNo) -> usize {

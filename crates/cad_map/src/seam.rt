@@ -1,12 +1,12 @@
-//! Whether what two faces have in common is one seam.
-ghost use Rattle.std.specs.Prelude.{◌≡◌, ◌<◌, not, ◌==◌, length, filter};
-ghost use Rattle.std.specs.List.{Contains, list_any};
+//! The chain or the ring that two faces have in common, and how many sides.
+ghost use Rattle.std.specs.Prelude.{◌≡◌, ◌<◌, [], not, ◌==◌, length, filter, Some, None, IfSome, IfNone, false, if◌then◌else◌};
+ghost use Rattle.std.specs.List.{Contains};
 ghost use Rattle.cad_rings.specs.Cycle.{has_side, sides_of};
-ghost use Rattle.cad_map.specs.Chain.{are_distinct as are_distinct_of};
 ghost use Rattle.cad_map.specs.Map.{rings_at, all_sides};
 ghost use Rattle.cad_map.specs.Merger.{shared_sides, is_shared as is_shared_of, seams};
 ghost use Rattle.cad_map.specs.Rings.{ring_at};
-ghost use Rattle.cad_map.specs.Trails.{next_side as next_side_of, trail, turns_back as turns_back_of, runs_back as runs_back_of, is_beyond as is_beyond_of, begins_chain as begins_chain_of, runs_round as runs_round_of, has_seam_along as has_seam_along_of};
+ghost use Rattle.cad_map.specs.SharedChains.{IsSharedChain};
+ghost use Rattle.cad_map.specs.Trails.{next_side as next_side_of, steps, turns_back as turns_back_of, runs_back, is_beyond as is_beyond_of, chain_along, is_before_chain, runs_round as runs_round_of, has_chain_along, IsFoundAlong};
 ghost use Rattle.cad_map.specs.Valid.{IsValid};
 
 use crate::look::{is_face, one_if};
@@ -14,6 +14,21 @@ use crate::rings::ring_count;
 use crate::store::MapView;
 use crate::walk::Walk;
 use cad_rows::{Face, PointNo, StringRow};
+
+/// What two faces have in common where that is one chain or one ring, as the rings of the first of them lead along it.
+#[derive(Clone, Copy, Debug)]
+pub enum SharedChain {
+    /// A chain of so many sides, from the first to the last, each of them from one point to the next.
+    Along {
+        first: (PointNo, PointNo),
+        last: (PointNo, PointNo),
+        sides: usize,
+    },
+    /// All sides of the ring that has this one.
+    Around {
+        side: (PointNo, PointNo),
+    },
+}
 
 /// How many sides of one face have another on their other side. Takes no memory.
 pub fn shared_count<M: MapView>(map: &M, kept: &Face, ended: &Face) -> usize
@@ -33,13 +48,27 @@ pub fn has_seam<M: MapView>(map: &M, kept: &Face, ended: &Face) -> bool
     requires { IsValid (M.map map.now) }
     ensures { result ≡ not (length (seams (M.map map.now) kept.now ended.now) == 0) }
 {
+    find_shared_chain(map, kept, ended).is_some()
+}
+
+/// The one chain, with more sides on both rings, or the one ring that two faces have in common, and `None` where it is
+/// neither. Takes no memory, and a step for each side of the first face.
+///
+/// A chain begins only where the other face is beyond a side and isn't beyond the side before it, so it is followed
+/// once. Where the other face comes back along it, no string leaves it between its ends; so its points differ if the
+/// last is another than the first.
+pub fn find_shared_chain<M: MapView>(map: &M, kept: &Face, ended: &Face) -> Option<SharedChain>
+    requires { IsValid (M.map map.now) }
+    ensures some { IfSome result (IsSharedChain (M.map map.now) kept.now ended.now) }
+    ensures none { IfNone result (seams (M.map map.now) kept.now ended.now ≡ []) }
+{
     let count = shared_count(map, kept, ended);
     for place in 0..ring_count(map, kept) {
-        if has_seam_along(map, kept, place, ended, count) {
-            return true;
+        if let Some(chain) = chain_in_ring(map, kept, place, ended, count) {
+            return Some(chain);
         }
     }
-    false
+    None
 }
 
 /// Whether a string lies between two faces. Takes no memory.
@@ -87,19 +116,29 @@ fn side_count<M: MapView>(map: &M, face: &Face, place: usize) -> usize
     count
 }
 
-/// Whether a face comes back along so many sides of another face's ring at a place: round it, or along a chain.
-fn has_seam_along<M: MapView>(
+/// What another face comes back along of a ring, where it is so many sides: all of the ring, or a chain.
+fn chain_in_ring<M: MapView>(
     map: &M,
     face: &Face,
     place: usize,
     other: &Face,
     count: usize,
-) -> bool
+) -> Option<SharedChain>
     requires valid { IsValid (M.map map.now) }
     requires there { place < length (rings_at face.now (M.rings map.now)) }
-    ensures { result ≡ has_seam_along_of (M.map map.now) other.now count (ring_at (M.rings map.now) face.now place) }
+    ensures some { IfSome result (IsFoundAlong (M.map map.now) other.now count (ring_at (M.rings map.now) face.now place)) }
+    ensures none { IfNone result (has_chain_along (M.map map.now) other.now count (ring_at (M.rings map.now) face.now place) ≡ false) }
 {
-    runs_round(map, face, place, other, count) || has_chain(map, face, place, other, count)
+    let (from, to) = map.ring_side(*face, place).unwrap();
+    if runs_round(map, face, place, other, count) {
+        return Some(SharedChain::Around { side: (from, to) });
+    }
+    for (a, b) in Walk::from(map, from, to) {
+        if let Some(chain) = chain_after(map, other, a, b, count) {
+            return Some(chain);
+        }
+    }
+    None
 }
 
 /// Whether a ring has so many sides, and another face comes back along all of them.
@@ -112,34 +151,7 @@ fn runs_round<M: MapView>(map: &M, face: &Face, place: usize, other: &Face, coun
     if side_count(map, face, place) != count {
         return false;
     }
-    is_beyond(map, other, from, to) && runs_back(map, from, to, count)
-}
-
-/// Whether a ring has a side with which a chain of so many sides begins that another face comes back along.
-fn has_chain<M: MapView>(map: &M, face: &Face, place: usize, other: &Face, count: usize) -> bool
-    requires valid { IsValid (M.map map.now) }
-    requires there { place < length (rings_at face.now (M.rings map.now)) }
-    ensures { result ≡ list_any (begins_chain_of (M.map map.now) other.now count) (sides_of (ring_at (M.rings map.now) face.now place)) }
-{
-    let (from, to) = map.ring_side(*face, place).unwrap();
-    for (a, b) in Walk::from(map, from, to) {
-        if begins_chain(map, other, a, b, count) {
-            return true;
-        }
-    }
-    false
-}
-
-/// Whether so many sides from this one on are a chain that a face comes back along, and whose points differ.
-fn begins_chain<M: MapView>(map: &M, face: &Face, from: PointNo, to: PointNo, count: usize) -> bool
-    requires valid { IsValid (M.map map.now) }
-    requires there { Contains (all_sides (M.map map.now)) (from, to) }
-    ensures { result ≡ begins_chain_of (M.map map.now) face.now count (from, to) }
-{
-    count > 0
-        && is_beyond(map, face, from, to)
-        && runs_back(map, from, to, count - 1)
-        && are_distinct(map, from, to, count)
+    is_beyond(map, other, from, to) && run_back(map, (from, to), count).is_some()
 }
 
 /// Whether a side has a face on its other side.
@@ -153,20 +165,57 @@ fn is_beyond<M: MapView>(map: &M, face: &Face, from: PointNo, to: PointNo) -> bo
     }
 }
 
-/// Whether the opposites of so many sides from this one on, and of the one after them, follow one another backwards.
-fn runs_back<M: MapView>(map: &M, from: PointNo, to: PointNo, count: usize) -> bool
+/// The chain of so many sides after this one, if another face comes back along it and isn't beyond this one.
+fn chain_after<M: MapView>(
+    map: &M,
+    face: &Face,
+    from: PointNo,
+    to: PointNo,
+    count: usize,
+) -> Option<SharedChain>
     requires valid { IsValid (M.map map.now) }
     requires there { Contains (all_sides (M.map map.now)) (from, to) }
-    ensures { result ≡ runs_back_of (next_side_of (M.map map.now)) (from, to) count }
+    ensures { result ≡ (if is_before_chain (M.map map.now) face.now count (from, to)
+        then Some (chain_along (next_side_of (M.map map.now)) (next_side_of (M.map map.now) (from, to)) count) else None) }
 {
-    let mut side = (from, to);
+    if is_beyond(map, face, from, to) {
+        return None;
+    }
+    let first = next_side(map, from, to);
+    if count == 0 || !is_beyond(map, face, first.0, first.1) {
+        return None;
+    }
+    let last = run_back(map, first, count - 1)?;
+    if first.0.get() == last.1.get() {
+        None
+    } else {
+        Some(SharedChain::Along {
+            first,
+            last,
+            sides: count,
+        })
+    }
+}
+
+/// The side after so many from this one on, if their opposites and its own follow one another backwards.
+fn run_back<M: MapView>(
+    map: &M,
+    first: (PointNo, PointNo),
+    count: usize,
+) -> Option<(PointNo, PointNo)>
+    requires valid { IsValid (M.map map.now) }
+    requires there { Contains (all_sides (M.map map.now)) first }
+    ensures { result ≡ (if runs_back (next_side_of (M.map map.now)) first count
+        then Some (steps (next_side_of (M.map map.now)) count first) else None) }
+{
+    let mut side = first;
     for _ in 0..count {
         if !turns_back(map, side.0, side.1) {
-            return false;
+            return None;
         }
         side = next_side(map, side.0, side.1);
     }
-    true
+    Some(side)
 }
 
 /// Whether the opposite of the next side is followed by the opposite of this one.
@@ -178,39 +227,6 @@ fn turns_back<M: MapView>(map: &M, from: PointNo, to: PointNo) -> bool
     let (_, far) = next_side(map, from, to);
     let (_, back) = next_side(map, far, to);
     back.get() == from.get()
-}
-
-/// Whether the points differ at which so many sides from this one on begin and end.
-fn are_distinct<M: MapView>(map: &M, from: PointNo, to: PointNo, count: usize) -> bool
-    requires valid { IsValid (M.map map.now) }
-    requires there { Contains (all_sides (M.map map.now)) (from, to) }
-    ensures { result ≡ are_distinct_of (trail (next_side_of (M.map map.now)) (from, to) count) }
-{
-    let mut side = (from, to);
-    for place in 0..count {
-        let next = next_side(map, side.0, side.1);
-        if passes(map, next.0, next.1, count - place - 1, side.0) {
-            return false;
-        }
-        side = next;
-    }
-    true
-}
-
-/// Whether so many sides from this one on begin or end at a point.
-fn passes<M: MapView>(map: &M, from: PointNo, to: PointNo, count: usize, point: PointNo) -> bool
-    requires valid { IsValid (M.map map.now) }
-    requires there { Contains (all_sides (M.map map.now)) (from, to) }
-    ensures { result ≡ list_any (λ p. point == p) (trail (next_side_of (M.map map.now)) (from, to) count) }
-{
-    let mut side = (from, to);
-    for _ in 0..count {
-        if point.get() == side.0.get() {
-            return true;
-        }
-        side = next_side(map, side.0, side.1);
-    }
-    point.get() == side.0.get()
 }
 
 /// The side that comes after a side in its ring.

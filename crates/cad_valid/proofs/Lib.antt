@@ -2,4 +2,13 @@ mod EmptyCorners
 mod FacesOfMap
 mod Tests
 mod Decisions
+mod GrownLists
+mod SweptPairs
+mod BoxesOfMap
+mod SweptRules
+mod PlacedStrings
 mod Whole
+mod InsideBox
+mod Sweeping
+mod RingsInMap
+mod OutlineCounts

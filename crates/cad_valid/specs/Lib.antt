@@ -1,3 +1,9 @@
+pub mod Boxes
 pub mod Corners
 pub mod Holes
 pub mod Outlines
+pub mod Extents
+pub mod Shapes
+pub mod Rings
+pub mod Placed
+pub mod Swept

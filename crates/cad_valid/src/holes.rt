@@ -1,14 +1,17 @@
 //! Whether the holes of each face lie in its outline, and apart from one another.
 ghost use Rattle.std.specs.Prelude.{◌≡◌, ◌+◌, ◌<◌, drop, length, filter, IsTrue};
 ghost use Rattle.std.specs.List.{list_all};
-ghost use Rattle.cad_map.specs.Map.{rings_at, rings_of, has_point, is_positive, is_in_ring as is_in_ring_of};
+ghost use Rattle.cad_map.specs.Map.{rings_at, rings_of, has_point, position_of, is_positive, is_in_ring as is_in_ring_of};
 ghost use Rattle.cad_map.specs.Valid.{are_holes_inside as are_holes_inside_of, are_holes_apart as are_holes_apart_of, has_sound_holes as has_sound_holes_of, has_holes_in_place as has_holes_in_place_of};
 ghost use Rattle.cad_map.specs.Rings.{HasWholeRings, ring_at};
 ghost use Rattle.cad_valid.specs.Holes.{has_inside_if_outline as has_inside_if_outline_of, is_inside_if_hole as is_inside_if_hole_of, are_apart as are_apart_of, is_apart_if_hole as is_apart_if_hole_of, is_apart_from_holes};
+ghost use Rattle.cad_valid.specs.Shapes.{shape_of};
 
 use crate::rings::{anchor_of, is_hole, is_in_ring, is_outline};
+use crate::shapes::{self, Enclosing};
 use cad_map::{MapView, position, ring_count};
 use cad_rows::{Face, PointNo};
+use geo_exact::Pt;
 
 /// Whether the anchor of each negative ring is inside the positive ring of its face, and in no other negative one.
 pub(crate) fn has_holes_in_place<M: MapView>(map: &M) -> bool
@@ -135,7 +138,37 @@ fn are_apart<M: MapView>(map: &M, face: &Face, place: usize, other: usize) -> bo
     requires other_there { other < length (rings_at face.now (M.rings map.now)) }
     ensures { result ≡ are_apart_of (M.map map.now) (ring_at (M.rings map.now) face.now place) (ring_at (M.rings map.now) face.now other) }
 {
-    let first = position(map, anchor_of(map, face, place));
-    let second = position(map, anchor_of(map, face, other));
-    !is_in_ring(map, face, place, second) && !is_in_ring(map, face, other, first)
+    let first = WalkedRing {
+        map,
+        face: *face,
+        place,
+    };
+    let second = WalkedRing {
+        map,
+        face: *face,
+        place: other,
+    };
+    shapes::are_apart(&first, &second)
+}
+
+/// A ring of a face, which is walked each time it is asked.
+#[derive(Drop)]
+struct WalkedRing<'a, M: MapView> {
+    map: &'a M,
+    face: Face,
+    place: usize,
+}
+
+impl<M: MapView> Enclosing for WalkedRing<'_, M> {
+    ghost can_tell = { λ r. HasWholeRings (M.map r.map.now) × (r.place < length (rings_at r.face (M.rings r.map.now))) };
+
+    ghost shape = { λ r. shape_of (position_of (M.map r.map.now)) (ring_at (M.rings r.map.now) r.face r.place) };
+
+    fn anchor(&self) -> Pt {
+        position(self.map, anchor_of(self.map, &self.face, self.place))
+    }
+
+    fn has_inside(&self, at: Pt) -> bool {
+        is_in_ring(self.map, &self.face, self.place, at)
+    }
 }

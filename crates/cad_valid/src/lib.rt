@@ -1,23 +1,35 @@
 //! The first rule that a map breaks.
 #![tactic(auto)]
 
+mod boxes;
 mod corners;
 mod crossings;
+mod extents;
 mod holes;
+mod holes_swept;
 mod outlines;
+mod outlines_by_runs;
+mod placed;
 mod points;
 mod rings;
+mod shapes;
+mod swept;
 
-ghost use Rattle.std.specs.Prelude.{IfSome, IfNone};
-ghost use Rattle.cad_map.specs.Valid.{CanBeTested, KeepsAll, FirstBroken};
+ghost use Rattle.std.specs.Prelude.{IfSome, IfNone, IfOk};
+ghost use Rattle.cad_rows.specs.declared.refusals.Rule.TheVariants.{V3, V4, V6};
+ghost use Rattle.cad_map.specs.Valid.{CanBeTested, Keeps, KeepsAll, FirstBroken};
 
 use crate::corners::has_empty_corners;
 use crate::crossings::has_no_crossing;
 use crate::holes::has_holes_in_place;
+use crate::holes_swept::has_holes_in_place_swept;
 use crate::outlines::has_one_outline_each;
+use crate::outlines_by_runs::has_one_outline_each_by_runs;
 use crate::points::has_distinct_positions;
-use cad_map::MapView;
-use cad_rows::Rule;
+use crate::swept::{has_distinct_positions_swept, has_no_crossing_swept};
+use cad_map::{MapView, PlainMap};
+use cad_rows::{Memory, Rule};
+use std::alloc::Global;
 
 /// The first rule that a map breaks, of V3, V4, V6, V7 and V8 in this order, or `None` where it keeps them all. Takes no
 /// memory. It looks at each pair of strings, so its time grows with the square of the map's size.
@@ -45,4 +57,44 @@ pub fn first_broken<M: MapView>(map: &M) -> Option<Rule>
         return Some(Rule::V8);
     }
     None
+}
+
+/// The first rule that a map breaks, as [`first_broken`] tells it, of a map whose corners are empty
+/// unless it breaks V3 or V4: then V6 need not be looked at.
+///
+/// That is the caller's to know. Who makes rings by following each side to the next one round its
+/// point puts no string inside a corner, so a map read from strings alone has it by the way its rings
+/// were made, and to look at each corner again would cost more than all else.
+///
+/// V3 and V4 are told by a sort of boxes each: of strings and points only those are compared whose
+/// boxes lie beside one another in a row of the map. For that it takes memory for the boxes, and for
+/// at most three spans a box. Its time for them is that of the sort and of these pairs: many long
+/// strings that lie slantwise over one another, or at one point, are compared each with each.
+///
+/// V7 and V8 take each face's rings as they stand together in the map's list, and of holes too only
+/// those are compared whose boxes overlap. Each hole's anchor is counted against each side of its
+/// outline.
+///
+/// # Errors
+/// Memory ran out.
+#[tactic(auto, using(crate::proofs::Whole::whole))]
+pub fn first_broken_swept(alloc: Global, map: &PlainMap) -> Result<Option<Rule>, Memory>
+    requires tested { CanBeTested map.now }
+    requires corners { Keeps map.now V3 → Keeps map.now V4 → Keeps map.now V6 }
+    ensures broken { IfOk result (λ rule. IfSome rule (FirstBroken map.now)) }
+    ensures kept { IfOk result (λ rule. IfNone rule (KeepsAll map.now)) }
+{
+    if !has_distinct_positions_swept(alloc, map)? {
+        return Ok(Some(Rule::V3));
+    }
+    if !has_no_crossing_swept(alloc, map)? {
+        return Ok(Some(Rule::V4));
+    }
+    if !has_one_outline_each_by_runs(map) {
+        return Ok(Some(Rule::V7));
+    }
+    if !has_holes_in_place_swept(alloc, map)? {
+        return Ok(Some(Rule::V8));
+    }
+    Ok(None)
 }

@@ -33,7 +33,8 @@ fn is_apart_from<M: MapView>(map: &M, from: usize, position: Pt) -> bool
     true
 }
 
-fn is_same(a: Pt, b: Pt) -> bool
+/// Whether two positions are one.
+pub(crate) fn is_same(a: Pt, b: Pt) -> bool
     ensures { result ≡ is_same_position a b }
 {
     a.x == b.x && a.y == b.y

@@ -14,14 +14,14 @@ returns-in-Some g c =
     let points = points_named c.args.points.now in
     told-first test Unknown (face ++ points) (NameOf.Source c.args.source ∷ []) c.in-Some.refusal (told-first test Unknown face points c.in-Some.refusal c.in-Some.ensures)
 
-pub returns-in-Some-unless_known_points : goal.returns-in-Some-unless_known_points
-returns-in-Some-unless_known_points g c =
+pub returns-in-Some-refusal_unless_known_points : goal.returns-in-Some-refusal_unless_known_points
+returns-in-Some-refusal_unless_known_points g c =
     let m = g.M.MapView.map c.args.map.now in
     let test : Name → Bool = λ n. not (is_there m n) in
     let face = face_named c.args.face.now in
     let points = points_named c.args.points.now in
-    told-first test Unknown (face ++ points) (NameOf.Source c.args.source ∷ []) c.in-Some-unless_known_points.refusal
-    (c.in-Some-unless_known_points.ensures ∙ sym (told-second test Unknown face points c.in_default.ensures))
+    told-first test Unknown (face ++ points) (NameOf.Source c.args.source ∷ []) c.in-Some-refusal_unless_known_points.refusal
+    (c.in-Some-refusal_unless_known_points.ensures ∙ sym (told-second test Unknown face points c.in_default.ensures))
 
 pub returns : goal.returns
 returns g c =
@@ -30,5 +30,5 @@ returns g c =
     let face = face_named c.args.face.now in
     let points = points_named c.args.points.now in
     let source = NameOf.Source c.args.source in
-    let none = c.in_default-unless_known_points.ensures ∙ sym (told-second test Unknown face points c.in_default.ensures) in
-    c.unless_known.ensures ∙ sym (told-second test Unknown (face ++ points) (source ∷ []) none ∙ told-unless test Unknown source (is_there m source) refl)
+    let none = c.in_default-refusal_unless_known_points.ensures ∙ sym (told-second test Unknown face points c.in_default.ensures) in
+    c.refusal_unless_known.ensures ∙ sym (told-second test Unknown (face ++ points) (source ∷ []) none ∙ told-unless test Unknown source (is_there m source) refl)

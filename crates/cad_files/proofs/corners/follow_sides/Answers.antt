@@ -1,34 +1,31 @@
-use Rattle.std.proofs.Common.{◌∙◌, sym, ap, Some, map, arith}
+use Rattle.std.proofs.Common.{ap, length}
 use Rattle.std.specs.Prelude.{option_map}
-use Rattle.std.proofs.lemmas.List.{drop_all}
-use Rattle.std.proofs.lemmas.Result.{err_from_is_err_and}
-use Rattle.cad_files.specs.Building.{bad_corner, first_bad_corner}
-use Rattle.cad_files.specs.Follower.{labelled_sides}
-use Rattle.cad_files.specs.Corners.{plan_side_of, passed_sides}
+use Rattle.cad_files.specs.Corners.{NoneMet}
 use Rattle.cad_files.specs.declared.faults.PlanFault.TheVariants as faults
-use Rattle.cad_files.proofs.CornerFacts.{bad-left, bad-right}
+use Rattle.cad_files.proofs.CornerFacts.{met-corner, stop-corner, no-corner, are-linked}
 use Rattle.cad_files.proofs.corners.follow_sides.Goals as goal
 
-pub returns-in_err-follow-clause-err : goal.returns-in_err-follow-clause-err
-unfolding bad_corner
-returns-in_err-follow-clause-err c =
-    let p = err_from_is_err_and c.from_residual.result c.from_residual.ensures.1 in
-    rw (p.1, p.2) (λ nm.
+pub returns-in-Some-clause-err : goal.returns-in-Some-clause-err
+returns-in-Some-clause-err c = λ nm.
+    let first = rw (c.in-Some.is, c.as_slice.ensures.value) at c.in_ok-place.ensures.some in
     ap (option_map (λ n. faults.Corner n))
-    (bad-left c.args.plain.now c.args.strings.now c.loop-i.i c.index-strings-i.result _ c.loop-i-test.true c.index-strings-i.is (map (λ f. f.side) c.loop-i.passed.items) c.left_side.result _ c.loop-i.invariant.rest (ap plan_side_of c.left_side.ensures) (c.in_err-follow.ensures.err nm))
-    ∙ ap (λ fault. Some fault) (sym (c.in_err-follow.ensures.told nm)))
+    (met-corner c.args.plain.now c.args.strings.now c.follow_each.new.passed.items c.in_ok-stop.ensures.each c.in_ok-stop.stop c.in_ok-stop.ensures.all c.in_ok-stop.ensures.stop c.in-Some.place c.index.result.now c.index.ensures first)
 
-pub returns-in_err-follow-2-clause-err : goal.returns-in_err-follow-2-clause-err
-unfolding bad_corner
-returns-in_err-follow-2-clause-err c =
-    let p = err_from_is_err_and c.from_residual-in_err-follow-2.result c.from_residual-in_err-follow-2.ensures.1 in
-    rw (p.1, p.2) (λ nm.
-    ap (option_map (λ n. faults.Corner n))
-    (bad-right c.args.plain.now c.args.strings.now c.loop-i.i c.index-strings-i.result _ c.loop-i-test.true c.index-strings-i.is (map (λ f. f.side) c.loop-i.passed.items) c.left_side.result _ c.loop-i.invariant.rest (ap plan_side_of c.left_side.ensures)
-    c.in_ok-follow.ensures.good _ c.in_ok-follow.ensures.put c.right_side.result (ap plan_side_of c.right_side.ensures) (c.in_err-follow-2.ensures.err nm))
-    ∙ ap (λ fault. Some fault) (sym (c.in_err-follow-2.ensures.told nm)))
+pub returns-in-Some-stop-clause-err : goal.returns-in-Some-stop-clause-err
+returns-in-Some-stop-clause-err c = λ nm.
+    let passed = c.follow_each.new.passed.items in
+    let none : NoneMet passed (length passed) = rw (c.in_default.is, c.as_slice.ensures.value) at c.in_ok-place.ensures.none in
+    let stop = rw c.in-Some-stop.is at c.in_ok-stop.ensures.stop in
+    ap (option_map (λ n. faults.Corner n)) (stop-corner c.args.plain.now c.args.strings.now passed c.in_ok-stop.ensures.each c.in-Some-stop.end stop none)
 
-pub returns-clause-free : goal.returns-clause-free
-unfolding bad_corner
-returns-clause-free c =
-    sym c.loop-i.invariant.rest ∙ ap (λ rest. first_bad_corner c.args.plain.now (passed_sides (map (λ f. f.side) c.loop-i.passed.items)) (map (λ s. s.side) (labelled_sides rest))) (drop_all c.loop-i.i c.args.strings.now (omega arith))
+pub returns-in-None-clause-linked : goal.returns-in-None-clause-linked
+returns-in-None-clause-linked c =
+    let all = rw c.in-None.is at c.in_ok-stop.ensures.all in
+    are-linked c.args.strings.now c.follow_each.new.passed.items all c.in_ok-stop.ensures.linked
+
+pub returns-in-None-clause-free : goal.returns-in-None-clause-free
+returns-in-None-clause-free c =
+    let passed = c.follow_each.new.passed.items in
+    let none : NoneMet passed (length passed) = rw (c.in_default.is, c.as_slice.ensures.value) at c.in_ok-place.ensures.none in
+    let all = rw c.in-None.is at c.in_ok-stop.ensures.all in
+    no-corner c.args.plain.now c.args.strings.now passed c.in_ok-stop.ensures.each all none

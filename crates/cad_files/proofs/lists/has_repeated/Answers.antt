@@ -1,8 +1,12 @@
-use Rattle.std.proofs.Common.{◌∙◌, sym}
-use Rattle.cad_files.proofs.ListFacts.{repeated-more}
+use Rattle.std.proofs.Common.{◌≡◌, ◌∙◌, ℕ, List}
+use Rattle.cad_files.proofs.RepeatedSources.{repeated-told}
 use Rattle.cad_files.proofs.lists.has_repeated.Goals as goal
 
-pub loop-i-preserved : goal.loop-i-preserved
-loop-i-preserved c =
-    repeated-more c.args.list.now c.loop-i.i c.index-list-i.result _ c.loop-i-test.true c.index-list-i.is
-    (rw (← c.split_at.ensures.front, ← c.get.ensures.value) (sym c.is_among.ensures ∙ c.if-is_among.false)) ∙ c.loop-i.invariant
+pub returns : goal.returns
+returns c =
+    let list : List ℕ = c.args.list.now in
+    let keys : List ℕ = c.as_slice.result.now in
+    let same : keys ≡ list = c.as_slice.ensures.value ∙ c.in_ok-keys.ensures in
+    c.is_some.ensures
+    ∙ repeated-told list c.in_ok-first_repeated.field-0 (rw same at c.in_ok-first_repeated.ensures.some)
+    (rw same at c.in_ok-first_repeated.ensures.none)

@@ -12,8 +12,8 @@ unwrap-from-requires g c =
     let m = g.M.MapView.map c.args.map.now in
     subst IsSome (sym c.ring_side.ensures.side) (side_is_told m (g.M.MapView.rings c.args.map.now) (whole_valid m c.requires.valid) c.ring_side.ensures.listed c.ring_side.ensures.two c.args.face.now c.args.place c.requires.there)
 
-pub runs_back-requires-clause-there : goal.runs_back-requires-clause-there
-runs_back-requires-clause-there g c =
+pub run_back-requires-clause-there : goal.run_back-requires-clause-there
+run_back-requires-clause-there g c =
     let m = g.M.MapView.map c.args.map.now in
     let bs = g.M.MapView.rings c.args.map.now in
     let whole = whole_valid m c.requires.valid in

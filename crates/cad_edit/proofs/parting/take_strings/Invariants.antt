@@ -1,9 +1,0 @@
-use Rattle.std.proofs.Common.{◌≡◌, drop, fold}
-use Rattle.cad_map.specs.Table.{without_row}
-use Rattle.cad_edit.proofs.parting.take_strings.Given as goal
-
-abbrev pub invariant-loop-no : goal.invariant-loop-no
-invariant-loop-no l = record {
-  others : l.map ≡ record l.fn.map { strings = l.map.strings };
-  left : fold (λ rows no. without_row (λ r. r.number) no rows) l.map.strings (drop l.no-index l.numbers) ≡ fold (λ rows no. without_row (λ r. r.number) no rows) l.fn.map.strings l.numbers;
-}

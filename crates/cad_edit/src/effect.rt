@@ -1,0 +1,191 @@
+//! The map that an edit makes of a map.
+ghost use Rattle.std.specs.Prelude.{◌≡◌, None, IfOk, OnOk};
+ghost use Rattle.std.specs.List.{AllByRecursion};
+ghost use Rattle.cad_map.specs.Valid.{IsValid};
+ghost use Rattle.geo_exact.specs.Position.{OnTheMap};
+ghost use Rattle.cad_rows.specs.Limits.{IsNumber};
+ghost use Rattle.cad_map.specs.Refusals.{first_refusal as first_refusal_of};
+ghost use Rattle.cad_map.specs.Effects.{after};
+ghost use Rattle.cad_map.specs.Asked.{GivesInRange};
+ghost use Rattle.cad_edit.specs.Admitted.{HasCorners, HasChain};
+
+use crate::admitted::Admitted;
+use crate::edits::divide::divide;
+use crate::edits::enclose::enclose;
+use crate::edits::join::join;
+use crate::edits::labels::rename;
+use crate::edits::merge::merge;
+use crate::edits::points::{add_point, move_point};
+use crate::edits::sources::{SourceChange, add_source, change_sources};
+use crate::edits::split::{Halves, split};
+use crate::parcels::NewParcel;
+use cad_map::PlainMap;
+use cad_rows::{Edit, Memory, StringNo};
+use geo_exact::Pt;
+
+/// The numbers and texts in an edit are in range, by their types.
+pub(crate) fn are_in_range(edit: &Edit)
+    ensures { GivesInRange edit.now }
+{
+    match edit {
+        Edit::AddSource { source, text } => {
+            let _ = source.get();
+            let _ = text.as_str();
+        }
+        Edit::AddPoint { point, .. } => {
+            let _ = point.get();
+        }
+        Edit::Split {
+            point,
+            first,
+            second,
+            ..
+        } => {
+            let _ = point.get();
+            let _ = first.get();
+            let _ = second.get();
+        }
+        Edit::Join { string, .. } => {
+            let _ = string.get();
+        }
+        Edit::Rename { label, .. } => {
+            let _ = label.as_str();
+        }
+        Edit::Divide {
+            strings,
+            parcel,
+            label,
+            ..
+        }
+        | Edit::Enclose {
+            strings,
+            parcel,
+            label,
+            ..
+        } => {
+            are_strings_in_range(strings.as_slice());
+            let _ = parcel.get();
+            let _ = label.as_str();
+        }
+        Edit::DropPoint { .. }
+        | Edit::Merge { .. }
+        | Edit::Move { .. }
+        | Edit::Attach { .. }
+        | Edit::Detach { .. } => {}
+    }
+}
+
+/// The numbers of strings are in range, by their type.
+fn are_strings_in_range(strings: &[StringNo])
+    ensures { AllByRecursion IsNumber strings.now }
+{
+    for string in strings {
+        let _ = string.get();
+    }
+}
+
+/// The map that an edit makes of a map.
+pub(crate) fn effect_of(map: &PlainMap, edit: &Edit, found: &Admitted) -> Result<PlainMap, Memory>
+    requires valid { IsValid map.now }
+    requires range { GivesInRange edit.now }
+    requires allowed { first_refusal_of map.now edit.now ≡ None }
+    requires corners { HasCorners map.now edit.now found.now.corners }
+    requires chain { HasChain map.now edit.now found.now.chain }
+    ensures { IfOk result (λ made. made ≡ after map.now edit.now) }
+{
+    let mut made = map.copy()?;
+    make(&mut made, edit, found)?;
+    Ok(made)
+}
+
+/// Makes an edit of a map. Where memory runs out the map may be anything.
+#[tactic(auto, unfolding(cad_map::specs::Effects::after))]
+fn make(map: &mut PlainMap, edit: &Edit, found: &Admitted) -> Result<(), Memory>
+    requires valid { IsValid map.old }
+    requires range { GivesInRange edit.now }
+    requires allowed { first_refusal_of map.old edit.now ≡ None }
+    requires corners { HasCorners map.old edit.now found.now.corners }
+    requires chain { HasChain map.old edit.now found.now.chain }
+    ensures { OnOk result (map.new ≡ after map.old edit.now) }
+{
+    match edit {
+        Edit::AddSource { source, text } => add_source(map, *source, text),
+        Edit::AddPoint { point, x, y } => add_point(map, *point, at(*x, *y)),
+        Edit::DropPoint { point } => {
+            map.take_point(*point);
+            Ok(())
+        }
+        Edit::Split {
+            string,
+            point,
+            x,
+            y,
+            first,
+            second,
+        } => {
+            let halves = Halves {
+                point: *point,
+                position: at(*x, *y),
+                first: *first,
+                second: *second,
+            };
+            split(map, *string, &halves)
+        }
+        Edit::Join { point, string } => join(map, *point, *string),
+        Edit::Divide {
+            face,
+            chain,
+            strings,
+            parcel,
+            label,
+            source,
+        } => {
+            let new = NewParcel {
+                number: *parcel,
+                label,
+                source: *source,
+            };
+            let (first, last) = found.corners.unwrap();
+            divide(
+                map,
+                *face,
+                chain.as_slice(),
+                strings.as_slice(),
+                &new,
+                &first,
+                &last,
+            )
+        }
+        Edit::Merge { kept, ended } => {
+            let chain = found.chain.unwrap();
+            merge(map, *kept, *ended, &chain)
+        }
+        Edit::Move { point, x, y } => move_point(map, *point, at(*x, *y)),
+        Edit::Attach { item, source } => change_sources(map, *item, &SourceChange::Put(*source)),
+        Edit::Detach { item, source } => change_sources(map, *item, &SourceChange::Leave(*source)),
+        Edit::Rename { parcel, label } => rename(map, *parcel, label),
+        Edit::Enclose {
+            face,
+            points,
+            strings,
+            parcel,
+            label,
+            source,
+        } => {
+            let new = NewParcel {
+                number: *parcel,
+                label,
+                source: *source,
+            };
+            enclose(map, *face, points.as_slice(), strings.as_slice(), &new)
+        }
+    }
+}
+
+/// The position with coordinates that are in range.
+fn at(x: i64, y: i64) -> Pt
+    requires { OnTheMap (record { x = x; y = y }) }
+    ensures { result ≡ record { x = x; y = y } }
+{
+    Pt::new(x, y).unwrap()
+}

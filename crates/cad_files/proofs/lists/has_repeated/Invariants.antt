@@ -1,6 +1,0 @@
-use Rattle.std.proofs.Common.{◌≡◌, [], take, drop}
-use Rattle.cad_files.specs.Fields.{repeated}
-use Rattle.cad_files.proofs.lists.has_repeated.Given as goal
-
-abbrev pub invariant-loop-i : goal.invariant-loop-i
-invariant-loop-i l = repeated (take l.i l.list) (drop l.i l.list) ≡ repeated [] l.list

@@ -1,0 +1,67 @@
+//! Sides that stand twice, and followers that do.
+ghost use Rattle.std.specs.Prelude.{◌≡◌, ◌<◌, ◌^◌, length, map, IfOk, IfSome, IfNone};
+ghost use Rattle.std.specs.List.{AllByRecursion};
+ghost use Rattle.cad_files.specs.Corners.{IsFirstMet, NoneMet, key_of, lesser_of};
+
+use crate::sides::PlanSide;
+use cad_rows::{Memory, PointNo};
+use std::alloc::Global;
+use sweep::first_repeated;
+
+// Two points as one number.
+fn key(first: PointNo, second: PointNo) -> u64
+    ensures value { result ≡ key_of (first, second) }
+    ensures small { (first < 2 ^ 32) × (second < 2 ^ 32) }
+{
+    u64::from(first.get()) * (1 << 32) + u64::from(second.get())
+}
+
+// The points that each of these sides leads from and to.
+fn side_keys(alloc: Global, sides: &[PlanSide]) -> Result<Vec<u64>, Memory>
+    ensures keys { IfOk result (λ keys. keys.items ≡ map (λ s. key_of (s.from, s.to)) sides.now) }
+    ensures small { IfOk result (λ keys. AllByRecursion (λ s. (s.from < 2 ^ 32) × (s.to < 2 ^ 32)) sides.now) }
+{
+    let mut keys = Vec::with_capacity(alloc, sides.len())?;
+    for i in 0..sides.len() {
+        keys.push(key(sides[i].from, sides[i].to))?;
+    }
+    Ok(keys)
+}
+
+// The point that each of these sides leads to, and the one that follows.
+fn follower_keys(alloc: Global, sides: &[PlanSide]) -> Result<Vec<u64>, Memory>
+    ensures keys { IfOk result (λ keys. keys.items ≡ map (λ s. key_of (s.to, s.after)) sides.now) }
+    ensures small { IfOk result (λ keys. AllByRecursion (λ s. (s.to < 2 ^ 32) × (s.after < 2 ^ 32)) sides.now) }
+{
+    let mut keys = Vec::with_capacity(alloc, sides.len())?;
+    for i in 0..sides.len() {
+        keys.push(key(sides[i].to, sides[i].after))?;
+    }
+    Ok(keys)
+}
+
+// The lesser of two places.
+fn lesser(a: Option<usize>, b: Option<usize>) -> Option<usize>
+    ensures { result ≡ lesser_of a b }
+{
+    match a {
+        None => b,
+        Some(p) => match b {
+            None => Some(p),
+            Some(q) => Some(p.min(q)),
+        },
+    }
+}
+
+/// The place of the first of these sides that stands among earlier ones, or leads to the end of an earlier one and has
+/// its follower. Takes two sorts.
+pub(crate) fn first_met(alloc: Global, sides: &[PlanSide]) -> Result<Option<usize>, Memory>
+    ensures some { IfOk result (λ place. IfSome place (IsFirstMet sides.now)) }
+    ensures none { IfOk result (λ place. IfNone place (NoneMet sides.now (length sides.now))) }
+{
+    let keys = side_keys(alloc, sides)?;
+    let as_side = first_repeated(alloc, keys.as_slice())?;
+    let keys = follower_keys(alloc, sides)?;
+    let by_follower = first_repeated(alloc, keys.as_slice())?;
+    Ok(lesser(as_side, by_follower))
+}

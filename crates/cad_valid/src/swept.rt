@@ -1,0 +1,139 @@
+//! Which points have one position, and which strings and points cross, told by one sort of their
+//! boxes each.
+ghost use Rattle.std.specs.Prelude.{◌≡◌, ◌++◌, IfOk, OnOk};
+ghost use Rattle.std.specs.Bool.{OnTrue, OnFalse};
+ghost use Rattle.cad_map.specs.Valid.{HasNoCrossing};
+ghost use Rattle.cad_map.specs.Valid.{has_distinct_positions as has_distinct_positions_of};
+ghost use Rattle.cad_map.specs.Crossings.{HasPlacedRows};
+ghost use Rattle.cad_valid.specs.Swept.{passes_at, lie_apart as lie_apart_of};
+ghost use Rattle.cad_valid.specs.Swept.{is_point as is_point_of, have_no_crossing as have_no_crossing_of};
+ghost use Rattle.cad_valid.specs.Swept.{placed_rows as placed_rows_of};
+ghost use Rattle.cad_valid.specs.Swept.{placed_strings as placed_strings_of};
+ghost use Rattle.cad_valid.specs.Swept.{placed_points as placed_points_of};
+
+use crate::boxes::boxes_of;
+use crate::placed::{Placed, lies_only_as_end, meet_at_ends, placed_point, placed_string};
+use crate::points::is_same;
+use cad_map::{MapView, PlainMap};
+use cad_rows::Memory;
+use std::alloc::Global;
+use sweep::{PairTest, all_that_overlap_pass, row_height};
+
+/// Whether no two points have the same position. Takes memory for a box and for a span or two of
+/// each point; its time is that of a sort of these.
+pub(crate) fn has_distinct_positions_swept(alloc: Global, map: &PlainMap) -> Result<bool, Memory>
+    ensures { IfOk result (λ b. b ≡ has_distinct_positions_of map.now) }
+{
+    let mut points = Vec::new(alloc);
+    put_points(&mut points, map)?;
+    let boxes = boxes_of(alloc, &points)?;
+    let apart = Apart { points: &points };
+    let height = row_height(&boxes);
+    Ok(all_that_overlap_pass(alloc, &apart, &boxes, height)?)
+}
+
+/// Whether no two strings have a common location but a shared end, and no point lies on a string but
+/// its ends. Takes memory for each string and point with its box, and for at most three spans a box.
+pub(crate) fn has_no_crossing_swept(alloc: Global, map: &PlainMap) -> Result<bool, Memory>
+    requires { HasPlacedRows map.now }
+    ensures kept { IfOk result (λ b. OnTrue b (HasNoCrossing map.now)) }
+    ensures broken { IfOk result (λ b. OnFalse b (¬ HasNoCrossing map.now)) }
+{
+    let items = placed_rows(alloc, map)?;
+    let boxes = boxes_of(alloc, &items)?;
+    let uncrossed = Uncrossed { items: &items };
+    let height = row_height(&boxes);
+    Ok(all_that_overlap_pass(alloc, &uncrossed, &boxes, height)?)
+}
+
+// The test of V3: two points have different positions.
+#[derive(Drop)]
+struct Apart<'a> {
+    points: &'a [Placed],
+}
+
+impl PairTest for Apart<'_> {
+    ghost passes = { λ test i j. passes_at lie_apart_of test.points.now i j };
+
+    fn pass(&self, first: usize, second: usize) -> bool {
+        match (self.points.get(first), self.points.get(second)) {
+            (Some(a), Some(b)) => lie_apart(a, b),
+            _ => true,
+        }
+    }
+}
+
+fn lie_apart(a: &Placed, b: &Placed) -> bool
+    ensures { result ≡ lie_apart_of a.now b.now }
+{
+    !is_same(a.a, b.a)
+}
+
+// The test of V4. Two points pass it: V3 is told before.
+#[derive(Drop)]
+struct Uncrossed<'a> {
+    items: &'a [Placed],
+}
+
+impl PairTest for Uncrossed<'_> {
+    ghost passes = { λ test i j. passes_at have_no_crossing_of test.items.now i j };
+
+    fn pass(&self, first: usize, second: usize) -> bool {
+        match (self.items.get(first), self.items.get(second)) {
+            (Some(a), Some(b)) => have_no_crossing(a, b),
+            _ => true,
+        }
+    }
+}
+
+/// Whether two strings meet at ends alone, and a point lies on a string only as its end.
+fn have_no_crossing(a: &Placed, b: &Placed) -> bool
+    ensures { result ≡ have_no_crossing_of a.now b.now }
+{
+    match (is_point(a), is_point(b)) {
+        (true, true) => true,
+        (true, false) => lies_only_as_end(a, b),
+        (false, true) => lies_only_as_end(b, a),
+        (false, false) => meet_at_ends(a, b),
+    }
+}
+
+fn is_point(item: &Placed) -> bool
+    ensures { result ≡ is_point_of item.now }
+{
+    item.from == item.to
+}
+
+/// The strings of the map, and then its points.
+fn placed_rows(alloc: Global, map: &PlainMap) -> Result<Vec<Placed>, Memory>
+    requires { HasPlacedRows map.now }
+    ensures { IfOk result (λ items. items.items ≡ placed_rows_of map.now) }
+{
+    let mut items = Vec::new(alloc);
+    put_strings(&mut items, map)?;
+    put_points(&mut items, map)?;
+    Ok(items)
+}
+
+/// Puts the strings of the map.
+fn put_strings(items: &mut Vec<Placed>, map: &PlainMap) -> Result<(), Memory>
+    requires { HasPlacedRows map.now }
+    ensures { OnOk result (items.new.items ≡ items.old.items ++ placed_strings_of map.now) }
+{
+    for place in 0..map.counts().strings {
+        let string = map.string_at(place).unwrap();
+        items.push(placed_string(map, string))?;
+    }
+    Ok(())
+}
+
+/// Puts the points of the map.
+fn put_points(items: &mut Vec<Placed>, map: &PlainMap) -> Result<(), Memory>
+    ensures { OnOk result (items.new.items ≡ items.old.items ++ placed_points_of map.now) }
+{
+    for place in 0..map.counts().points {
+        let point = map.point_at(place).unwrap();
+        items.push(placed_point(point))?;
+    }
+    Ok(())
+}
