@@ -18,6 +18,8 @@ mod enclosing;
 #[cfg(test)]
 mod faults;
 #[cfg(test)]
+mod files;
+#[cfg(test)]
 mod history;
 #[cfg(test)]
 mod merging;
@@ -29,3 +31,5 @@ mod points;
 mod records;
 #[cfg(test)]
 mod reports;
+#[cfg(test)]
+mod stars;

@@ -45,6 +45,3 @@ pub use plan_records::{ParcelRecord, PlanRecord, PointRecord, StringRecord, Vers
 pub use plan_texts::{plan_text, plans_again};
 pub use rows::{PlanRows, PlanString};
 pub use sink::{MemSink, Sink, SinkFault, write_all};
-
-#[cfg(test)]
-mod tests;

@@ -31,6 +31,3 @@ pub use store::{Counts, MapStore, MapView};
 pub use sums::sum_of;
 pub use table::{Numbered, Table};
 pub use walk::Walk;
-
-#[cfg(test)]
-mod tests;

@@ -1,4 +1,4 @@
-use crate::{
+use cad_files::{
     Line, LineFault, MemSink, OutSink, PlanFault, PlanRows, Sink, SinkFault, answer_text, build,
     hundredths, next_row, plan_text, read_line, read_plan, syntax_text, write_all,
 };
