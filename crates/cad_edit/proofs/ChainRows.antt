@@ -10,10 +10,8 @@ use Rattle.cad_rows.specs.declared.refusals.Refusal.TheVariants.{ChainJoinsRings
 use Rattle.cad_rings.specs.Cycle.{Corner, has_side, sides_of}
 use Rattle.cad_map.specs.Chain.{start_of, next_of, end_of, last_but_one, chosen_corner, leaving}
 use Rattle.cad_map.specs.Map.{Map, has_point, rings_of, face_corners}
-use Rattle.cad_map.specs.Refusals.{when, unknown, is_there, face_named, points_named, have_one_ring, chain_joins_rings, not_in_parcel, missing, first_of}
-use Rattle.cad_map.proofs.AllowedParcels.{there-each, points-there}
-use Rattle.cad_map.proofs.ChosenCorners.{chosen}
-use Rattle.cad_map.proofs.Lists.{All-append}
+use Rattle.cad_map.specs.Refusals.{when, unknown, is_there, face_named, points_named, have_one_ring, chain_joins_rings, not_in_parcel, corner_missing, first_of}
+use Rattle.cad_map.proofs.CallerLemmas.{there-each, points-there, chosen, All-append}
 
 module _ (m : Map) (face : Face) (chain strings : List ℕ) (parcel : ℕ) (label : List ℕ) (source : ℕ) (e : Edit) (is : e ≡ Divide face chain strings parcel label source) where
   module _ (points : List ℕ) (same : points ≡ chain) where
@@ -31,7 +29,7 @@ module _ (m : Map) (face : Face) (chain strings : List ℕ) (parcel : ℕ) (labe
     in-chosen first last at_first at_last =
         ap (not_in_parcel m) is
         ∙ ap (λ (l : List ℕ). not_in_parcel m (Divide face l strings parcel label source)) (sym same)
-        ∙ (λ i. first_of (missing (sym at_first i) (start_of points) ∷ missing (sym at_last i) (end_of points) ∷ []))
+        ∙ (λ i. first_of (corner_missing (sym at_first i) (start_of points) ∷ corner_missing (sym at_last i) (end_of points) ∷ []))
 
     -- it is asked of the two corners that are chosen whether they are in one ring
     pub joins-chosen : (first last : Corner) → Some first ≡ chosen_corner m face (start_of points) (next_of points) → Some last ≡ chosen_corner m face (end_of points) (last_but_one points)

@@ -11,22 +11,14 @@ use Rattle.cad_rows.specs.declared.names.Face.{Face}
 use Rattle.cad_rings.specs.Cycle.{Ring, Side, is_side, has_side, sides_of, Corner, turned}
 use Rattle.cad_rings.proofs.CallerLemmas.{is_side-same, sides_of-turned}
 use Rattle.cad_map.specs.Walk.{first_side}
-use Rattle.cad_map.proofs.TrailsOfRings.{first-is}
+use Rattle.cad_map.proofs.CallerLemmas.{first-is, All-append, drop-at, canonical_order-permuted, All-join, in_parts, place-of, only-in, cut_ring, has_side-Contains, once-from_pairs}
 use Rattle.cad_rings.specs.Surgery.{stretch, left_ring, AreTwoPlaces}
 use Rattle.cad_map.specs.declared.boundary.Boundary.{Boundary}
-use Rattle.cad_map.specs.Boundaries.{shown, listed}
+use Rattle.cad_map.specs.Boundaries.{canonical_form, canonical_order}
 use Rattle.cad_map.specs.Chain.{leaving, inner_of}
 use Rattle.cad_map.specs.Division.{place_of, ring_with}
 use Rattle.cad_map.specs.Map.{Map, has_point, rings_of, all_sides}
 use Rattle.cad_map.specs.Rings.{HasWholeRings}
-use Rattle.cad_map.proofs.Lists.{All-append, drop-at}
-use Rattle.cad_map.proofs.Listed.{listed-permuted}
-use Rattle.cad_map.proofs.AddedRows.{All-join}
-use Rattle.cad_map.proofs.ChainFacts.{in_parts}
-use Rattle.cad_map.proofs.CutSides.{place-of, only-in}
-use Rattle.cad_map.proofs.Divided.{cut_ring}
-use Rattle.cad_map.proofs.FacesBeside.{has_side-Contains}
-use Rattle.cad_map.proofs.Walks.{once-from_pairs}
 use Rattle.cad_edit.proofs.SidesGiven.{ends-of_ring, points-there}
 
 -- ---- The ring and the places of sides
@@ -150,10 +142,10 @@ left-points m whole face chain first last long known one j =
     subst (λ (r : Ring). AllByRecursion P (left_ring (place_of (leaving first) r) j (inner_of chain) r)) (sym own.2)
     (left-all P own.0.ring all (place_of (leaving first) own.0.ring) j chain long known (subst P (sym at.at) there))
 
--- ---- Two rings put last are listed as if they were first
+-- ---- Two rings put last have the canonical order that they have put first
 
-pub listed-last_two : (bs : List Boundary) (a b : Boundary) → listed ((bs ++ a ∷ []) ++ b ∷ []) ≡ listed (a ∷ b ∷ bs)
-listed-last_two bs a b =
-    ap listed (append_assoc bs (a ∷ []) (b ∷ []))
-    ∙ listed-permuted (bs ++ a ∷ b ∷ []) (a ∷ b ∷ bs)
-    (subst (λ (l : List Boundary). IsPermutation l (map shown (a ∷ b ∷ bs))) (sym (map-append shown bs (a ∷ b ∷ []))) (IsPermutation-append_comm (map shown bs) (map shown (a ∷ b ∷ []))))
+pub canonical_order-last_two : (bs : List Boundary) (a b : Boundary) → canonical_order ((bs ++ a ∷ []) ++ b ∷ []) ≡ canonical_order (a ∷ b ∷ bs)
+canonical_order-last_two bs a b =
+    ap canonical_order (append_assoc bs (a ∷ []) (b ∷ []))
+    ∙ canonical_order-permuted (bs ++ a ∷ b ∷ []) (a ∷ b ∷ bs)
+    (subst (λ (l : List Boundary). IsPermutation l (map canonical_form (a ∷ b ∷ bs))) (sym (map-append canonical_form bs (a ∷ b ∷ []))) (IsPermutation-append_comm (map canonical_form bs) (map canonical_form (a ∷ b ∷ []))))

@@ -8,11 +8,7 @@ use Rattle.cad_rings.proofs.CallerLemmas.{anchor_of-Contains}
 use Rattle.cad_map.specs.declared.boundary.Boundary.{Boundary}
 use Rattle.cad_map.specs.Map.{Map, has_point}
 use Rattle.cad_map.specs.Rings.{HasWholeRings}
-use Rattle.cad_map.proofs.Lists.{All-push}
-use Rattle.cad_map.proofs.Elements.{Contains-first, All-at_each}
-use Rattle.cad_map.proofs.ChainFacts.{ends-along}
-use Rattle.cad_map.proofs.FirstCorners.{two-each}
-use Rattle.cad_map.proofs.RingsOfMap.{ring-sides-few}
+use Rattle.cad_map.proofs.CallerLemmas.{All-push, Contains-first, All-at_each, ends-along, two-each, ring-sides-few}
 
 module _ (ring : Ring) (given left rest : List Side) (s : Side) (whole : given ++ left ≡ sides_of ring) (step : left ≡ s ∷ rest) where
   pub given-more : (given ++ s ∷ []) ++ rest ≡ sides_of ring
@@ -34,7 +30,7 @@ module _ (m : Map) (whole : HasWholeRings m) (b : Boundary) (there : Contains m.
   points-there = All-at_each (λ (b : Boundary). AllByRecursion (λ p. IsTrue (has_point m p)) b.ring) m.boundaries b whole.v1.points_of_rings there
 
   pub sides-few : length (sides_of b.ring) ≤ 400000
-  sides-few = let few = ring-sides-few m m.boundaries whole whole.v1.in_order (two-each m whole) b there in let most = whole.v1.few_strings in omega (arith, few, most)
+  sides-few = let few = ring-sides-few m m.boundaries whole whole.v1.canonical (two-each m whole) b there in let most = whole.v1.few_strings in omega (arith, few, most)
 
   pub anchor-there : IsTrue (has_point m (anchor_of b.ring))
   anchor-there =

@@ -7,7 +7,7 @@ use Rattle.cad_rows.specs.declared.rows.StringRow.{StringRow}
 use Rattle.cad_map.specs.Map.{Map, string_of}
 use Rattle.cad_map.specs.Table.{row_with, without_row}
 use Rattle.cad_map.specs.Valid.{EachPair}
-use Rattle.cad_map.proofs.RowsLeft.{none-push}
+use Rattle.cad_map.proofs.CallerLemmas.{none-push}
 
 -- what is left from a place on: the row there, and those behind it
 pub drop-next : {X : Type 0} (xs : List X) (i : ℕ) (x : X) → i < length xs → slice_index_or xs i x ≡ x → drop i xs ≡ x ∷ drop (i + 1) xs

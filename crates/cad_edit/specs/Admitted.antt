@@ -4,7 +4,7 @@ use Rattle.cad_rows.specs.declared.names.Face.{Face}
 use Rattle.cad_rows.specs.declared.edits.Edit.{Edit}
 use Rattle.cad_rows.specs.declared.edits.Edit.TheVariants.{Divide, Merge}
 use Rattle.cad_rings.specs.Cycle.{Corner}
-use Rattle.cad_map.specs.declared.seam.SharedChain.{SharedChain}
+use Rattle.cad_map.specs.declared.shared_chain.SharedChain.{SharedChain}
 use Rattle.cad_map.specs.Chain.{start_of, next_of, end_of, last_but_one, chosen_corner}
 use Rattle.cad_map.specs.Map.{Map}
 use Rattle.cad_map.specs.SharedChains.{IsSharedChain}

@@ -4,8 +4,8 @@ use Rattle.cad_rows.specs.declared.names.Face.{Face}
 use Rattle.cad_rings.specs.Cycle.{Ring, Side, has_side, opposite, sides_of}
 use Rattle.cad_rings.specs.Surgery.{HaveChainInCommon, joined}
 use Rattle.cad_map.specs.declared.boundary.Boundary.{Boundary}
-use Rattle.cad_map.specs.declared.seam.SharedChain.{SharedChain}
-use Rattle.cad_map.specs.declared.seam.SharedChain.TheVariants.{Along, Around}
+use Rattle.cad_map.specs.declared.shared_chain.SharedChain.{SharedChain}
+use Rattle.cad_map.specs.declared.shared_chain.SharedChain.TheVariants.{Along, Around}
 use Rattle.cad_map.specs.Boundaries.{bounding}
 use Rattle.cad_map.specs.Division.{place_of}
 

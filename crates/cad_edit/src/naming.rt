@@ -128,7 +128,7 @@ fn unknown_for_parcel<M: MapView>(
 }
 
 /// The refusal of an edit that gives this number, where it is in use.
-fn refusal_if_known<M: MapView>(map: &M, name: Name) -> Option<Refusal>
+fn refusal_if_taken<M: MapView>(map: &M, name: Name) -> Option<Refusal>
     ensures { result ≡ (if is_there (M.map map.now) name then Some (Refusal.Taken name) else None) }
 {
     if is_known(map, &name) {
@@ -145,11 +145,11 @@ pub(crate) fn taken_refusal<M: MapView>(map: &M, edit: &Edit) -> Option<Refusal>
     match edit {
         Edit::AddSource { source, .. } => {
             let no = *source;
-            refusal_if_known(map, Name::Source(no))
+            refusal_if_taken(map, Name::Source(no))
         }
         Edit::AddPoint { point, .. } => {
             let no = *point;
-            refusal_if_known(map, Name::Point(no))
+            refusal_if_taken(map, Name::Point(no))
         }
         Edit::Split {
             point,
@@ -158,17 +158,17 @@ pub(crate) fn taken_refusal<M: MapView>(map: &M, edit: &Edit) -> Option<Refusal>
             ..
         } => {
             let (point, first, second) = (*point, *first, *second);
-            if let Some(refusal) = refusal_if_known(map, Name::Point(point)) {
+            if let Some(refusal) = refusal_if_taken(map, Name::Point(point)) {
                 return Some(refusal);
             }
-            if let Some(refusal) = refusal_if_known(map, Name::String(first)) {
+            if let Some(refusal) = refusal_if_taken(map, Name::String(first)) {
                 return Some(refusal);
             }
-            refusal_if_known(map, Name::String(second))
+            refusal_if_taken(map, Name::String(second))
         }
         Edit::Join { string, .. } => {
             let no = *string;
-            refusal_if_known(map, Name::String(no))
+            refusal_if_taken(map, Name::String(no))
         }
         Edit::Divide {
             strings,
@@ -190,11 +190,11 @@ pub(crate) fn taken_refusal<M: MapView>(map: &M, edit: &Edit) -> Option<Refusal>
 }
 
 /// The refusal of an edit that gives these strings' numbers, where one is in use: the first.
-fn refusal_if_known_strings<M: MapView>(map: &M, strings: &[StringNo]) -> Option<Refusal>
+fn refusal_if_taken_strings<M: MapView>(map: &M, strings: &[StringNo]) -> Option<Refusal>
     ensures { result ≡ option_map (λ n. Refusal.Taken n) (find (is_there (M.map map.now)) (strings_named strings.now)) }
 {
     for string in strings {
-        if let Some(refusal) = refusal_if_known(map, Name::String(*string)) {
+        if let Some(refusal) = refusal_if_taken(map, Name::String(*string)) {
             return Some(refusal);
         }
     }
@@ -205,8 +205,8 @@ fn refusal_if_known_strings<M: MapView>(map: &M, strings: &[StringNo]) -> Option
 fn taken_for_parcel<M: MapView>(map: &M, strings: &[StringNo], parcel: ParcelNo) -> Option<Refusal>
     ensures { result ≡ option_map (λ n. Refusal.Taken n) (find (is_there (M.map map.now)) (strings_named strings.now ++ NameOf.Parcel parcel ∷ [])) }
 {
-    if let Some(refusal) = refusal_if_known_strings(map, strings) {
+    if let Some(refusal) = refusal_if_taken_strings(map, strings) {
         return Some(refusal);
     }
-    refusal_if_known(map, Name::Parcel(parcel))
+    refusal_if_taken(map, Name::Parcel(parcel))
 }

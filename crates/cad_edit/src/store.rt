@@ -31,11 +31,11 @@ impl MapView for PlainStore {
 
     ghost rings = { λ store. store.map.boundaries };
 
-    ghost told_face = { λ store side. face_at store.map side };
+    ghost view_face = { λ store side. face_at store.map side };
 
-    ghost told_after = { λ store side. point_after side store.map.boundaries };
+    ghost view_next = { λ store side. point_after side store.map.boundaries };
 
-    ghost told_faces = { λ store number. faces_beside store.map number };
+    ghost view_faces = { λ store number. faces_beside store.map number };
 
     fn counts(&self) -> Counts {
         self.map.counts()

@@ -24,7 +24,7 @@ use Rattle.cad_map.specs.Table.{row_with}
 use Rattle.cad_map.specs.Valid.{EachPair, AreSources, HasSoundRows, IsValid}
 use Rattle.cad_files.specs.Fields.{repeated, distinct_of, face_of, magnitude_of, number_of}
 use Rattle.cad_files.specs.Rows.{Rows, no_rows, IsFace}
-use Rattle.cad_files.specs.PlanRecords.{plan_meant, source_meant, point_meant, parcel_meant, string_meant, retired_meant, open_meant, version_of}
+use Rattle.cad_files.specs.PlanRecords.{plan_of_fields, source_of_fields, point_of_fields, parcel_of_fields, string_of_fields, retired_of_fields, open_of_fields, version_of}
 use Rattle.cad_files.specs.Plan.{Plan, plan_of, plan_step, beginning, reading, opened}
 use Rattle.cad_files.specs.Texts.{Record, first_record, source_record, point_record, parcel_record, string_record, retired_record, open_record, face_field, plan_records, text_of, record_text}
 use Rattle.cad_files.specs.Building.{plan_string_of, rows_of}
@@ -96,7 +96,7 @@ at_most n limit h = grind (arith, nat_tests)
 
 source_step : (n : ℕ) (rows : Rows) (s : SourceRow) → IsNumber s.number → IsLabel s.text → length rows.sources < row_limit
     → plan_step (reading Two n rows) (source_record s) ≡ reading Two (n + 1) (record rows { sources = rows.sources ++ s ∷ [] })
-unfolding plan_step plan_meant source_meant
+unfolding plan_step plan_of_fields source_of_fields
 source_step n rows s number text room =
     rw (number_again s.number number.some (omega (arith, number.within)), text_again s.text text, less (length rows.sources) row_limit room) refl
 
@@ -108,7 +108,7 @@ within z range =
 
 point_step : (n : ℕ) (rows : Rows) (p : PointRow) → IsNumber p.number → OnTheMap p.position → AreReadable p.sources → length rows.points < row_limit
     → plan_step (reading Two n rows) (point_record p) ≡ reading Two (n + 1) (record rows { points = rows.points ++ p ∷ [] })
-unfolding plan_step plan_meant point_meant distinct_of
+unfolding plan_step plan_of_fields point_of_fields distinct_of
 point_step n rows p number position sources room =
     rw (
       number_again p.number number.some (omega (arith, number.within)),
@@ -124,7 +124,7 @@ point_step n rows p number position sources room =
 
 parcel_step : (n : ℕ) (rows : Rows) (p : ParcelRow) → IsNumber p.number → IsLabel p.label → AreReadable p.sources → length rows.parcels < row_limit
     → plan_step (reading Two n rows) (parcel_record p) ≡ reading Two (n + 1) (record rows { parcels = rows.parcels ++ p ∷ [] })
-unfolding plan_step plan_meant parcel_meant distinct_of
+unfolding plan_step plan_of_fields parcel_of_fields distinct_of
 parcel_step n rows p number label sources room =
     rw (
       number_again p.number number.some (omega (arith, number.within)),
@@ -154,7 +154,7 @@ face_again (Parcel n) range =
 
 string_step : (n : ℕ) (rows : Rows) (s : PlanString) → IsNumber s.row.number → IsNumber s.row.from × IsNumber s.row.to → IsFace s.left × IsFace s.right → AreReadable s.row.sources → length rows.strings < string_limit
     → plan_step (reading Two n rows) (string_record s) ≡ reading Two (n + 1) (record rows { strings = rows.strings ++ s ∷ [] })
-unfolding plan_step plan_meant string_meant distinct_of
+unfolding plan_step plan_of_fields string_of_fields distinct_of
 string_step n rows s number ends faces sources room =
     rw (
       number_again s.row.number number.some (omega (arith, number.within)),
@@ -170,7 +170,7 @@ string_step n rows s number ends faces sources room =
 
 retired_step : (n : ℕ) (rows : Rows) (k : ℕ) → IsNumber k → length rows.retired < row_limit
     → plan_step (reading Two n rows) (retired_record k) ≡ reading Two (n + 1) (record rows { retired = rows.retired ++ k ∷ [] })
-unfolding plan_step plan_meant retired_meant
+unfolding plan_step plan_of_fields retired_of_fields
 retired_step n rows k number room = rw (number_again k number.some (omega (arith, number.within)), less (length rows.retired) row_limit room) refl
 
 -- ---- All the records of a kind
@@ -196,7 +196,7 @@ unfolding plan_step version_of
 first_is = refl
 
 open_is : (n : ℕ) (rows : Rows) → plan_step (reading Two n rows) open_record ≡ opened rows
-unfolding plan_step plan_meant open_meant
+unfolding plan_step plan_of_fields open_of_fields
 open_is n rows = refl
 
 -- ---- The rows of a valid map

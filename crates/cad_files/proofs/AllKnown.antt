@@ -13,7 +13,7 @@ use Rattle.cad_rings.specs.Cycle.{opposite}
 use Rattle.cad_map.specs.Map.{Map, has_source, has_point, has_face, side_of}
 use Rattle.cad_map.specs.Refusals.{is_there}
 use Rattle.cad_map.specs.Valid.{AreSources, IsValid}
-use Rattle.cad_files.specs.Building.{map_of, rows_of, plan_string_of, unknown, missing, sources_named, points_name, parcels_name, face_named, string_names, strings_name}
+use Rattle.cad_files.specs.Building.{map_of, rows_of, plan_string_of, unknown_name, missing_name, sources_named, points_name, parcels_name, names_of_face, string_names, strings_name}
 use Rattle.cad_files.proofs.AgainFacts.{face-known}
 use Rattle.cad_files.proofs.MapAgain.{without_rings}
 
@@ -22,7 +22,7 @@ module _ (m : Map) where
   abbrev AreThere : List Name → Type 0
   AreThere names = AllByRecursion (λ n. is_there m n ≡ true) names
 
-  none_missing : (names : List Name) → AreThere names → missing m names ≡ None
+  none_missing : (names : List Name) → AreThere names → missing_name m names ≡ None
   none_missing [] all = refl
   none_missing (n ∷ names) all = rw all.0 (none_missing names all.1)
 
@@ -44,7 +44,7 @@ module _ (m : Map) where
   parcels-there [] all = tt
   parcels-there (p ∷ ps) all = together (sources_named p.sources) _ (sources-there p.sources all.0.known) (parcels-there ps all.1)
 
-  face-there : (f : Face) → IsTrue (has_face m f) → AreThere (face_named f)
+  face-there : (f : Face) → IsTrue (has_face m f) → AreThere (names_of_face f)
   face-there Outside known = tt
   face-there (Parcel n) known = (known, tt)
 
@@ -56,8 +56,8 @@ module _ (m : Map) where
           ends.0,
           (
             ends.1,
-            together (face_named t.left) (face_named t.right ++ sources_named s.sources) (face-there t.left (face-known m v (side_of s)))
-                (together (face_named t.right) (sources_named s.sources) (face-there t.right (face-known m v (opposite (side_of s)))) (sources-there s.sources named.known)),
+            together (names_of_face t.left) (names_of_face t.right ++ sources_named s.sources) (face-there t.left (face-known m v (side_of s)))
+                (together (names_of_face t.right) (sources_named s.sources) (face-there t.right (face-known m v (opposite (side_of s)))) (sources-there s.sources named.known)),
           ),
         )
 
@@ -73,11 +73,11 @@ same_there m (name.String n) = ap (λ (k : Map). is_there k (name.String n)) (wi
 same_there m (name.Parcel n) = refl
 same_there m (name.Source n) = refl
 
-same_missing : (m : Map) (names : List Name) → missing (map_of (rows_of m)) names ≡ missing m names
+same_missing : (m : Map) (names : List Name) → missing_name (map_of (rows_of m)) names ≡ missing_name m names
 same_missing m [] = refl
 same_missing m (n ∷ names) = rw (same_there m n, same_missing m names) refl
 
-pub none_unknown : (m : Map) → IsValid m → unknown (rows_of m) ≡ None
+pub none_unknown : (m : Map) → IsValid m → unknown_name (rows_of m) ≡ None
 none_unknown m valid =
     let v = valid.sound.v1 in
     let strings = map (plan_string_of m) m.strings in

@@ -8,8 +8,7 @@ use Rattle.std.proofs.lemmas.List.Folds.{list_any-append}
 use Rattle.std.proofs.lemmas.Option.{slice_get_cases, get_or_from_slice_get, slice_get_within}
 use Rattle.cad_rings.specs.Cycle.{Side, is_side, has_side}
 use Rattle.cad_map.specs.Map.{Map}
-use Rattle.cad_map.proofs.Lists.{drop-at}
-use Rattle.cad_map.proofs.Elements.{All-at_each, Contains-at}
+use Rattle.cad_map.proofs.CallerLemmas.{drop-at, All-at_each, Contains-at}
 use Rattle.cad_files.specs.Follower.{followers, LabelledSide, labelled_sides}
 use Rattle.cad_files.specs.Building.{is_bad_corner, first_bad_corner, bad_corner}
 use Rattle.cad_files.specs.Cycles.{plan_side_of, AreLinked}

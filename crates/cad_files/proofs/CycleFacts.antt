@@ -10,10 +10,8 @@ use Rattle.cad_rows.specs.declared.names.Face.{Face}
 use Rattle.cad_rings.specs.Cycle.{Side, is_side, Corner, corners_along, corners_of}
 use Rattle.cad_map.specs.declared.boundary.Boundary.{Boundary}
 use Rattle.cad_map.specs.Valid.{EachPair}
-use Rattle.cad_map.proofs.Lists.{All-push, All-map, All-follows, All-from_Contains, All-permuted, All-Contains}
-use Rattle.cad_map.proofs.Elements.{Contains-cases, Contains-first, Contains-later, count-some, count-map, one-only}
-use Rattle.cad_map.proofs.Walks.{is_side-refl, once-from_pairs}
-use Rattle.cad_files.specs.Cycles.{FollowedSide, side_of, side_behind, HasNext, AreFollowed, followed_of, followed_in}
+use Rattle.cad_map.proofs.CallerLemmas.{All-push, All-map, All-follows, All-from_Contains, All-permuted, All-Contains, Contains-cases, Contains-first, Contains-later, count-some, count-map, one-only, is_side-refl, once-from_pairs}
+use Rattle.cad_files.specs.Cycles.{FollowedSide, side_of_followed, side_behind, HasNext, AreFollowed, followed_of, followed_in}
 
 -- ---- Sides of which no two have the same key
 
@@ -58,21 +56,21 @@ module _ (key : FollowedSide → Side) where
 
 -- the sides that are left while the ring from the first side has come to the last
 pub record IsOpen (first last : FollowedSide) (rest : List FollowedSide) : Type 0 where
-  pub once : Once side_of (first ∷ rest)
+  pub once : Once side_of_followed (first ∷ rest)
   pub apart : Once side_behind (last ∷ rest)
   pub next : AllByRecursion (HasNext (first ∷ rest)) (last ∷ rest)
   pub ends : AllByRecursion (λ s. s.from ≢ s.to) (first ∷ rest)
 
 open-begins : (first : FollowedSide) (rest : List FollowedSide) → AreFollowed (first ∷ rest) → IsOpen first first rest
-open-begins first rest are = record { once = Once-from_pairs side_of (first ∷ rest) are.once; apart = Once-from_pairs side_behind (first ∷ rest) are.apart; next = are.next; ends = are.ends }
+open-begins first rest are = record { once = Once-from_pairs side_of_followed (first ∷ rest) are.once; apart = Once-from_pairs side_behind (first ∷ rest) are.apart; next = are.next; ends = are.ends }
 
 -- a side that another leads to than the last one does keeps what it leads to
-module _ (first last x : FollowedSide) (left : List FollowedSide) (opened : IsOpen first last (x ∷ left)) (behind : side_of x ≡ side_behind last) where
+module _ (first last x : FollowedSide) (left : List FollowedSide) (opened : IsOpen first last (x ∷ left)) (behind : side_of_followed x ≡ side_behind last) where
   keeps : (s : FollowedSide) → Contains (x ∷ left) s → HasNext (first ∷ x ∷ left) s → HasNext (first ∷ left) s
   keeps s there h = record { next = h.next; among = by (Contains-cases first (x ∷ left) h.next h.among); behind = h.behind; face = h.face }
     where
       later : (x ≡ h.next) ⊎ Contains left h.next → Contains (first ∷ left) h.next
-      later (inl is) = absurd (Once-other side_behind last (x ∷ left) opened.apart s there (sym behind ∙ ap side_of is ∙ h.behind))
+      later (inl is) = absurd (Once-other side_behind last (x ∷ left) opened.apart s there (sym behind ∙ ap side_of_followed is ∙ h.behind))
       later (inr among) = Contains-later first left h.next among
 
       by : (first ≡ h.next) ⊎ Contains (x ∷ left) h.next → Contains (first ∷ left) h.next
@@ -81,7 +79,7 @@ module _ (first last x : FollowedSide) (left : List FollowedSide) (opened : IsOp
 
   open-front : IsOpen first x left
   open-front = record {
-    once = Once-but_second side_of first x left opened.once;
+    once = Once-but_second side_of_followed first x left opened.once;
     apart = Once-tail side_behind last (x ∷ left) opened.apart;
     next = All-from_Contains (HasNext (first ∷ left)) (x ∷ left) (λ s there. keeps s there (All-Contains (HasNext (first ∷ x ∷ left)) (x ∷ left) s opened.next.1 there));
     ends = (opened.ends.0, opened.ends.1.1);
@@ -90,28 +88,28 @@ module _ (first last x : FollowedSide) (left : List FollowedSide) (opened : IsOp
   front-face : x.face ≡ last.face
   front-face =
       let h = opened.next.0 in
-      let same : x ≡ h.next = Once-same side_of (first ∷ x ∷ left) opened.once x h.next (Contains-later first (x ∷ left) x (Contains-first x left)) h.among (behind ∙ sym h.behind) in
+      let same : x ≡ h.next = Once-same side_of_followed (first ∷ x ∷ left) opened.once x h.next (Contains-later first (x ∷ left) x (Contains-first x left)) h.among (behind ∙ sym h.behind) in
       ap (λ (s : FollowedSide). s.face) same ∙ h.face
 
 -- no side is left to which the last one leads
-module _ (first last : FollowedSide) (rest : List FollowedSide) (opened : IsOpen first last rest) (none : AllByRecursion (λ s. side_of s ≢ side_behind last) rest) where
-  is_first : (t : FollowedSide) → Contains (first ∷ rest) t → side_of t ≡ side_behind last → first ≡ t
-  is_first t there behind = elim (Contains-cases first rest t there) [ inl is ↦ is | inr among ↦ absurd (All-Contains (λ s. side_of s ≢ side_behind last) rest t none among behind) ]
+module _ (first last : FollowedSide) (rest : List FollowedSide) (opened : IsOpen first last rest) (none : AllByRecursion (λ s. side_of_followed s ≢ side_behind last) rest) where
+  is_first : (t : FollowedSide) → Contains (first ∷ rest) t → side_of_followed t ≡ side_behind last → first ≡ t
+  is_first t there behind = elim (Contains-cases first rest t there) [ inl is ↦ is | inr among ↦ absurd (All-Contains (λ s. side_of_followed s ≢ side_behind last) rest t none among behind) ]
 
   -- then it leads to the first
-  back : side_behind last ≡ side_of first
-  back = let h = opened.next.0 in sym (ap side_of (is_first h.next h.among h.behind) ∙ h.behind)
+  back : side_behind last ≡ side_of_followed first
+  back = let h = opened.next.0 in sym (ap side_of_followed (is_first h.next h.among h.behind) ∙ h.behind)
 
   keeps-closed : (s : FollowedSide) → Contains rest s → HasNext (first ∷ rest) s → HasNext rest s
   keeps-closed s there h = record { next = h.next; among = by (Contains-cases first rest h.next h.among); behind = h.behind; face = h.face }
     where
       by : (first ≡ h.next) ⊎ Contains rest h.next → Contains rest h.next
-      by (inl is) = absurd (Once-other side_behind last rest opened.apart s there (back ∙ ap side_of is ∙ h.behind))
+      by (inl is) = absurd (Once-other side_behind last rest opened.apart s there (back ∙ ap side_of_followed is ∙ h.behind))
       by (inr among) = among
 
   closed : AreFollowed rest
   closed = record {
-    once = pairs-from_Once side_of rest (Once-tail side_of first rest opened.once);
+    once = pairs-from_Once side_of_followed rest (Once-tail side_of_followed first rest opened.once);
     apart = pairs-from_Once side_behind rest (Once-tail side_behind last rest opened.apart);
     next = All-from_Contains (HasNext rest) rest (λ s there. keeps-closed s there (All-Contains (HasNext (first ∷ rest)) rest s opened.next.1 there));
     ends = opened.ends.1;
@@ -120,7 +118,7 @@ module _ (first last : FollowedSide) (rest : List FollowedSide) (opened : IsOpen
 -- sides in another order
 pub AreFollowed-permuted : (xs ys : List FollowedSide) → IsPermutation xs ys → AreFollowed xs → AreFollowed ys
 AreFollowed-permuted xs ys p are = record {
-  once = pairs-from_Once side_of ys (Once-permuted side_of xs ys p (Once-from_pairs side_of xs are.once));
+  once = pairs-from_Once side_of_followed ys (Once-permuted side_of_followed xs ys p (Once-from_pairs side_of_followed xs are.once));
   apart = pairs-from_Once side_behind ys (Once-permuted side_behind xs ys p (Once-from_pairs side_behind xs are.apart));
   next = All-follows (HasNext xs) (HasNext ys) (λ s h. record { next = h.next; among = Contains-permutation xs ys h.next p h.among; behind = h.behind; face = h.face }) ys (All-permuted (HasNext xs) xs ys p are.next);
   ends = All-permuted (λ s. s.from ≢ s.to) xs ys p are.ends;
@@ -131,9 +129,9 @@ AreFollowed-permuted xs ys p are = record {
 -- each side leads to the next one, and the last to z
 abbrev pub IsChain : FollowedSide → List FollowedSide → Side → Type 0
 IsChain s [] z = side_behind s ≡ z
-IsChain s (t ∷ ts) z = (side_behind s ≡ side_of t) × IsChain t ts z
+IsChain s (t ∷ ts) z = (side_behind s ≡ side_of_followed t) × IsChain t ts z
 
-chain-push : (s : FollowedSide) (ts : List FollowedSide) (x : FollowedSide) → IsChain s ts (side_of x) → IsChain s (ts ++ x ∷ []) (side_behind x)
+chain-push : (s : FollowedSide) (ts : List FollowedSide) (x : FollowedSide) → IsChain s ts (side_of_followed x) → IsChain s (ts ++ x ∷ []) (side_behind x)
 chain-push s [] x h = (h, refl)
 chain-push s (t ∷ ts) x h = (h.0, chain-push t ts x h.1)
 
@@ -150,7 +148,7 @@ with_face f c = record { from = c.before; to = c.at; after = c.after; face = f }
 same_side : (f : Face) (s : FollowedSide) (b c : ℕ) → side_behind s ≡ (b, c) → s.face ≡ f → with_face f (record { before = s.from; at = b; after = c }) ≡ s
 same_side f s b c behind face = λ i. record { from = s.from; to = (sym behind i).0; after = (sym behind i).1; face = sym face i }
 
-along : (f : Face) (s t : FollowedSide) (ts : List FollowedSide) (y z : ℕ) → side_behind s ≡ side_of t → IsChain t ts (y, z) → s.face ≡ f → AllByRecursion (λ u. u.face ≡ f) (t ∷ ts)
+along : (f : Face) (s t : FollowedSide) (ts : List FollowedSide) (y z : ℕ) → side_behind s ≡ side_of_followed t → IsChain t ts (y, z) → s.face ≡ f → AllByRecursion (λ u. u.face ≡ f) (t ∷ ts)
     → map (with_face f) (corners_along s.from t.from (map start ts ++ y ∷ z ∷ [])) ≡ s ∷ t ∷ ts
 along f s t [] y z h chain face faces =
     let on : side_behind s ≡ (t.from, y) = h ∙ ap (λ (v : Side). (t.from, v.0)) chain in
@@ -159,13 +157,13 @@ along f s t (u ∷ us) y z h chain face faces =
     let on : side_behind s ≡ (t.from, u.from) = h ∙ ap (λ (v : Side). (t.from, v.0)) chain.0 in
     λ i. same_side f s t.from u.from on face i ∷ along f t u us y z chain.0 chain.1 faces.0 faces.1 i
 
-followed-chain : (first : FollowedSide) (path : List FollowedSide) → IsChain first path (side_of first) → first.from ≢ first.to → AllByRecursion (λ s. s.face ≡ first.face) path → followed_of (ring_along first path) ≡ first ∷ path
+followed-chain : (first : FollowedSide) (path : List FollowedSide) → IsChain first path (side_of_followed first) → first.from ≢ first.to → AllByRecursion (λ s. s.face ≡ first.face) path → followed_of (ring_along first path) ≡ first ∷ path
 followed-chain first [] chain ends faces = absurd (ends (sym (ap (λ (v : Side). v.0) chain)))
 followed-chain first (t ∷ ts) chain ends faces =
     let to : first.to ≡ t.from = ap (λ (v : Side). v.0) chain.0 in
     along first.face first t ts first.from t.from chain.0 (subst (λ (n : ℕ). IsChain t ts (first.from, n)) to chain.1) refl faces
 
-length-chain : (first : FollowedSide) (path : List FollowedSide) → IsChain first path (side_of first) → first.from ≢ first.to → 2 ≤ length (map start (first ∷ path))
+length-chain : (first : FollowedSide) (path : List FollowedSide) → IsChain first path (side_of_followed first) → first.from ≢ first.to → 2 ≤ length (map start (first ∷ path))
 length-chain first [] chain ends = absurd (ends (sym (ap (λ (v : Side). v.0) chain)))
 length-chain first (t ∷ ts) chain ends = omega arith
 
@@ -186,7 +184,7 @@ way-begins first rest are =
     record { path = []; through = refl; chain = refl; faces = tt; last_face = refl; all = IsPermutation-refl (first ∷ rest); opened = open-begins first rest are }
 
 module _ (first : FollowedSide) (old : List FollowedSide) (points : List ℕ) (last : FollowedSide) (rest : List FollowedSide) (way : IsOnWay first old points last rest) where
-  pub way-goes_on : (x : FollowedSide) (left : List FollowedSide) → side_of x ≡ side_behind last → IsPermutation rest (x ∷ left) → IsOnWay first old (points ++ x.from ∷ []) x left
+  pub way-goes_on : (x : FollowedSide) (left : List FollowedSide) → side_of_followed x ≡ side_behind last → IsPermutation rest (x ∷ left) → IsOnWay first old (points ++ x.from ∷ []) x left
   way-goes_on x left behind p = record {
     path = way.path ++ x ∷ [];
     through = ap (λ (l : List ℕ). l ++ x.from ∷ []) way.through ∙ sym (map-append start (first ∷ way.path) (x ∷ []));
@@ -199,7 +197,7 @@ module _ (first : FollowedSide) (old : List FollowedSide) (points : List ℕ) (l
     where
       opened : IsOpen first last (x ∷ left)
       opened = record {
-        once = Once-permuted side_of (first ∷ rest) (first ∷ x ∷ left) (IsPermutation-cons first rest (x ∷ left) p) way.opened.once;
+        once = Once-permuted side_of_followed (first ∷ rest) (first ∷ x ∷ left) (IsPermutation-cons first rest (x ∷ left) p) way.opened.once;
         apart = Once-permuted side_behind (last ∷ rest) (last ∷ x ∷ left) (IsPermutation-cons last rest (x ∷ left) p) way.opened.apart;
         next = All-permuted (HasNext (first ∷ x ∷ left)) (last ∷ rest) (last ∷ x ∷ left) (IsPermutation-cons last rest (x ∷ left) p)
             (All-follows (HasNext (first ∷ rest)) (HasNext (first ∷ x ∷ left)) among (last ∷ rest) way.opened.next);
@@ -213,8 +211,8 @@ module _ (first : FollowedSide) (old : List FollowedSide) (points : List ℕ) (l
       face = front-face first last x left opened behind ∙ way.last_face
 
   -- where no side is left to which the last one leads, the ring is closed
-  module _ (none : AllByRecursion (λ s. side_of s ≢ side_behind last) rest) where
-    chain-closed : IsChain first way.path (side_of first)
+  module _ (none : AllByRecursion (λ s. side_of_followed s ≢ side_behind last) rest) where
+    chain-closed : IsChain first way.path (side_of_followed first)
     chain-closed = subst (λ (v : Side). IsChain first way.path v) (back first last rest way.opened none) way.chain
 
     pub way-ring : IsPermutation (first ∷ old) (followed_of (record { face = first.face; ring = points }) ++ rest)

@@ -12,15 +12,11 @@ use Rattle.cad_rows.specs.declared.rows.StringRow.{StringRow}
 use Rattle.cad_rings.specs.Cycle.{Side, is_side, has_side, opposite, sides_of, Corner, corners_of}
 use Rattle.cad_rings.proofs.CallerLemmas.{is_side-same, sides_of-least_rotation, IsSameRing-least_rotation, IsSameRing-length}
 use Rattle.cad_map.specs.declared.boundary.Boundary.{Boundary}
-use Rattle.cad_map.specs.Boundaries.{shown, listed, sides_in, corners_in}
+use Rattle.cad_map.specs.Boundaries.{canonical_form, canonical_order, sides_in, corners_in}
 use Rattle.cad_map.specs.Map.{Map, side_of as side_of_row, string_sides, all_sides, all_corners, left_face, right_face, face_at}
-use Rattle.cad_map.proofs.Lists.{All-map, All-follows, All-from_Contains, All-permuted, All-Contains, All-flat_map}
-use Rattle.cad_map.proofs.Listed.{listed-listed, IsPermutation-listed}
-use Rattle.cad_map.proofs.ListedSides.{sides_in-listed, corners_in-listed}
-use Rattle.cad_map.proofs.Elements.{Contains-cases, Contains-first, Contains-later, Contains-flat_map}
-use Rattle.cad_map.proofs.Walks.{side_before, sides-before, is_side-refl}
+use Rattle.cad_map.proofs.CallerLemmas.{All-map, All-follows, All-from_Contains, All-permuted, All-Contains, All-flat_map, canonical_order-canonical_order, IsPermutation-canonical_order, sides_in-canonical_order, corners_in-canonical_order, Contains-cases, Contains-first, Contains-later, Contains-flat_map, side_before, sides-before, is_side-refl}
 use Rattle.cad_files.specs.Follower.{may_follow, followers, LabelledSide, labelled_sides, HasRingsOf}
-use Rattle.cad_files.specs.Cycles.{FollowedSide, side_of, corner_of, faced, faced_as, AreFollowed, AreSidesOf, followed_of, followed_in}
+use Rattle.cad_files.specs.Cycles.{FollowedSide, side_of_followed, corner_of, side_and_face, labelled_side_and_face, AreFollowed, AreSidesOf, followed_of, followed_in}
 use Rattle.cad_files.specs.declared.rows.PlanString.{PlanString}
 use Rattle.cad_files.proofs.CycleFacts.{Once-same, Once-from_pairs, with_face}
 
@@ -46,17 +42,17 @@ Contains-map {Y = Y} f (z ∷ xs) x h = elim (Contains-cases z xs x h) [
 ]
 
 -- the side of one of these
-has-found : (s : Side) (us : List FollowedSide) → has_side s (map side_of us) ≡ true → (u : FollowedSide) × Contains us u × (s ≡ side_of u)
+has-found : (s : Side) (us : List FollowedSide) → has_side s (map side_of_followed us) ≡ true → (u : FollowedSide) × Contains us u × (s ≡ side_of_followed u)
 has-found s [] has = absurd (true≢false (sym has))
-has-found s (u ∷ us) has = by (λ later. has-found s us later) (is_side s (side_of u)) refl
+has-found s (u ∷ us) has = by (λ later. has-found s us later) (is_side s (side_of_followed u)) refl
   where
-    by : (has_side s (map side_of us) ≡ true → (v : FollowedSide) × Contains us v × (s ≡ side_of v)) → (b : Bool) → is_side s (side_of u) ≡ b → (v : FollowedSide) × Contains (u ∷ us) v × (s ≡ side_of v)
-    by again true is = (u, Contains-first u us, is_side-same s (side_of u) is)
-    by again false is = let found = again (sym (ap (λ (b : Bool). b || has_side s (map side_of us)) is) ∙ has) in (found.0, Contains-later u us found.0 found.1, found.2)
+    by : (has_side s (map side_of_followed us) ≡ true → (v : FollowedSide) × Contains us v × (s ≡ side_of_followed v)) → (b : Bool) → is_side s (side_of_followed u) ≡ b → (v : FollowedSide) × Contains (u ∷ us) v × (s ≡ side_of_followed v)
+    by again true is = (u, Contains-first u us, is_side-same s (side_of_followed u) is)
+    by again false is = let found = again (sym (ap (λ (b : Bool). b || has_side s (map side_of_followed us)) is) ∙ has) in (found.0, Contains-later u us found.0 found.1, found.2)
 
 -- ---- What the rings have
 
-sides-with_face : (f : Face) (cs : List Corner) → map side_of (map (with_face f) cs) ≡ map side_before cs
+sides-with_face : (f : Face) (cs : List Corner) → map side_of_followed (map (with_face f) cs) ≡ map side_before cs
 sides-with_face f [] = refl
 sides-with_face f (c ∷ cs) = ap (λ (l : List Side). side_before c ∷ l) (sides-with_face f cs)
 
@@ -68,13 +64,13 @@ faces-with_face : (f : Face) (cs : List Corner) → AllByRecursion (λ u. u.face
 faces-with_face f [] = tt
 faces-with_face f (c ∷ cs) = (refl, faces-with_face f cs)
 
-sides_of-followed : (b : Boundary) → 2 ≤ length b.ring → map side_of (followed_of b) ≡ sides_of b.ring
+sides_of-followed : (b : Boundary) → 2 ≤ length b.ring → map side_of_followed (followed_of b) ≡ sides_of b.ring
 sides_of-followed b two = sides-with_face b.face (corners_of b.ring) ∙ sides-before b.ring two
 
 -- the sides and the corners of rings are those of their sides with followers
-pub sides_in-followed : (bs : List Boundary) → AllByRecursion (λ b. 2 ≤ length b.ring) bs → map side_of (followed_in bs) ≡ sides_in bs
+pub sides_in-followed : (bs : List Boundary) → AllByRecursion (λ b. 2 ≤ length b.ring) bs → map side_of_followed (followed_in bs) ≡ sides_in bs
 sides_in-followed [] two = refl
-sides_in-followed (b ∷ bs) two = map-append side_of (followed_of b) (followed_in bs) ∙ (λ i. sides_of-followed b two.0 i ++ sides_in-followed bs two.1 i)
+sides_in-followed (b ∷ bs) two = map-append side_of_followed (followed_of b) (followed_in bs) ∙ (λ i. sides_of-followed b two.0 i ++ sides_in-followed bs two.1 i)
 
 pub corners_in-followed : (bs : List Boundary) → map corner_of (followed_in bs) ≡ corners_in bs
 corners_in-followed [] = refl
@@ -84,60 +80,60 @@ corners_in-followed (b ∷ bs) = map-append corner_of (followed_of b) (followed_
 
 -- each of these sides that the ring goes along has the ring's face
 abbrev KeepsFace : List FollowedSide → Boundary → Type 0
-KeepsFace sides b = (t : FollowedSide) → Contains sides t → has_side (side_of t) (sides_of b.ring) ≡ true → t.face ≡ b.face
+KeepsFace sides b = (t : FollowedSide) → Contains sides t → has_side (side_of_followed t) (sides_of b.ring) ≡ true → t.face ≡ b.face
 
 -- where each ring keeps the faces, the first one that has a side has its face
-first-face : (sides : List FollowedSide) (t : FollowedSide) → Contains sides t → (bs : List Boundary) → AllByRecursion (KeepsFace sides) bs → has_side (side_of t) (sides_in bs) ≡ true
-    → option_map (λ b. b.face) (find (λ b. has_side (side_of t) (sides_of b.ring)) bs) ≡ Some t.face
+first-face : (sides : List FollowedSide) (t : FollowedSide) → Contains sides t → (bs : List Boundary) → AllByRecursion (KeepsFace sides) bs → has_side (side_of_followed t) (sides_in bs) ≡ true
+    → option_map (λ b. b.face) (find (λ b. has_side (side_of_followed t) (sides_of b.ring)) bs) ≡ Some t.face
 first-face sides t there [] all has = absurd (true≢false (sym has))
-first-face sides t there (b ∷ bs) all has = by (λ later. first-face sides t there bs all.1 later) (has_side (side_of t) (sides_of b.ring)) refl
+first-face sides t there (b ∷ bs) all has = by (λ later. first-face sides t there bs all.1 later) (has_side (side_of_followed t) (sides_of b.ring)) refl
   where
     here : Bool → Option Face
-    here u = option_map (λ b. b.face) (cond u (Some b) (find (λ b. has_side (side_of t) (sides_of b.ring)) bs))
+    here u = option_map (λ b. b.face) (cond u (Some b) (find (λ b. has_side (side_of_followed t) (sides_of b.ring)) bs))
 
-    by : (has_side (side_of t) (sides_in bs) ≡ true → option_map (λ b. b.face) (find (λ b. has_side (side_of t) (sides_of b.ring)) bs) ≡ Some t.face) → (u : Bool) → has_side (side_of t) (sides_of b.ring) ≡ u
-        → option_map (λ b. b.face) (find (λ b. has_side (side_of t) (sides_of b.ring)) (b ∷ bs)) ≡ Some t.face
+    by : (has_side (side_of_followed t) (sides_in bs) ≡ true → option_map (λ b. b.face) (find (λ b. has_side (side_of_followed t) (sides_of b.ring)) bs) ≡ Some t.face) → (u : Bool) → has_side (side_of_followed t) (sides_of b.ring) ≡ u
+        → option_map (λ b. b.face) (find (λ b. has_side (side_of_followed t) (sides_of b.ring)) (b ∷ bs)) ≡ Some t.face
     by again true is = ap here is ∙ ap Some (sym (all.0 t there is))
-    by again false is = ap here is ∙ again (sym (ap (λ (u : Bool). u || has_side (side_of t) (sides_in bs)) is) ∙ sym (list_any-append (is_side (side_of t)) (sides_of b.ring) (sides_in bs)) ∙ has)
+    by again false is = ap here is ∙ again (sym (ap (λ (u : Bool). u || has_side (side_of_followed t) (sides_in bs)) is) ∙ sym (list_any-append (is_side (side_of_followed t)) (sides_of b.ring) (sides_in bs)) ∙ has)
 
 module _ (sides : List FollowedSide) (bs : List Boundary) (are : AreFollowed sides) (two : AllByRecursion (λ b. 2 ≤ length b.ring) bs) (rings : IsPermutation sides (followed_in bs)) where
   keeps-face : (b : Boundary) → Contains bs b → KeepsFace sides b
   keeps-face b there t among has =
-      let found = has-found (side_of t) (followed_of b) (ap (has_side (side_of t)) (sides_of-followed b (All-Contains (λ b. 2 ≤ length b.ring) bs b two there)) ∙ has) in
+      let found = has-found (side_of_followed t) (followed_of b) (ap (has_side (side_of_followed t)) (sides_of-followed b (All-Contains (λ b. 2 ≤ length b.ring) bs b two there)) ∙ has) in
       let u = found.0 in
       let in_sides = Contains-permutation (followed_in bs) sides u (IsPermutation-sym sides (followed_in bs) rings) (Contains-flat_map followed_of bs b u there found.1) in
-      let same : t ≡ u = Once-same side_of sides (Once-from_pairs side_of sides are.once) t u among in_sides found.2 in
+      let same : t ≡ u = Once-same side_of_followed sides (Once-from_pairs side_of_followed sides are.once) t u among in_sides found.2 in
       ap (λ (s : FollowedSide). s.face) same ∙ All-Contains (λ u. u.face ≡ b.face) (followed_of b) u (faces-with_face b.face (corners_of b.ring)) found.1
 
-  keeps-shown : (b : Boundary) → Contains bs b → KeepsFace sides (shown b)
-  keeps-shown b there t among has = keeps-face b there t among (list_any-IsPermutation (is_side (side_of t)) (sides_of b.ring) (sides_of (shown b).ring) (sides_of-least_rotation b.ring) ∙ has)
+  keeps-shown : (b : Boundary) → Contains bs b → KeepsFace sides (canonical_form b)
+  keeps-shown b there t among has = keeps-face b there t among (list_any-IsPermutation (is_side (side_of_followed t)) (sides_of b.ring) (sides_of (canonical_form b).ring) (sides_of-least_rotation b.ring) ∙ has)
 
-  keep-faces : AllByRecursion (KeepsFace sides) (listed bs)
-  keep-faces = All-permuted (KeepsFace sides) (map shown bs) (listed bs) (IsPermutation-listed bs) (All-map (KeepsFace sides) shown bs (All-from_Contains (λ b. KeepsFace sides (shown b)) bs keeps-shown))
+  keep-faces : AllByRecursion (KeepsFace sides) (canonical_order bs)
+  keep-faces = All-permuted (KeepsFace sides) (map canonical_form bs) (canonical_order bs) (IsPermutation-canonical_order bs) (All-map (KeepsFace sides) canonical_form bs (All-from_Contains (λ b. KeepsFace sides (canonical_form b)) bs keeps-shown))
 
-  -- the sides of the rings as they are listed
-  sides-listed : IsPermutation (map side_of sides) (sides_in (listed bs))
-  sides-listed =
-      IsPermutation-trans (map side_of sides) (sides_in bs) (sides_in (listed bs))
-      (subst (λ (l : List Side). IsPermutation (map side_of sides) l) (sides_in-followed bs two) (IsPermutation-map side_of sides (followed_in bs) rings))
-      (sides_in-listed bs)
+  -- the sides of the rings in canonical order
+  sides-canonical_order : IsPermutation (map side_of_followed sides) (sides_in (canonical_order bs))
+  sides-canonical_order =
+      IsPermutation-trans (map side_of_followed sides) (sides_in bs) (sides_in (canonical_order bs))
+      (subst (λ (l : List Side). IsPermutation (map side_of_followed sides) l) (sides_in-followed bs two) (IsPermutation-map side_of_followed sides (followed_in bs) rings))
+      (sides_in-canonical_order bs)
 
-  face-found : (t : FollowedSide) → Contains sides t → option_map (λ b. b.face) (find (λ b. has_side (side_of t) (sides_of b.ring)) (listed bs)) ≡ Some t.face
+  face-found : (t : FollowedSide) → Contains sides t → option_map (λ b. b.face) (find (λ b. has_side (side_of_followed t) (sides_of b.ring)) (canonical_order bs)) ≡ Some t.face
   face-found t there =
-      first-face sides t there (listed bs) keep-faces
-      (has-from_Contains (side_of t) (sides_in (listed bs)) (Contains-permutation (map side_of sides) (sides_in (listed bs)) (side_of t) sides-listed (Contains-map side_of sides t there)))
+      first-face sides t there (canonical_order bs) keep-faces
+      (has-from_Contains (side_of_followed t) (sides_in (canonical_order bs)) (Contains-permutation (map side_of_followed sides) (sides_in (canonical_order bs)) (side_of_followed t) sides-canonical_order (Contains-map side_of_followed sides t there)))
 
 -- ---- The rings of the strings
 
 module _ (P : Side → Face → Type 0) where
   -- a fact of the sides with their faces is one of each string's two sides
-  each-string : (strings : List PlanString) → AllByRecursion (λ f. P f.0 f.1) (map faced_as (labelled_sides strings)) → AllByRecursion (λ s. P (side_of_row s.row) s.left × P (opposite (side_of_row s.row)) s.right) strings
+  each-string : (strings : List PlanString) → AllByRecursion (λ f. P f.0 f.1) (map labelled_side_and_face (labelled_sides strings)) → AllByRecursion (λ s. P (side_of_row s.row) s.left × P (opposite (side_of_row s.row)) s.right) strings
   each-string [] all = tt
   each-string (s ∷ strings) all = ((all.0, all.1.0), each-string strings all.1.1)
 
-  each-faced : (sides : List FollowedSide) → AllByRecursion (λ s. P (side_of s) s.face) sides → AllByRecursion (λ f. P f.0 f.1) (map faced sides)
-  each-faced [] all = tt
-  each-faced (s ∷ sides) all = (all.0, each-faced sides all.1)
+  each-side_and_face : (sides : List FollowedSide) → AllByRecursion (λ s. P (side_of_followed s) s.face) sides → AllByRecursion (λ f. P f.0 f.1) (map side_and_face sides)
+  each-side_and_face [] all = tt
+  each-side_and_face (s ∷ sides) all = (all.0, each-side_and_face sides all.1)
 
 abbrev both_sides : StringRow → List Side
 both_sides s = side_of_row s ∷ opposite (side_of_row s) ∷ []
@@ -146,13 +142,13 @@ sides-labelled : (strings : List PlanString) → map (λ l. l.side) (labelled_si
 sides-labelled [] = refl
 sides-labelled (s ∷ strings) = ap (λ (l : List Side). side_of_row s.row ∷ opposite (side_of_row s.row) ∷ l) (sides-labelled strings)
 
-pub sides-faced : (sides : List FollowedSide) → map (λ (f : Side × Face). f.0) (map faced sides) ≡ map side_of sides
-sides-faced [] = refl
-sides-faced (s ∷ sides) = ap (λ (l : List Side). side_of s ∷ l) (sides-faced sides)
+pub sides-side_and_face : (sides : List FollowedSide) → map (λ (f : Side × Face). f.0) (map side_and_face sides) ≡ map side_of_followed sides
+sides-side_and_face [] = refl
+sides-side_and_face (s ∷ sides) = ap (λ (l : List Side). side_of_followed s ∷ l) (sides-side_and_face sides)
 
-pub sides-faced_as : (sides : List LabelledSide) → map (λ (f : Side × Face). f.0) (map faced_as sides) ≡ map (λ l. l.side) sides
-sides-faced_as [] = refl
-sides-faced_as (s ∷ sides) = ap (λ (l : List Side). s.side ∷ l) (sides-faced_as sides)
+pub sides-labelled_side_and_face : (sides : List LabelledSide) → map (λ (f : Side × Face). f.0) (map labelled_side_and_face sides) ≡ map (λ l. l.side) sides
+sides-labelled_side_and_face [] = refl
+sides-labelled_side_and_face (s ∷ sides) = ap (λ (l : List Side). s.side ∷ l) (sides-labelled_side_and_face sides)
 
 -- the followers hang on nothing but strings and points
 pub followers-same : (m n : Map) → m.strings ≡ n.strings → m.points ≡ n.points → (s : Side) → followers m s ≡ followers n s
@@ -164,57 +160,57 @@ pub AreSidesOf-same : (m n : Map) (strings : List PlanString) (sides : List Foll
 AreSidesOf-same m n strings sides same_strings same_points of = record {
   labels = of.labels;
   followers =
-      All-follows (λ s. followers m (side_of s) ≡ s.after ∷ []) (λ s. followers n (side_of s) ≡ s.after ∷ [])
-      (λ s is. sym (followers-same m n same_strings same_points (side_of s)) ∙ is) sides of.followers;
+      All-follows (λ s. followers m (side_of_followed s) ≡ s.after ∷ []) (λ s. followers n (side_of_followed s) ≡ s.after ∷ [])
+      (λ s is. sym (followers-same m n same_strings same_points (side_of_followed s)) ∙ is) sides of.followers;
 }
 
-two-shown : (b : Boundary) → 2 ≤ length b.ring → 2 ≤ length (shown b).ring
-two-shown b two = let e = IsSameRing-length b.ring (shown b).ring (IsSameRing-least_rotation b.ring) in omega arith
+two-shown : (b : Boundary) → 2 ≤ length b.ring → 2 ≤ length (canonical_form b).ring
+two-shown b two = let e = IsSameRing-length b.ring (canonical_form b).ring (IsSameRing-least_rotation b.ring) in omega arith
 
-pub two-listed : (bs : List Boundary) → AllByRecursion (λ b. 2 ≤ length b.ring) bs → AllByRecursion (λ b. 2 ≤ length b.ring) (listed bs)
-two-listed bs two =
-    All-permuted (λ b. 2 ≤ length b.ring) (map shown bs) (listed bs) (IsPermutation-listed bs)
-    (All-map (λ b. 2 ≤ length b.ring) shown bs (All-follows (λ b. 2 ≤ length b.ring) (λ b. 2 ≤ length (shown b).ring) two-shown bs two))
+pub two-canonical_order : (bs : List Boundary) → AllByRecursion (λ b. 2 ≤ length b.ring) bs → AllByRecursion (λ b. 2 ≤ length b.ring) (canonical_order bs)
+two-canonical_order bs two =
+    All-permuted (λ b. 2 ≤ length b.ring) (map canonical_form bs) (canonical_order bs) (IsPermutation-canonical_order bs)
+    (All-map (λ b. 2 ≤ length b.ring) canonical_form bs (All-follows (λ b. 2 ≤ length b.ring) (λ b. 2 ≤ length (canonical_form b).ring) two-shown bs two))
 
 module _ (m : Map) (strings : List PlanString) (sides : List FollowedSide) (bs : List Boundary)
-    (rows : m.strings ≡ map (λ s. s.row) strings) (lists : m.boundaries ≡ listed bs) (of : AreSidesOf m strings sides) (are : AreFollowed sides)
+    (rows : m.strings ≡ map (λ s. s.row) strings) (lists : m.boundaries ≡ canonical_order bs) (of : AreSidesOf m strings sides) (are : AreFollowed sides)
     (two : AllByRecursion (λ b. 2 ≤ length b.ring) bs) (rings : IsPermutation sides (followed_in bs)) where
-  sides-of_strings : map side_of sides ≡ string_sides m
+  sides-of_strings : map side_of_followed sides ≡ string_sides m
   sides-of_strings =
-      sym (sides-faced sides) ∙ ap (λ (l : List (Side × Face)). map (λ (f : Side × Face). f.0) l) of.labels ∙ sides-faced_as (labelled_sides strings)
+      sym (sides-side_and_face sides) ∙ ap (λ (l : List (Side × Face)). map (λ (f : Side × Face). f.0) l) of.labels ∙ sides-labelled_side_and_face (labelled_sides strings)
       ∙ sides-labelled strings ∙ ap (λ (l : List StringRow). flat_map both_sides l) (sym rows)
 
   pub rings-once : IsPermutation (string_sides m) (all_sides m)
   rings-once =
       subst (λ (l : List Side). IsPermutation l (all_sides m)) sides-of_strings
-      (subst (λ (l : List Boundary). IsPermutation (map side_of sides) (sides_in l)) (sym lists) (sides-listed sides bs are two rings))
+      (subst (λ (l : List Boundary). IsPermutation (map side_of_followed sides) (sides_in l)) (sym lists) (sides-canonical_order sides bs are two rings))
 
-  pub rings-in_order : listed m.boundaries ≡ m.boundaries
-  rings-in_order = ap listed lists ∙ listed-listed bs ∙ sym lists
+  pub rings-canonical : canonical_order m.boundaries ≡ m.boundaries
+  rings-canonical = ap canonical_order lists ∙ canonical_order-canonical_order bs ∙ sym lists
 
   abbrev IsFollower : Corner → Type 0
   IsFollower c = Contains (followers m (c.before, c.at)) c.after
 
   followers-of_sides : AllByRecursion (λ s. IsFollower (corner_of s)) sides
-  followers-of_sides = All-follows (λ s. followers m (side_of s) ≡ s.after ∷ []) (λ s. IsFollower (corner_of s)) (λ s is. subst (λ (l : List ℕ). Contains l s.after) (sym is) (Contains-first s.after [])) sides of.followers
+  followers-of_sides = All-follows (λ s. followers m (side_of_followed s) ≡ s.after ∷ []) (λ s. IsFollower (corner_of s)) (λ s is. subst (λ (l : List ℕ). Contains l s.after) (sym is) (Contains-first s.after [])) sides of.followers
 
   pub rings-followers : AllByRecursion IsFollower (all_corners m)
   rings-followers =
       subst (λ (l : List Boundary). AllByRecursion IsFollower (corners_in l)) (sym lists)
-      (All-permuted IsFollower (corners_in bs) (corners_in (listed bs)) (corners_in-listed bs)
+      (All-permuted IsFollower (corners_in bs) (corners_in (canonical_order bs)) (corners_in-canonical_order bs)
       (subst (λ (l : List Corner). AllByRecursion IsFollower l) (corners_in-followed bs)
       (All-map IsFollower corner_of (followed_in bs) (All-permuted (λ s. IsFollower (corner_of s)) sides (followed_in bs) rings followers-of_sides))))
 
   abbrev HasFace : Side → Face → Type 0
   HasFace s f = face_at m s ≡ Some f
 
-  faces-of_sides : AllByRecursion (λ s. HasFace (side_of s) s.face) sides
+  faces-of_sides : AllByRecursion (λ s. HasFace (side_of_followed s) s.face) sides
   faces-of_sides =
-      All-from_Contains (λ s. HasFace (side_of s) s.face) sides
-      (λ t there. ap (λ (l : List Boundary). option_map (λ b. b.face) (find (λ b. has_side (side_of t) (sides_of b.ring)) l)) lists ∙ face-found sides bs are two rings t there)
+      All-from_Contains (λ s. HasFace (side_of_followed s) s.face) sides
+      (λ t there. ap (λ (l : List Boundary). option_map (λ b. b.face) (find (λ b. has_side (side_of_followed t) (sides_of b.ring)) l)) lists ∙ face-found sides bs are two rings t there)
 
   rings-faces : AllByRecursion (λ s. HasFace (side_of_row s.row) s.left × HasFace (opposite (side_of_row s.row)) s.right) strings
-  rings-faces = each-string HasFace strings (subst (λ (l : List (Side × Face)). AllByRecursion (λ f. HasFace f.0 f.1) l) of.labels (each-faced HasFace sides faces-of_sides))
+  rings-faces = each-string HasFace strings (subst (λ (l : List (Side × Face)). AllByRecursion (λ f. HasFace f.0 f.1) l) of.labels (each-side_and_face HasFace sides faces-of_sides))
 
   pub rings-left : AllByRecursion (λ s. left_face m s.row ≡ Some s.left) strings
   rings-left = All-follows (λ s. HasFace (side_of_row s.row) s.left × HasFace (opposite (side_of_row s.row)) s.right) (λ s. left_face m s.row ≡ Some s.left) (λ s both. both.0) strings rings-faces
@@ -224,7 +220,7 @@ module _ (m : Map) (strings : List PlanString) (sides : List FollowedSide) (bs :
 
   -- the rings that are made of the strings' sides are theirs
   pub has-rings : HasRingsOf m strings
-  has-rings = record { rows = rows; once = rings-once; in_order = rings-in_order; followers = rings-followers; left = rings-left; right = rings-right }
+  has-rings = record { rows = rows; once = rings-once; canonical = rings-canonical; followers = rings-followers; left = rings-left; right = rings-right }
 
 -- ---- Rings of three points
 

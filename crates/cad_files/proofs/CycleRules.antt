@@ -6,13 +6,12 @@ use Rattle.cad_rows.specs.declared.names.Face.{Face}
 use Rattle.cad_rows.specs.declared.rows.StringRow.{StringRow}
 use Rattle.cad_rings.specs.Cycle.{Ring, Side, opposite, sides_along, sides_of}
 use Rattle.cad_map.specs.declared.boundary.Boundary.{Boundary}
-use Rattle.cad_map.specs.Boundaries.{shown, listed}
+use Rattle.cad_map.specs.Boundaries.{canonical_form, canonical_order}
 use Rattle.cad_map.specs.Map.{Map, has_point, has_face, side_of as side_of_row, string_sides, all_sides, left_face, right_face}
 use Rattle.cad_map.specs.Valid.{HasCompleteRings}
-use Rattle.cad_map.proofs.Lists.{All-map, All-permuted, All-append, All-flat_map}
-use Rattle.cad_map.proofs.Listed.{IsPermutation-listed}
+use Rattle.cad_map.proofs.CallerLemmas.{All-map, All-permuted, All-append, All-flat_map, IsPermutation-canonical_order}
 use Rattle.cad_files.specs.Follower.{labelled_sides, HasRingsOf}
-use Rattle.cad_files.specs.Cycles.{FollowedSide, AreSidesOf, faced, faced_as, followed_of, followed_in}
+use Rattle.cad_files.specs.Cycles.{FollowedSide, AreSidesOf, side_and_face, labelled_side_and_face, followed_of, followed_in}
 use Rattle.cad_files.specs.declared.rows.PlanString.{PlanString}
 use Rattle.cad_files.proofs.CycleRings.{three}
 
@@ -64,11 +63,11 @@ points-known m strings has ends =
 -- ---- Faces of rings
 
 module _ (P : Face → Type 0) where
-  faces-labelled : (strings : List PlanString) → AllByRecursion (λ s. P s.left × P s.right) strings → AllByRecursion (λ (f : Side × Face). P f.1) (map faced_as (labelled_sides strings))
+  faces-labelled : (strings : List PlanString) → AllByRecursion (λ s. P s.left × P s.right) strings → AllByRecursion (λ (f : Side × Face). P f.1) (map labelled_side_and_face (labelled_sides strings))
   faces-labelled [] all = tt
   faces-labelled (s ∷ strings) all = (all.0.0, (all.0.1, faces-labelled strings all.1))
 
-  faces-of_sides : (sides : List FollowedSide) → AllByRecursion (λ (f : Side × Face). P f.1) (map faced sides) → AllByRecursion (λ s. P s.face) sides
+  faces-of_sides : (sides : List FollowedSide) → AllByRecursion (λ (f : Side × Face). P f.1) (map side_and_face sides) → AllByRecursion (λ s. P s.face) sides
   faces-of_sides [] all = tt
   faces-of_sides (s ∷ sides) all = (all.0, faces-of_sides sides all.1)
 
@@ -88,11 +87,11 @@ module _ (P : Face → Type 0) where
       (face-of_ring b two.0 parts.0, faces-of_rings bs two.1 parts.1)
 
 -- where the strings' faces are known, so are those of the rings
-pub faces-known : (m : Map) (strings : List PlanString) (sides : List FollowedSide) (bs : List Boundary) → m.boundaries ≡ listed bs → AreSidesOf m strings sides → AllByRecursion (λ b. 2 ≤ length b.ring) bs → IsPermutation sides (followed_in bs)
+pub faces-known : (m : Map) (strings : List PlanString) (sides : List FollowedSide) (bs : List Boundary) → m.boundaries ≡ canonical_order bs → AreSidesOf m strings sides → AllByRecursion (λ b. 2 ≤ length b.ring) bs → IsPermutation sides (followed_in bs)
     → AllByRecursion (λ s. IsTrue (has_face m s.left) × IsTrue (has_face m s.right)) strings → AllByRecursion (λ b. IsTrue (has_face m b.face)) m.boundaries
 faces-known m strings sides bs lists of two rings faces =
     let P : Face → Type 0 = λ f. IsTrue (has_face m f) in
     let known = faces-of_sides P sides (subst (λ (l : List (Side × Face)). AllByRecursion (λ f. P f.1) l) (sym of.labels) (faces-labelled P strings faces)) in
     let each = faces-of_rings P bs two (All-permuted (λ s. P s.face) sides (followed_in bs) rings known) in
     subst (λ (l : List Boundary). AllByRecursion (λ b. P b.face) l) (sym lists)
-    (All-permuted (λ b. P b.face) (map shown bs) (listed bs) (IsPermutation-listed bs) (All-map (λ b. P b.face) shown bs each))
+    (All-permuted (λ b. P b.face) (map canonical_form bs) (canonical_order bs) (IsPermutation-canonical_order bs) (All-map (λ b. P b.face) canonical_form bs each))

@@ -13,14 +13,12 @@ use Rattle.cad_rings.proofs.CallerLemmas.{is_side-same}
 use Rattle.cad_map.specs.Boundaries.{is_face}
 use Rattle.cad_map.specs.Map.{Map}
 use Rattle.cad_map.specs.Valid.{EachPair}
-use Rattle.cad_map.proofs.Lists.{All-map, All-follows}
-use Rattle.cad_map.proofs.Elements.{Contains-first, Contains-later}
-use Rattle.cad_map.proofs.Walks.{is_side-refl}
+use Rattle.cad_map.proofs.CallerLemmas.{All-map, All-follows, Contains-first, Contains-later, is_side-refl}
 use Rattle.cad_files.specs.Follower.{followers, labelled_sides}
 use Rattle.cad_files.specs.Building.{is_dangling, dangling, is_bad_corner, first_bad_corner, bad_corner, keeps_face, other_label}
-use Rattle.cad_files.specs.Cycles.{FollowedSide, side_of, side_behind, HasNext, AreFollowed, AreSidesOf, faced, faced_as}
+use Rattle.cad_files.specs.Cycles.{FollowedSide, side_of_followed, side_behind, HasNext, AreFollowed, AreSidesOf, side_and_face, labelled_side_and_face}
 use Rattle.cad_files.specs.declared.rows.PlanString.{PlanString}
-use Rattle.cad_files.proofs.CycleRings.{sides-faced, sides-faced_as}
+use Rattle.cad_files.proofs.CycleRings.{sides-side_and_face, sides-labelled_side_and_face}
 
 -- ---- Tests
 
@@ -167,11 +165,11 @@ module _ (m : Map) where
       both true b h k = k
       both false b h k = absurd (true≢false (sym h))
 
-  apart-each : (sides : List FollowedSide) → EachPair Differ (map side_of sides) → AllByRecursion (λ s. followers m (side_of s) ≡ s.after ∷ []) sides → EachPair (λ a b. a ≢ b) (map side_behind sides)
+  apart-each : (sides : List FollowedSide) → EachPair Differ (map side_of_followed sides) → AllByRecursion (λ s. followers m (side_of_followed s) ≡ s.after ∷ []) sides → EachPair (λ a b. a ≢ b) (map side_behind sides)
   apart-each [] pairs all = tt
   apart-each (s ∷ sides) pairs all = (others sides pairs.0 all.1, apart-each sides pairs.1 all.1)
     where
-      others : (ts : List FollowedSide) → AllByRecursion (Differ (side_of s)) (map side_of ts) → AllByRecursion (λ t. followers m (side_of t) ≡ t.after ∷ []) ts → AllByRecursion (λ k. side_behind s ≢ k) (map side_behind ts)
+      others : (ts : List FollowedSide) → AllByRecursion (Differ (side_of_followed s)) (map side_of_followed ts) → AllByRecursion (λ t. followers m (side_of_followed t) ≡ t.after ∷ []) ts → AllByRecursion (λ k. side_behind s ≢ k) (map side_behind ts)
       others [] differ follow = tt
       others (t ∷ ts) differ follow = (
         (λ same. differ.0 (ap (λ (v : Side). v.0) same) (all.0 ∙ ap (λ (v : Side). v.1 ∷ []) same ∙ sym follow.0)),
@@ -185,19 +183,19 @@ abbrev leads_on : Map → List (Side × Face) → Side × Face → Bool
 leads_on m others f = list_any (λ t. list_any (λ w. is_side (f.0.1, w) t.0) (followers m f.0) && is_face f.1 t.1) others
 
 module _ (m : Map) (sides : List FollowedSide) where
-  next-found : (s : FollowedSide) → followers m (side_of s) ≡ s.after ∷ [] → leads_on m (map faced sides) (faced s) ≡ true → HasNext sides s
+  next-found : (s : FollowedSide) → followers m (side_of_followed s) ≡ s.after ∷ [] → leads_on m (map side_and_face sides) (side_and_face s) ≡ true → HasNext sides s
   next-found s follow leads =
-      let found = one-passes (λ t. list_any (λ w. is_side (s.to, w) (side_of t)) (followers m (side_of s)) && is_face s.face t.face) sides (sym (list_any-map (λ t. list_any (λ w. is_side (s.to, w) t.0) (followers m (side_of s)) && is_face s.face t.1) faced sides) ∙ leads) in
+      let found = one-passes (λ t. list_any (λ w. is_side (s.to, w) (side_of_followed t)) (followers m (side_of_followed s)) && is_face s.face t.face) sides (sym (list_any-map (λ t. list_any (λ w. is_side (s.to, w) t.0) (followers m (side_of_followed s)) && is_face s.face t.1) side_and_face sides) ∙ leads) in
       let t = found.0 in
       let parts = and-both _ _ found.2 in
-      let behind : is_side (side_behind s) (side_of t) ≡ true = elim (or-cases (is_side (side_behind s) (side_of t)) false (sym (ap (λ (l : List ℕ). list_any (λ w. is_side (s.to, w) (side_of t)) l) follow) ∙ parts.0)) [ inl is ↦ is | inr nothing ↦ absurd (true≢false (sym nothing)) ] in
-      record { next = t; among = found.1; behind = sym (is_side-same (side_behind s) (side_of t) behind); face = sym (is_face-same s.face t.face parts.1) }
+      let behind : is_side (side_behind s) (side_of_followed t) ≡ true = elim (or-cases (is_side (side_behind s) (side_of_followed t)) false (sym (ap (λ (l : List ℕ). list_any (λ w. is_side (s.to, w) (side_of_followed t)) l) follow) ∙ parts.0)) [ inl is ↦ is | inr nothing ↦ absurd (true≢false (sym nothing)) ] in
+      record { next = t; among = found.1; behind = sym (is_side-same (side_behind s) (side_of_followed t) behind); face = sym (is_face-same s.face t.face parts.1) }
 
-  next-each : (some : List FollowedSide) → AllByRecursion (λ s. followers m (side_of s) ≡ s.after ∷ []) some → AllByRecursion (λ f. leads_on m (map faced sides) f ≡ true) (map faced some) → AllByRecursion (HasNext sides) some
+  next-each : (some : List FollowedSide) → AllByRecursion (λ s. followers m (side_of_followed s) ≡ s.after ∷ []) some → AllByRecursion (λ f. leads_on m (map side_and_face sides) f ≡ true) (map side_and_face some) → AllByRecursion (HasNext sides) some
   next-each [] follow leads = tt
   next-each (s ∷ some) follow leads = (next-found s follow.0 leads.0, next-each some follow.1 leads.1)
 
-ends-each : (strings : List PlanString) → AllByRecursion (λ s. s.row.from ≢ s.row.to) strings → AllByRecursion (λ (f : Side × Face). f.0.0 ≢ f.0.1) (map faced_as (labelled_sides strings))
+ends-each : (strings : List PlanString) → AllByRecursion (λ s. s.row.from ≢ s.row.to) strings → AllByRecursion (λ (f : Side × Face). f.0.0 ≢ f.0.1) (map labelled_side_and_face (labelled_sides strings))
 ends-each [] all = tt
 ends-each (s ∷ strings) all = (all.0, ((λ same. all.0 (sym same)), ends-each strings all.1))
 
@@ -219,15 +217,15 @@ no-other m strings none = none-fails (keeps_face m (labelled_sides strings)) (la
 pub are-followed : (m : Map) (strings : List PlanString) (sides : List FollowedSide) → AreSidesOf m strings sides → AllByRecursion (λ s. s.row.from ≢ s.row.to) strings → bad_corner m strings ≡ None → other_label m strings ≡ None → AreFollowed sides
 are-followed m strings sides of ends corners labels =
     let L = labelled_sides strings in
-    let same : map side_of sides ≡ map (λ l. l.side) L = sym (sides-faced sides) ∙ ap (λ (l : List (Side × Face)). map (λ (f : Side × Face). f.0) l) of.labels ∙ sides-faced_as L in
-    let good : AreGood m [] (map side_of sides) = subst (λ (l : List Side). AreGood m [] l) (sym same) (good-each m [] (map (λ l. l.side) L) (no-bad m strings corners)) in
-    let leads : AllByRecursion (λ f. leads_on m (map faced sides) f ≡ true) (map faced sides) =
+    let same : map side_of_followed sides ≡ map (λ l. l.side) L = sym (sides-side_and_face sides) ∙ ap (λ (l : List (Side × Face)). map (λ (f : Side × Face). f.0) l) of.labels ∙ sides-labelled_side_and_face L in
+    let good : AreGood m [] (map side_of_followed sides) = subst (λ (l : List Side). AreGood m [] l) (sym same) (good-each m [] (map (λ l. l.side) L) (no-bad m strings corners)) in
+    let leads : AllByRecursion (λ f. leads_on m (map side_and_face sides) f ≡ true) (map side_and_face sides) =
     subst (λ (l : List (Side × Face)). AllByRecursion (λ f. leads_on m l f ≡ true) l) (sym of.labels)
-    (All-map (λ f. leads_on m (map faced_as L) f ≡ true) faced_as L
-    (All-follows (λ s. keeps_face m L s ≡ true) (λ s. leads_on m (map faced_as L) (faced_as s) ≡ true) (λ s keeps. list_any-map (λ t. list_any (λ w. is_side (s.side.1, w) t.0) (followers m s.side) && is_face s.face t.1) faced_as L ∙ keeps) L (no-other m strings labels))) in
+    (All-map (λ f. leads_on m (map labelled_side_and_face L) f ≡ true) labelled_side_and_face L
+    (All-follows (λ s. keeps_face m L s ≡ true) (λ s. leads_on m (map labelled_side_and_face L) (labelled_side_and_face s) ≡ true) (λ s keeps. list_any-map (λ t. list_any (λ w. is_side (s.side.1, w) t.0) (followers m s.side) && is_face s.face t.1) labelled_side_and_face L ∙ keeps) L (no-other m strings labels))) in
     record {
-      once = (good-pairs m (λ a b. a ≢ b) (good-once m) [] (map side_of sides) good).0;
-      apart = apart-each m sides (good-pairs m (Differ m) (good-differ m) [] (map side_of sides) good).0 of.followers;
+      once = (good-pairs m (λ a b. a ≢ b) (good-once m) [] (map side_of_followed sides) good).0;
+      apart = apart-each m sides (good-pairs m (Differ m) (good-differ m) [] (map side_of_followed sides) good).0 of.followers;
       next = next-each m sides sides of.followers leads;
-      ends = unmapped (λ (f : Side × Face). f.0.0 ≢ f.0.1) faced sides (subst (λ (l : List (Side × Face)). AllByRecursion (λ f. f.0.0 ≢ f.0.1) l) (sym of.labels) (ends-each strings ends));
+      ends = unmapped (λ (f : Side × Face). f.0.0 ≢ f.0.1) side_and_face sides (subst (λ (l : List (Side × Face)). AllByRecursion (λ f. f.0.0 ≢ f.0.1) l) (sym of.labels) (ends-each strings ends));
     }

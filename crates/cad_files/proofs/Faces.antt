@@ -7,7 +7,7 @@ use Rattle.cad_rows.specs.declared.rows.StringRow.{StringRow}
 use Rattle.cad_map.specs.Map.{Map, string_of}
 use Rattle.cad_map.specs.Valid.{IsValid}
 use Rattle.cad_map.specs.Views.{HasFaces, HasNoFaces}
-use Rattle.cad_map.proofs.FacesBeside.{faces-told, some-faces, row-found}
+use Rattle.cad_map.proofs.CallerLemmas.{faces-told, some-faces, row-found}
 use Rattle.cad_files.specs.Building.{plan_string_of}
 
 module _ (m : Map) (valid : IsValid m) (row : StringRow) (there : Contains m.strings row) where

@@ -1,6 +1,6 @@
 -- Followers in a square and round its island, computed.
 use Rattle.std.proofs.Common.{◌≡◌, refl, [], ◌∷◌}
-use Rattle.cad_map.proofs.Plans.{square, island}
+use Rattle.cad_map.proofs.CallerLemmas.{square, island}
 use Rattle.cad_files.specs.Follower.{followers}
 
 -- inside the square

@@ -8,17 +8,14 @@ use Rattle.geo_exact.specs.Position.{Position}
 use Rattle.geo_exact.specs.Sector.{in_sector}
 use Rattle.cad_rings.specs.Cycle.{Side}
 use Rattle.cad_map.specs.Map.{Map, far_end, strings_at, position_of}
-use Rattle.cad_map.proofs.Lists.{All-filter, All-follows}
-use Rattle.cad_map.proofs.Elements.{All-at_each, All-from_each, Contains-map, Contains-first, Contains-later, Contains-cases, list_all-same}
-use Rattle.cad_map.proofs.ElementFacts.{Contains-filter, filter-Contains, Contains-one, map-Contains}
+use Rattle.cad_map.proofs.CallerLemmas.{All-filter, All-follows, All-at_each, All-from_each, Contains-map, Contains-first, Contains-later, Contains-cases, list_all-same, Contains-filter, filter-Contains, Contains-one, map-Contains, IsSpoke, IsSpoke-all, far-star}
 use Rattle.cad_files.specs.Follower.{once_each, followers}
 use Rattle.cad_files.specs.Follower.{may_follow as may_follow_in}
-use Rattle.cad_files.specs.Arrival.{leaves_open, may_follow, IsOnly, HasNone, HasTwo, arrival_of}
+use Rattle.cad_files.specs.Arrival.{leaves_open, may_follow_there, IsOnly, HasNone, HasTwo, arrival_of}
 use Rattle.cad_map.specs.Stars.{star, spokes_of}
 use Rattle.cad_files.specs.declared.followers.Arrival.{Arrival}
 use Rattle.cad_map.specs.declared.stars.Spoke.{Spoke}
 use Rattle.cad_files.proofs.OneFollower.{only-one, All-once_each}
-use Rattle.cad_map.proofs.StarFacts.{IsSpoke, IsSpoke-all, far-star}
 
 Contains-once_each : (ns : List ℕ) (w : ℕ) → Contains ns w → Contains (once_each ns) w
 Contains-once_each [] w there = there
@@ -38,7 +35,7 @@ module _ (m : Map) (s : Side) (ends : List Spoke) (far : map (λ e. e.far) ends 
   abbrev opens : ℕ → ℕ → Bool
   opens w k = (k == w) || not (in_sector (position_of m s.1) (position_of m w) (position_of m s.0) (position_of m k))
 
-  same_test : (w : Spoke) → Contains ends w → may_follow (arrival_of m s.0 s.1) ends w ≡ may_follow_in m s w.far
+  same_test : (w : Spoke) → Contains ends w → may_follow_there (arrival_of m s.0 s.1) ends w ≡ may_follow_in m s w.far
   same_test w there =
       let here : w.position ≡ position_of m w.far = All-at_each (λ e. e.position ≡ position_of m e.far) ends w seen there in
       let each : list_all (leaves_open (arrival_of m s.0 s.1) w) ends ≡ list_all (λ e. opens w.far e.far) ends =
@@ -65,9 +62,9 @@ module _ (m : Map) (s : Side) (ends : List Spoke) (far : map (λ e. e.far) ends 
   unfolding followers
   only-follower w only =
       only-one (may_follow_in m s) points w.far (among-points w only.among) (sym (same_test w only.among) ∙ only.follows)
-      (each-point (λ k. may_follow_in m s k ≡ true → k ≡ w.far) (λ e there follows. All-at_each (λ e. may_follow (arrival_of m s.0 s.1) ends e ≡ true → e.far ≡ w.far) ends e only.only there (same_test e there ∙ follows)))
+      (each-point (λ k. may_follow_in m s k ≡ true → k ≡ w.far) (λ e there follows. All-at_each (λ e. may_follow_there (arrival_of m s.0 s.1) ends e ≡ true → e.far ≡ w.far) ends e only.only there (same_test e there ∙ follows)))
 
-  follows-in : (e : Spoke) → Contains ends e → may_follow (arrival_of m s.0 s.1) ends e ≡ true → Contains (followers m s) e.far
+  follows-in : (e : Spoke) → Contains ends e → may_follow_there (arrival_of m s.0 s.1) ends e ≡ true → Contains (followers m s) e.far
   unfolding followers
   follows-in e there follows = Contains-filter (may_follow_in m s) (once_each points) e.far (Contains-once_each points e.far (among-points e there)) (sym (same_test e there) ∙ follows)
 
@@ -76,7 +73,7 @@ module _ (m : Map) (s : Side) (ends : List Spoke) (far : map (λ e. e.far) ends 
   none-follows none k there =
       let parts = filter-Contains (may_follow_in m s) (once_each points) k there in
       let fails = All-at_each (λ k. may_follow_in m s k ≡ false) (once_each points) k
-      (All-once_each (may_follow_in m s) (λ k. may_follow_in m s k ≡ false) points (each-point (λ k. may_follow_in m s k ≡ false) (λ e among. sym (same_test e among) ∙ All-at_each (λ e. may_follow (arrival_of m s.0 s.1) ends e ≡ false) ends e none among))) parts.0 in
+      (All-once_each (may_follow_in m s) (λ k. may_follow_in m s k ≡ false) points (each-point (λ k. may_follow_in m s k ≡ false) (λ e among. sym (same_test e among) ∙ All-at_each (λ e. may_follow_there (arrival_of m s.0 s.1) ends e ≡ false) ends e none among))) parts.0 in
       true≢false (sym parts.1 ∙ fails)
 
   -- where none may follow, or two that lead to different points, there isn't just one follower

@@ -6,10 +6,10 @@ use Rattle.cad_rings.specs.Cycle.{Side, is_side}
 use Rattle.cad_map.specs.Boundaries.{is_face}
 use Rattle.cad_map.specs.Map.{Map}
 use Rattle.cad_map.specs.Valid.{EachPair}
-use Rattle.cad_map.proofs.Lists.{All-map}
+use Rattle.cad_map.proofs.CallerLemmas.{All-map}
 use Rattle.cad_files.specs.Follower.{followers, LabelledSide, labelled_sides}
 use Rattle.cad_files.specs.Building.{keeps_face, other_label, bad_corner}
-use Rattle.cad_files.specs.Cycles.{side_of, faced, faced_as, AreSidesOf, plan_side_of, followed_side}
+use Rattle.cad_files.specs.Cycles.{side_of_followed, side_and_face, labelled_side_and_face, AreSidesOf, plan_side_of, followed_side}
 use Rattle.cad_files.specs.Corners.{labelled, HasFollower, keeps_face_among}
 use Rattle.cad_files.specs.declared.sides.PlanSide.{PlanSide}
 use Rattle.cad_files.specs.declared.rows.PlanString.{PlanString}
@@ -54,13 +54,13 @@ other_label-is m strings sides has same =
 
 pub sides-of : (m : Map) (strings : List PlanString) (sides : List PlanSide) → AllByRecursion (HasFollower m) sides → map labelled sides ≡ labelled_sides strings → AreSidesOf m strings (map followed_side sides)
 sides-of m strings sides has same = record {
-  labels = each sides ∙ ap (map faced_as) same;
-  followers = All-map (λ s. followers m (side_of s) ≡ s.after ∷ []) followed_side sides has;
+  labels = each sides ∙ ap (map labelled_side_and_face) same;
+  followers = All-map (λ s. followers m (side_of_followed s) ≡ s.after ∷ []) followed_side sides has;
 }
   where
-    each : (ss : List PlanSide) → map faced (map followed_side ss) ≡ map faced_as (map labelled ss)
+    each : (ss : List PlanSide) → map side_and_face (map followed_side ss) ≡ map labelled_side_and_face (map labelled ss)
     each [] = refl
-    each (s ∷ ss) = ap (λ l. faced (followed_side s) ∷ l) (each ss)
+    each (s ∷ ss) = ap (λ l. side_and_face (followed_side s) ∷ l) (each ss)
 
 -- where there is no bad corner, no side stands twice
 pub none-twice : (m : Map) (strings : List PlanString) (sides : List PlanSide) → map labelled sides ≡ labelled_sides strings → bad_corner m strings ≡ None → EachPair (λ a b. a ≢ b) (map plan_side_of sides)

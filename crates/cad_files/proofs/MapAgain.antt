@@ -8,12 +8,10 @@ use Rattle.cad_rows.specs.declared.rows.StringRow.{StringRow}
 use Rattle.cad_rings.specs.Cycle.{Side, opposite}
 use Rattle.cad_map.specs.Map.{Map, all_corners, left_face, right_face, side_of}
 use Rattle.cad_map.specs.Valid.{IsValid}
-use Rattle.cad_map.proofs.Elements.{All-from_each, Contains-first}
+use Rattle.cad_map.proofs.CallerLemmas.{All-from_each, Contains-first, map-Contains, both_sides, in_all, side-face}
 use Rattle.cad_files.specs.Follower.{followers}
 use Rattle.cad_files.specs.Building.{map_of, IsMapOf, plan_string_of, rows_of}
 use Rattle.cad_files.specs.declared.rows.PlanString.{PlanString}
-use Rattle.cad_map.proofs.ElementFacts.{map-Contains}
-use Rattle.cad_map.proofs.FacesBeside.{both_sides, in_all, side-face}
 use Rattle.cad_files.proofs.OneFollower.{one_follower}
 
 -- the rows of the plan's strings are the map's
@@ -51,7 +49,7 @@ module _ (m : Map) (valid : IsValid m) where
         rings = record {
           rows = sym (string_rows m m.strings);
           once = valid.sound.v5.once;
-          in_order = valid.sound.v1.in_order;
+          canonical = valid.sound.v1.canonical;
           followers = All-from_each (λ c. Contains (followers m (c.before, c.at)) c.after) (all_corners m) (λ c h. subst (λ (l : List ℕ). Contains l c.after) (sym (one_follower m valid c h)) (Contains-first c.after []));
           left = All-from_each (λ (s : PlanString). left_face m s.row ≡ Some s.left) strings (λ s h. let from = map-Contains (plan_string_of m) m.strings s h in subst (λ (t : PlanString). left_face m t.row ≡ Some t.left) from.2 (left_known from.0 from.1));
           right = All-from_each (λ (s : PlanString). right_face m s.row ≡ Some s.right) strings (λ s h. let from = map-Contains (plan_string_of m) m.strings s h in subst (λ (t : PlanString). right_face m t.row ≡ Some t.right) from.2 (right_known from.0 from.1));

@@ -9,7 +9,7 @@ use Rattle.cad_rows.specs.declared.names.Name.{Name}
 use Rattle.cad_rows.specs.declared.names.Name.TheVariants as name
 use Rattle.cad_map.specs.Map.{Map, has_source}
 use Rattle.cad_map.specs.Refusals.{is_there}
-use Rattle.cad_files.specs.Building.{missing, sources_named}
+use Rattle.cad_files.specs.Building.{missing_name, sources_named}
 
 -- the element at a place, between those before it and those after it
 pub parted : {X : Type 0} (xs : List X) (i : ℕ) (x d : X) → i < length xs → x ≡ get_or xs i d → take i xs ++ (x ∷ drop (i + 1) xs) ≡ xs
@@ -25,36 +25,36 @@ option_or-some (Some x) other there = refl
 find-before : {X : Type 0} (p : X → Bool) (xs ys : List X) → is_some (find p xs) ≡ true → find p (xs ++ ys) ≡ find p xs
 find-before p xs ys some = find-append p xs ys ∙ option_or-some (find p xs) (find p ys) some
 
-pub missing-source : (m : Map) (list : List ℕ) (i x d : ℕ) → i < length list → x ≡ get_or list i d → missing m (sources_named (take i list)) ≡ None → has_source m x ≡ false
-    → missing m (sources_named list) ≡ Some (name.Source x)
+pub missing-source : (m : Map) (list : List ℕ) (i x d : ℕ) → i < length list → x ≡ get_or list i d → missing_name m (sources_named (take i list)) ≡ None → has_source m x ≡ false
+    → missing_name m (sources_named list) ≡ Some (name.Source x)
 missing-source m list i x d h is none gone =
-    ap (λ l. missing m (sources_named l)) (sym (parted list i x d h is)) ∙ ap (missing m) (map-append (λ n. name.Source n) (take i list) (x ∷ drop (i + 1) list))
+    ap (λ l. missing_name m (sources_named l)) (sym (parted list i x d h is)) ∙ ap (missing_name m) (map-append (λ n. name.Source n) (take i list) (x ∷ drop (i + 1) list))
     ∙ find-after (λ n. not (is_there m n)) (sources_named (take i list)) _ none ∙ rw gone refl
 
-pub missing-more : (m : Map) (list : List ℕ) (i x d : ℕ) → i < length list → x ≡ get_or list i d → missing m (sources_named (take i list)) ≡ None → has_source m x ≡ true
-    → missing m (sources_named (take (i + 1) list)) ≡ None
+pub missing-more : (m : Map) (list : List ℕ) (i x d : ℕ) → i < length list → x ≡ get_or list i d → missing_name m (sources_named (take i list)) ≡ None → has_source m x ≡ true
+    → missing_name m (sources_named (take (i + 1) list)) ≡ None
 missing-more m list i x d h is none there =
-    ap (λ l. missing m (sources_named l)) (take_more list i d h ∙ ap (λ y. take i list ++ y ∷ []) (sym is)) ∙ ap (missing m) (map-append (λ n. name.Source n) (take i list) (x ∷ []))
+    ap (λ l. missing_name m (sources_named l)) (take_more list i d h ∙ ap (λ y. take i list ++ y ∷ []) (sym is)) ∙ ap (missing_name m) (map-append (λ n. name.Source n) (take i list) (x ∷ []))
     ∙ find-after (λ n. not (is_there m n)) (sources_named (take i list)) _ none ∙ rw there refl
 
 -- rows that name others
-module _ {R : Type 0} (named : R → List Name) (m : Map) (rows : List R) (i : ℕ) (row d : R) (h : i < length rows) (is : row ≡ get_or rows i d) (none : missing m (flat_map named (take i rows)) ≡ None) where
-  pub row-found : is_some (missing m (named row)) ≡ true → missing m (flat_map named rows) ≡ missing m (named row)
+module _ {R : Type 0} (named : R → List Name) (m : Map) (rows : List R) (i : ℕ) (row d : R) (h : i < length rows) (is : row ≡ get_or rows i d) (none : missing_name m (flat_map named (take i rows)) ≡ None) where
+  pub row-found : is_some (missing_name m (named row)) ≡ true → missing_name m (flat_map named rows) ≡ missing_name m (named row)
   row-found some =
-      ap (λ l. missing m (flat_map named l)) (sym (parted rows i row d h is))
-      ∙ ap (missing m) (flat_map-append named (take i rows) (row ∷ drop (i + 1) rows))
+      ap (λ l. missing_name m (flat_map named l)) (sym (parted rows i row d h is))
+      ∙ ap (missing_name m) (flat_map-append named (take i rows) (row ∷ drop (i + 1) rows))
       ∙ find-after (λ n. not (is_there m n)) (flat_map named (take i rows)) _ none
       ∙ find-before (λ n. not (is_there m n)) (named row) _ some
 
-  pub row-more : missing m (named row) ≡ None → missing m (flat_map named (take (i + 1) rows)) ≡ None
+  pub row-more : missing_name m (named row) ≡ None → missing_name m (flat_map named (take (i + 1) rows)) ≡ None
   row-more here =
-      ap (λ l. missing m (flat_map named l)) (take_more rows i d h ∙ ap (λ y. take i rows ++ y ∷ []) (sym is))
-      ∙ ap (missing m) (flat_map-append named (take i rows) (row ∷ []))
+      ap (λ l. missing_name m (flat_map named l)) (take_more rows i d h ∙ ap (λ y. take i rows ++ y ∷ []) (sym is))
+      ∙ ap (missing_name m) (flat_map-append named (take i rows) (row ∷ []))
       ∙ find-after (λ n. not (is_there m n)) (flat_map named (take i rows)) _ none
       ∙ find-after (λ n. not (is_there m n)) (named row) [] here
 
 -- the first of two lists' names, and of a name and others
-pub missing-append : (m : Map) (a b : List Name) → missing m (a ++ b) ≡ option_or (missing m a) (missing m b)
+pub missing-append : (m : Map) (a b : List Name) → missing_name m (a ++ b) ≡ option_or (missing_name m a) (missing_name m b)
 missing-append m a b = find-append (λ n. not (is_there m n)) a b
 
 option_or-five : {X : Type 0} (a b c d e : Option X) → option_or (option_or (option_or (option_or a b) c) d) e ≡ option_or a (option_or b (option_or c (option_or d e)))
@@ -64,8 +64,8 @@ option_or-five None None (Some x) d e = refl
 option_or-five None None None d e = refl
 
 pub missing-five : (m : Map) (from to : Name) (left right sources : List Name)
-    → missing m (from ∷ to ∷ (left ++ (right ++ sources))) ≡ option_or (option_or (option_or (option_or (missing m (from ∷ [])) (missing m (to ∷ []))) (missing m left)) (missing m right)) (missing m sources)
+    → missing_name m (from ∷ to ∷ (left ++ (right ++ sources))) ≡ option_or (option_or (option_or (option_or (missing_name m (from ∷ [])) (missing_name m (to ∷ []))) (missing_name m left)) (missing_name m right)) (missing_name m sources)
 missing-five m from to left right sources =
     missing-append m (from ∷ []) (to ∷ (left ++ (right ++ sources)))
-    ∙ ap (option_or (missing m (from ∷ []))) (missing-append m (to ∷ []) (left ++ (right ++ sources)) ∙ ap (option_or (missing m (to ∷ []))) (missing-append m left (right ++ sources) ∙ ap (option_or (missing m left)) (missing-append m right sources)))
-    ∙ sym (option_or-five (missing m (from ∷ [])) (missing m (to ∷ [])) (missing m left) (missing m right) (missing m sources))
+    ∙ ap (option_or (missing_name m (from ∷ []))) (missing-append m (to ∷ []) (left ++ (right ++ sources)) ∙ ap (option_or (missing_name m (to ∷ []))) (missing-append m left (right ++ sources) ∙ ap (option_or (missing_name m left)) (missing-append m right sources)))
+    ∙ sym (option_or-five (missing_name m (from ∷ [])) (missing_name m (to ∷ [])) (missing_name m left) (missing_name m right) (missing_name m sources))

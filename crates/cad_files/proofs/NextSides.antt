@@ -8,15 +8,12 @@ use Rattle.cad_rings.specs.Cycle.{Side, is_side}
 use Rattle.cad_rings.proofs.CallerLemmas.{is_side-same}
 use Rattle.cad_map.specs.Boundaries.{is_face}
 use Rattle.cad_map.specs.Valid.{EachPair}
-use Rattle.cad_map.proofs.Lists.{drop-at}
-use Rattle.cad_map.proofs.Elements.{All-at_each, Contains-at, Contains-cases, Contains-map, list_any-Contains}
-use Rattle.cad_map.proofs.ElementFacts.{list_any-none}
-use Rattle.cad_map.proofs.Walks.{is_side-refl}
-use Rattle.cad_files.specs.Cycles.{side_of, side_behind, plan_side_of, followed_side, AreLinked}
+use Rattle.cad_map.proofs.CallerLemmas.{drop-at, All-at_each, Contains-at, Contains-cases, Contains-map, list_any-Contains, list_any-none, is_side-refl}
+use Rattle.cad_files.specs.Cycles.{side_of_followed, side_behind, plan_side_of, followed_side, AreLinked}
 use Rattle.cad_files.specs.Corners.{keeps_face_among}
 use Rattle.cad_files.specs.declared.sides.PlanSide.{PlanSide}
 
-pub same-sides : (sides : List PlanSide) → map side_of (map followed_side sides) ≡ map plan_side_of sides
+pub same-sides : (sides : List PlanSide) → map side_of_followed (map followed_side sides) ≡ map plan_side_of sides
 same-sides [] = refl
 same-sides (s ∷ sides) = ap (λ (l : List Side). plan_side_of s ∷ l) (same-sides sides)
 

@@ -8,13 +8,9 @@ use Rattle.cad_rows.specs.declared.rows.StringRow.{StringRow}
 use Rattle.cad_rings.specs.Cycle.{Side, has_side, opposite, Corner}
 use Rattle.cad_map.specs.Map.{Map, all_sides, all_corners, string_sides, side_of}
 use Rattle.cad_map.specs.Valid.{EachPair, IsValid}
-use Rattle.cad_map.proofs.Elements.{Contains-cases, Contains-first, Contains-later, All-at_each}
-use Rattle.cad_map.proofs.Walks.{side_before}
-use Rattle.cad_map.proofs.Parallel.{string_sides-once}
+use Rattle.cad_map.proofs.CallerLemmas.{Contains-cases, Contains-first, Contains-later, All-at_each, side_before, string_sides-once, list_any-none, has_side-Contains, in_all}
 use Rattle.cad_files.specs.Follower.{followers, LabelledSide, labelled_sides}
 use Rattle.cad_files.specs.Building.{map_of, rows_of, plan_string_of, is_bad_corner, first_bad_corner, bad_corner}
-use Rattle.cad_map.proofs.ElementFacts.{list_any-none}
-use Rattle.cad_map.proofs.FacesBeside.{has_side-Contains, in_all}
 use Rattle.cad_files.proofs.RingCorners.{corner_of, one_before}
 use Rattle.cad_files.proofs.OneFollower.{one_follower}
 use Rattle.cad_files.proofs.MapAgain.{same_followers}

@@ -9,7 +9,7 @@ use Rattle.cad_rows.specs.declared.rows.StringRow.{StringRow}
 use Rattle.cad_rings.specs.Cycle.{Corner}
 use Rattle.cad_map.specs.Map.{Map, all_corners, position_of, far_end, strings_at}
 use Rattle.cad_map.specs.Valid.{is_empty_corner, has_empty_corners}
-use Rattle.cad_map.proofs.ElementFacts.{filter-Contains}
+use Rattle.cad_map.proofs.CallerLemmas.{filter-Contains}
 use Rattle.cad_files.specs.Follower.{may_follow, followers}
 
 all-stronger : {X : Type 0} (f g : X → Bool) → ((x : X) → f x ≡ true → g x ≡ true) → (xs : List X) → list_all f xs ≡ true → list_all g xs ≡ true

@@ -9,13 +9,9 @@ use Rattle.cad_rings.specs.Cycle.{Side, is_side, opposite}
 use Rattle.cad_map.specs.Boundaries.{is_face}
 use Rattle.cad_map.specs.Map.{Map, all_sides, face_at, side_of, string_sides}
 use Rattle.cad_map.specs.Valid.{IsValid}
-use Rattle.cad_map.proofs.Elements.{Contains-cases, Contains-map, list_any-Contains}
-use Rattle.cad_map.proofs.Looks.{is_face-refl}
-use Rattle.cad_map.proofs.Walks.{side_behind, is_side-refl}
+use Rattle.cad_map.proofs.CallerLemmas.{Contains-cases, Contains-map, list_any-Contains, is_face-refl, side_behind, is_side-refl, find-nothing, map-Contains, in_all, of_string, both_sides}
 use Rattle.cad_files.specs.Follower.{followers, LabelledSide, labelled_sides}
 use Rattle.cad_files.specs.Building.{map_of, rows_of, plan_string_of, keeps_face, other_label}
-use Rattle.cad_map.proofs.ElementFacts.{find-nothing, map-Contains}
-use Rattle.cad_map.proofs.FacesBeside.{in_all, of_string, both_sides}
 use Rattle.cad_files.proofs.RingCorners.{behind-in_all, same_face}
 use Rattle.cad_files.proofs.MapAgain.{same_followers}
 use Rattle.cad_files.proofs.NoBadCorner.{plan_sides, follower_of}

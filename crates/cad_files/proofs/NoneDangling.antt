@@ -7,12 +7,9 @@ use Rattle.cad_rings.specs.Cycle.{Side, opposite, Corner}
 use Rattle.cad_map.specs.Boundaries.{is_face}
 use Rattle.cad_map.specs.Map.{Map, all_sides, all_corners, degree, strings_at, is_end, far_end, left_face, right_face, side_of}
 use Rattle.cad_map.specs.Valid.{IsValid}
-use Rattle.cad_map.proofs.Elements.{All-at_each}
+use Rattle.cad_map.proofs.CallerLemmas.{All-at_each, Contains-filter, Contains-one, find-nothing, map-Contains, is_face-same, both_sides, in_all, joins-end, joins-far_end, two_ends}
 use Rattle.cad_files.specs.Building.{map_of, rows_of, plan_string_of, is_dangling, dangling}
 use Rattle.cad_files.specs.declared.rows.PlanString.{PlanString}
-use Rattle.cad_map.proofs.ElementFacts.{Contains-filter, Contains-one, find-nothing, map-Contains}
-use Rattle.cad_map.proofs.FacesBeside.{is_face-same, both_sides, in_all}
-use Rattle.cad_map.proofs.StringEnds.{joins-end, joins-far_end, two_ends}
 use Rattle.cad_files.proofs.RingCorners.{corner_of, turns_on}
 use Rattle.cad_files.proofs.OneFollower.{before, behind, from_before, to_behind}
 use Rattle.cad_files.proofs.MapAgain.{without_rings, left_known, right_known}

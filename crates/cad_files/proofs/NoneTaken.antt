@@ -5,9 +5,8 @@ use Rattle.std.specs.List.{AllByRecursion}
 use Rattle.cad_rows.specs.declared.rows.ParcelRow.{ParcelRow}
 use Rattle.cad_map.specs.Map.{Map, has_parcel, parcel_of}
 use Rattle.cad_map.specs.Valid.{IsValid}
-use Rattle.cad_map.proofs.Lists.{others-from_none}
-use Rattle.cad_map.proofs.Allowed.{none-from_some}
-use Rattle.cad_files.specs.Building.{rows_of, plan_string_of, taken, source_taken, point_taken, parcel_taken, string_taken, retired_taken}
+use Rattle.cad_map.proofs.CallerLemmas.{others-from_none, none-from_some}
+use Rattle.cad_files.specs.Building.{rows_of, plan_string_of, twice_numbered, source_taken, point_taken, parcel_taken, string_taken, retired_taken}
 use Rattle.cad_files.specs.declared.rows.PlanString.{PlanString}
 use Rattle.cad_rows.specs.declared.rows.StringRow.{StringRow}
 use Rattle.cad_files.proofs.AgainFacts.{repeated-none, distinct-once}
@@ -44,5 +43,5 @@ module _ (m : Map) (valid : IsValid m) where
       let v = valid.sound.v1 in
       rw (repeated-none (map (λ (p : ParcelRow). p.number) m.parcels) m.retired v.retired.distinct (retired_apart m.retired v.retired_for_good)) refl
 
-  pub none_taken : taken (rows_of m) ≡ None
+  pub none_taken : twice_numbered (rows_of m) ≡ None
   none_taken = rw (no_source, no_point, no_parcel, no_string, no_retired) refl

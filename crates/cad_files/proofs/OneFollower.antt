@@ -8,13 +8,8 @@ use Rattle.cad_rows.specs.declared.rows.StringRow.{StringRow}
 use Rattle.cad_rings.specs.Cycle.{Corner}
 use Rattle.cad_map.specs.Map.{Map, all_corners, position_of, is_end, far_end, strings_at}
 use Rattle.cad_map.specs.Valid.{IsValid, is_empty_corner}
-use Rattle.cad_map.proofs.Elements.{Contains-cases, Contains-map, All-from_each}
-use Rattle.cad_map.proofs.Lists.{All-filter}
-use Rattle.cad_map.proofs.Walks.{side_before, side_behind}
+use Rattle.cad_map.proofs.CallerLemmas.{Contains-cases, Contains-map, All-from_each, All-filter, side_before, side_behind, list_all-at, list_all-from, filter-Contains, Contains-filter, map-Contains, IsSideOf, of_string, IsString, Joins, joins-end, joins-far_end, joins-far, side-joins, two_ends, first_met}
 use Rattle.cad_files.specs.Follower.{once_each, may_follow, followers}
-use Rattle.cad_map.proofs.ElementFacts.{list_all-at, list_all-from, filter-Contains, Contains-filter, map-Contains}
-use Rattle.cad_map.proofs.FacesBeside.{IsSideOf, of_string}
-use Rattle.cad_map.proofs.StringEnds.{IsString, Joins, joins-end, joins-far_end, joins-far, side-joins, two_ends, first_met}
 use Rattle.cad_files.proofs.RingCorners.{before-in, behind-in_all, turns_on}
 
 -- ---- The one number that passes a test

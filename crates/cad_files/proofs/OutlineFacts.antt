@@ -12,7 +12,7 @@ use Rattle.cad_rings.specs.Cycle.{Ring}
 use Rattle.cad_map.specs.Map.{Map, has_face, rings_of, parcel_of, is_positive, is_negative}
 use Rattle.cad_map.specs.Valid.{IsValid, has_outlines}
 use Rattle.cad_map.specs.Outline.{outline_of}
-use Rattle.cad_map.proofs.ElementFacts.{list_all-at, find-Contains}
+use Rattle.cad_map.proofs.CallerLemmas.{list_all-at, find-Contains}
 use Rattle.cad_files.specs.Reports.{outlines_of, outline_records, outline_answer}
 
 and_both : (a b : Bool) → (a && b) ≡ true → (a ≡ true) × (b ≡ true)

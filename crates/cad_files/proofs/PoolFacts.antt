@@ -8,31 +8,30 @@ use Rattle.std.specs.Prelude.{IsPermutation}
 use Rattle.std.specs.List.{AllByRecursion, Contains}
 use Rattle.cad_rings.specs.Cycle.{Side}
 use Rattle.cad_map.specs.Valid.{EachPair}
-use Rattle.cad_map.proofs.Lists.{All-follows}
-use Rattle.cad_map.proofs.Elements.{All-at_each, Contains-at}
-use Rattle.cad_files.specs.Cycles.{FollowedSide, side_of, side_behind, plan_side_of, followed_side}
-use Rattle.cad_files.specs.Pool.{Pool, left_of, IsPool}
+use Rattle.cad_map.proofs.CallerLemmas.{All-follows, All-at_each, Contains-at}
+use Rattle.cad_files.specs.Cycles.{FollowedSide, side_of_followed, side_behind, plan_side_of, followed_side}
+use Rattle.cad_files.specs.Pool.{Pool, untaken_sides, IsPool}
 use Rattle.cad_files.specs.declared.sides.PlanSide.{PlanSide}
 use Rattle.cad_files.proofs.NextSides.{next-side}
 
 -- a side whose flag is set is out of those that are left
 pub taken : (sides : List PlanSide) (flags : List Bool) (k : ℕ) (s : PlanSide) → slice_get sides k ≡ Some s → slice_get flags k ≡ Some false
-    → IsPermutation (left_of sides flags) (followed_side s ∷ left_of sides (set flags k true))
+    → IsPermutation (untaken_sides sides flags) (followed_side s ∷ untaken_sides sides (set flags k true))
 taken [] flags k s at unset = cc
 taken (t ∷ sides) [] k s at unset = cc
 taken (t ∷ sides) (true ∷ flags) zero s at unset = cc
 taken (t ∷ sides) (false ∷ flags) zero s at unset =
     let same : t ≡ s = cc in
-    subst (λ (u : PlanSide). IsPermutation (followed_side t ∷ left_of sides flags) (followed_side u ∷ left_of sides flags)) same (IsPermutation-refl (followed_side t ∷ left_of sides flags))
+    subst (λ (u : PlanSide). IsPermutation (followed_side t ∷ untaken_sides sides flags) (followed_side u ∷ untaken_sides sides flags)) same (IsPermutation-refl (followed_side t ∷ untaken_sides sides flags))
 taken (t ∷ sides) (true ∷ flags) (suc k) s at unset = taken sides flags k s at unset
 taken (t ∷ sides) (false ∷ flags) (suc k) s at unset =
-    let rest = left_of sides (set flags k true) in
-    IsPermutation-trans (followed_side t ∷ left_of sides flags) (followed_side t ∷ followed_side s ∷ rest) (followed_side s ∷ followed_side t ∷ rest)
-    (IsPermutation-cons (followed_side t) (left_of sides flags) (followed_side s ∷ rest) (taken sides flags k s at unset))
+    let rest = untaken_sides sides (set flags k true) in
+    IsPermutation-trans (followed_side t ∷ untaken_sides sides flags) (followed_side t ∷ followed_side s ∷ rest) (followed_side s ∷ followed_side t ∷ rest)
+    (IsPermutation-cons (followed_side t) (untaken_sides sides flags) (followed_side s ∷ rest) (taken sides flags k s at unset))
     (IsPermutation-middle (followed_side t ∷ []) (followed_side s) rest)
 
 -- what each side has, those that are left have
-left-have : (P : _ → Type 0) (sides : List PlanSide) (flags : List Bool) → AllByRecursion P (map plan_side_of sides) → AllByRecursion (λ f. P (side_of f)) (left_of sides flags)
+left-have : (P : _ → Type 0) (sides : List PlanSide) (flags : List Bool) → AllByRecursion P (map plan_side_of sides) → AllByRecursion (λ f. P (side_of_followed f)) (untaken_sides sides flags)
 left-have P [] flags all = tt
 left-have P (s ∷ sides) [] all = tt
 left-have P (s ∷ sides) (true ∷ flags) all = left-have P sides flags all.1
@@ -46,7 +45,7 @@ differs sides s t k all at =
 
 -- a side whose flag is set is none of those that are left
 pub gone : (sides : List PlanSide) (flags : List Bool) (k : ℕ) (t : PlanSide) → EachPair (λ a b. a ≢ b) (map plan_side_of sides) → slice_get sides k ≡ Some t → slice_get flags k ≡ Some true
-    → AllByRecursion (λ f. side_of f ≢ plan_side_of t) (left_of sides flags)
+    → AllByRecursion (λ f. side_of_followed f ≢ plan_side_of t) (untaken_sides sides flags)
 gone [] flags k t once at is_set = cc
 gone (s ∷ sides) [] k t once at is_set = tt
 gone (s ∷ sides) (false ∷ flags) zero t once at is_set = cc
@@ -58,14 +57,14 @@ gone (s ∷ sides) (true ∷ flags) (suc k) t once at is_set = gone sides flags 
 gone (s ∷ sides) (false ∷ flags) (suc k) t once at is_set = (differs sides s t k once.0 at, gone sides flags k t once.1 at is_set)
 
 -- where each flag is set, none is left
-pub none-left : (sides : List PlanSide) (flags : List Bool) → ((k : ℕ) → k < length flags → slice_get flags k ≡ Some true) → left_of sides flags ≡ []
+pub none-left : (sides : List PlanSide) (flags : List Bool) → ((k : ℕ) → k < length flags → slice_get flags k ≡ Some true) → untaken_sides sides flags ≡ []
 none-left [] flags all = refl
 none-left (s ∷ sides) [] all = refl
 none-left (s ∷ sides) (false ∷ flags) all = let first : Some false ≡ Some true = all 0 (omega arith) in cc
 none-left (s ∷ sides) (true ∷ flags) all = none-left sides flags (λ k below. all (suc k) (omega arith))
 
 -- where no flag is set, each is left
-pub all-left : (sides : List PlanSide) → left_of sides (replicate (length sides) false) ≡ map followed_side sides
+pub all-left : (sides : List PlanSide) → untaken_sides sides (replicate (length sides) false) ≡ map followed_side sides
 all-left [] = refl
 all-left (s ∷ sides) = ap (λ (l : List FollowedSide). followed_side s ∷ l) (all-left sides)
 
@@ -85,7 +84,7 @@ now-set (b ∷ flags) (suc k) below = now-set flags k (omega (arith, below))
 -- ---- The pool
 
 -- the sides of a pool are those that it was made of
-pub viewed : (sides : List PlanSide) (flags : List Bool) (p : Pool) → record { all = sides; left = left_of sides flags } ≡ p
+pub viewed : (sides : List PlanSide) (flags : List Bool) (p : Pool) → record { all = sides; left = untaken_sides sides flags } ≡ p
     → (s : PlanSide) → Contains p.all s → Contains sides s
 viewed sides flags p is s there = subst (λ (q : Pool). Contains q.all s) (sym is) there
 
@@ -97,10 +96,10 @@ module _ (sides : List PlanSide) (flags : List Bool) (first : ℕ) (pool : IsPoo
       let is : t ≡ n.next = cc in
       ap plan_side_of is ∙ n.behind
 
-  pub next-gone : (s : PlanSide) → Contains sides s → slice_get flags s.next ≡ Some true → AllByRecursion (λ f. side_of f ≢ side_behind (followed_side s)) (left_of sides flags)
+  pub next-gone : (s : PlanSide) → Contains sides s → slice_get flags s.next ≡ Some true → AllByRecursion (λ f. side_of_followed f ≢ side_behind (followed_side s)) (untaken_sides sides flags)
   next-gone s there is_set =
       let n = next-side sides pool.linked s there in
-      subst (λ (k : Side). AllByRecursion (λ f. side_of f ≢ k) (left_of sides flags)) n.behind (gone sides flags s.next n.next pool.once n.at is_set)
+      subst (λ (k : Side). AllByRecursion (λ f. side_of_followed f ≢ k) (untaken_sides sides flags)) n.behind (gone sides flags s.next n.next pool.once n.at is_set)
 
   -- one more flag that is set
   pub pool-set : (k : ℕ) → IsPool sides (set flags k true) first
@@ -133,7 +132,7 @@ module _ (sides : List PlanSide) (flags : List Bool) (first : ℕ) (pool : IsPoo
           let count = pool.flagged in
           subst (λ (i : ℕ). slice_get (set flags k true) i ≡ Some true) same (now-set flags k (omega arith))
 
-  pub pool-empty : ((j : ℕ) → first ≤ j → j < length flags → slice_get flags j ≡ Some true) → left_of sides flags ≡ []
+  pub pool-empty : ((j : ℕ) → first ≤ j → j < length flags → slice_get flags j ≡ Some true) → untaken_sides sides flags ≡ []
   pool-empty rest = none-left sides flags (λ k below. by k below (cases_lt k first))
     where
       by : (k : ℕ) → k < length flags → (k < first) ⊎ (first ≤ k) → slice_get flags k ≡ Some true
@@ -141,11 +140,11 @@ module _ (sides : List PlanSide) (flags : List Bool) (first : ℕ) (pool : IsPoo
       by k below (inr from) = rest k from below
 
   -- what a pool's user sees of a side that is taken
-  module _ (p : Pool) (is : record { all = sides; left = left_of sides flags } ≡ p) (k : ℕ) (s : PlanSide) (within : k < length sides) (at : s ≡ get_or sides k s) where
+  module _ (p : Pool) (is : record { all = sides; left = untaken_sides sides flags } ≡ p) (k : ℕ) (s : PlanSide) (within : k < length sides) (at : s ≡ get_or sides k s) where
     pub taken-among : Contains p.all s
     taken-among = subst (λ (q : Pool). Contains q.all s) is (k, within, sym at)
 
-    pub taken-out : slice_get flags k ≡ Some false → IsPermutation p.left (followed_side s ∷ left_of sides (set flags k true))
+    pub taken-out : slice_get flags k ≡ Some false → IsPermutation p.left (followed_side s ∷ untaken_sides sides (set flags k true))
     taken-out unset =
-        subst (λ (q : Pool). IsPermutation q.left (followed_side s ∷ left_of sides (set flags k true))) is
+        subst (λ (q : Pool). IsPermutation q.left (followed_side s ∷ untaken_sides sides (set flags k true))) is
         (taken sides flags k s (slice_get_read sides (length sides) k s refl within at) unset)

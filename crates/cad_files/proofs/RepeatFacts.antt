@@ -7,10 +7,7 @@ use Rattle.std.proofs.lemmas.Option.{slice_get-map, slice_get-get_or, slice_get_
 use Rattle.std.specs.List.{AllByRecursion, Contains}
 use Rattle.cad_rings.specs.Cycle.{Side, is_side}
 use Rattle.cad_rings.proofs.CallerLemmas.{is_side-same}
-use Rattle.cad_map.proofs.Lists.{All-follows}
-use Rattle.cad_map.proofs.Elements.{All-at_each, Contains-at, list_any-Contains}
-use Rattle.cad_map.proofs.ElementFacts.{list_any-none}
-use Rattle.cad_map.proofs.Walks.{is_side-refl}
+use Rattle.cad_map.proofs.CallerLemmas.{All-follows, All-at_each, Contains-at, list_any-Contains, list_any-none, is_side-refl}
 use Rattle.sweep.specs.Repeats.{AreDistinct, IsFirstRepeat}
 use Rattle.cad_files.specs.Cycles.{plan_side_of}
 use Rattle.cad_files.specs.Corners.{NoneMet, IsFirstMet, key_of, lesser_of}

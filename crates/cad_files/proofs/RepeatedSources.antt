@@ -4,7 +4,7 @@ use Rattle.std.specs.Prelude.{IfSome, IfNone}
 use Rattle.std.proofs.lemmas.List.{get_or-take, get_or_default, length-take}
 use Rattle.sweep.specs.Repeats.{AreDistinct, IsFirstRepeat}
 use Rattle.cad_map.specs.Valid.{EachPair}
-use Rattle.cad_map.proofs.PairsByPlace.{EachPair-from_AllPairs, AllPairs-from_EachPair}
+use Rattle.cad_map.proofs.CallerLemmas.{EachPair-from_AllPairs, AllPairs-from_EachPair}
 use Rattle.cad_files.specs.Fields.{repeated}
 use Rattle.cad_files.proofs.AgainFacts.{distinct-once}
 use Rattle.cad_files.proofs.ValidFacts.{distinct}

@@ -9,10 +9,7 @@ use Rattle.cad_map.specs.declared.boundary.Boundary.{Boundary}
 use Rattle.cad_map.specs.Boundaries.{sides_in, corners_in}
 use Rattle.cad_map.specs.Map.{Map, all_sides, all_corners, face_at, left_face, right_face}
 use Rattle.cad_map.specs.Valid.{IsValid}
-use Rattle.cad_map.proofs.Elements.{Contains-first, Contains-later, Contains-map, Contains-flat_map, Contains-in_part, count-map, one-only, All-at_each}
-use Rattle.cad_map.proofs.Walks.{side_before, side_behind, is_side-refl, sides-before, sides-behind, sides_in-before, once-from_pairs}
-use Rattle.cad_map.proofs.ElementFacts.{map-Contains}
-use Rattle.cad_map.proofs.FacesBeside.{sides-once, one_ring, of_string}
+use Rattle.cad_map.proofs.CallerLemmas.{Contains-first, Contains-later, Contains-map, Contains-flat_map, Contains-in_part, count-map, one-only, All-at_each, side_before, side_behind, is_side-refl, sides-before, sides-behind, sides_in-before, once-from_pairs, map-Contains, sides-once, one_ring, of_string}
 
 -- the sides behind the corners of a ring are its sides
 behind-ring : (s : Side) (ring : Ring) → 2 ≤ length ring → count_by (λ c. is_side s (side_behind c)) (corners_of ring) ≡ count_by (is_side s) (sides_of ring)

@@ -5,10 +5,8 @@ use Rattle.std.specs.List.{Contains, list_all}
 use Rattle.std.proofs.lemmas.Bool.{eqb-true, eq-eqb}
 use Rattle.std.proofs.lemmas.List.{take_all}
 use Rattle.geo_exact.specs.Sector.{in_sector}
-use Rattle.cad_map.proofs.ElementFacts.{list_all-at}
-use Rattle.cad_map.proofs.Lists.{All-push, All-follows}
-use Rattle.cad_map.proofs.Elements.{All-from_each}
-use Rattle.cad_files.specs.Arrival.{leaves_open, may_follow, is_barred, is_other, IsOnly, HasNone, HasTwo}
+use Rattle.cad_map.proofs.CallerLemmas.{list_all-at, All-push, All-follows, All-from_each}
+use Rattle.cad_files.specs.Arrival.{leaves_open, may_follow_there, is_barred, is_other, IsOnly, HasNone, HasTwo}
 use Rattle.cad_files.specs.declared.followers.Arrival.{Arrival}
 use Rattle.cad_map.specs.declared.stars.Spoke.{Spoke}
 
@@ -25,7 +23,7 @@ other-way a b differ = by (b == a) refl
 
 module _ (a : Arrival) (ends : List Spoke) (w : Spoke) (among : Contains ends w) where
   -- what is barred and follows leads where w does
-  one-barred : (k : Spoke) → is_barred a w k ≡ true → may_follow a ends k ≡ true → k.far ≡ w.far
+  one-barred : (k : Spoke) → is_barred a w k ≡ true → may_follow_there a ends k ≡ true → k.far ≡ w.far
   one-barred k barred follows = by (k.far == w.far) (k.far == a.from) (in_sector a.at k.position a.back w.position) refl refl refl
     where
       parts : (not (k.far == a.from) ≡ true) × (list_all (leaves_open a k) ends ≡ true)
@@ -39,11 +37,11 @@ module _ (a : Arrival) (ends : List Spoke) (w : Spoke) (among : Contains ends w)
           let opened : leaves_open a k w ≡ true = list_all-at (leaves_open a k) ends w parts.1 among in
           absurd (true≢false (sym opened ∙ rw (other-way k.far w.far is, inside) refl))
 
-  pub sole : may_follow a ends w ≡ true → list_all (is_barred a w) ends ≡ true → IsOnly a ends ends w
+  pub sole : may_follow_there a ends w ≡ true → list_all (is_barred a w) ends ≡ true → IsOnly a ends ends w
   sole follows barred = record {
     among = among;
     follows = follows;
-    only = All-from_each (λ e. may_follow a ends e ≡ true → e.far ≡ w.far) ends (λ e there. one-barred e (list_all-at (is_barred a w) ends e barred there));
+    only = All-from_each (λ e. may_follow_there a ends e ≡ true → e.far ≡ w.far) ends (λ e there. one-barred e (list_all-at (is_barred a w) ends e barred there));
   }
 
 -- ---- Spokes one by one
@@ -54,34 +52,34 @@ IsSearched a ends some None = HasNone a ends some
 IsSearched a ends some (Some w) = IsOnly a ends some w
 
 module _ (a : Arrival) (ends some : List Spoke) (e : Spoke) where
-  pub search-passes : (found : Option Spoke) → IsSearched a ends some found → may_follow a ends e ≡ false → IsSearched a ends (some ++ e ∷ []) found
-  search-passes None none fails = All-push (λ e. may_follow a ends e ≡ false) some e none fails
+  pub search-passes : (found : Option Spoke) → IsSearched a ends some found → may_follow_there a ends e ≡ false → IsSearched a ends (some ++ e ∷ []) found
+  search-passes None none fails = All-push (λ e. may_follow_there a ends e ≡ false) some e none fails
   search-passes (Some w) only fails = record {
     among = only.among;
     follows = only.follows;
-    only = All-push (λ e. may_follow a ends e ≡ true → e.far ≡ w.far) some e only.only (λ follows. absurd (true≢false (sym follows ∙ fails)));
+    only = All-push (λ e. may_follow_there a ends e ≡ true → e.far ≡ w.far) some e only.only (λ follows. absurd (true≢false (sym follows ∙ fails)));
   }
 
-  pub search-finds : (found : Option Spoke) → IsSearched a ends some found → Contains ends e → may_follow a ends e ≡ true → is_other found e ≡ false → IsSearched a ends (some ++ e ∷ []) (Some e)
+  pub search-finds : (found : Option Spoke) → IsSearched a ends some found → Contains ends e → may_follow_there a ends e ≡ true → is_other found e ≡ false → IsSearched a ends (some ++ e ∷ []) (Some e)
   search-finds None none among follows same = record {
     among = among;
     follows = follows;
-    only = All-push (λ u. may_follow a ends u ≡ true → u.far ≡ e.far) some e (All-follows (λ u. may_follow a ends u ≡ false) (λ u. may_follow a ends u ≡ true → u.far ≡ e.far) (λ u fails so. absurd (true≢false (sym so ∙ fails))) some none) (λ so. refl);
+    only = All-push (λ u. may_follow_there a ends u ≡ true → u.far ≡ e.far) some e (All-follows (λ u. may_follow_there a ends u ≡ false) (λ u. may_follow_there a ends u ≡ true → u.far ≡ e.far) (λ u fails so. absurd (true≢false (sym so ∙ fails))) some none) (λ so. refl);
   }
   search-finds (Some w) only among follows same =
       let is : w.far ≡ e.far = eqb-true w.far e.far (not-false (w.far == e.far) same) in
       record {
         among = among;
         follows = follows;
-        only = All-push (λ u. may_follow a ends u ≡ true → u.far ≡ e.far) some e
-            (All-follows (λ u. may_follow a ends u ≡ true → u.far ≡ w.far) (λ u. may_follow a ends u ≡ true → u.far ≡ e.far) (λ u so passes. so passes ∙ is) some only.only) (λ so. refl);
+        only = All-push (λ u. may_follow_there a ends u ≡ true → u.far ≡ e.far) some e
+            (All-follows (λ u. may_follow_there a ends u ≡ true → u.far ≡ w.far) (λ u. may_follow_there a ends u ≡ true → u.far ≡ e.far) (λ u so passes. so passes ∙ is) some only.only) (λ so. refl);
       }
     where
       not-false : (b : Bool) → not b ≡ false → b ≡ true
       not-false true h = refl
       not-false false h = absurd (true≢false h)
 
-  pub search-two : (found : Option Spoke) → IsSearched a ends some found → Contains ends e → may_follow a ends e ≡ true → is_other found e ≡ true → HasTwo a ends
+  pub search-two : (found : Option Spoke) → IsSearched a ends some found → Contains ends e → may_follow_there a ends e ≡ true → is_other found e ≡ true → HasTwo a ends
   search-two None none among follows other = absurd (true≢false (sym other))
   search-two (Some w) only among follows other = record {
     first = w;

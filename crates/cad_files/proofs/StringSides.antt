@@ -8,15 +8,13 @@ use Rattle.std.proofs.lemmas.Option.{slice_get-map}
 use Rattle.cad_rows.specs.declared.rows.StringRow.{StringRow}
 use Rattle.cad_rings.specs.Cycle.{Side, opposite}
 use Rattle.cad_map.specs.Map.{Map, side_of, is_end, far_end}
-use Rattle.cad_map.proofs.Elements.{All-at_each}
-use Rattle.cad_map.proofs.ElementFacts.{filter-Contains}
+use Rattle.cad_map.proofs.CallerLemmas.{All-at_each, filter-Contains, IsSpoke, IsSpoke-all}
 use Rattle.cad_map.specs.Stars.{star, spokes_of}
 use Rattle.cad_files.specs.Follower.{followers, LabelledSide, labelled_sides}
 use Rattle.cad_files.specs.Corners.{labelled, IsStop, IsSpokeOf}
 use Rattle.cad_files.specs.declared.sides.PlanSide.{PlanSide}
 use Rattle.cad_map.specs.declared.stars.Spoke.{Spoke}
 use Rattle.cad_files.specs.declared.rows.PlanString.{PlanString}
-use Rattle.cad_map.proofs.StarFacts.{IsSpoke, IsSpoke-all}
 
 -- ---- Two sides a string
 

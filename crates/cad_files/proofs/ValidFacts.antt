@@ -15,15 +15,15 @@ use Rattle.cad_rows.specs.declared.rows.PointRow.{PointRow}
 use Rattle.cad_rows.specs.declared.rows.ParcelRow.{ParcelRow}
 use Rattle.geo_exact.specs.Position.{OnTheMap}
 use Rattle.cad_map.specs.declared.boundary.Boundary.{Boundary}
-use Rattle.cad_map.specs.Boundaries.{is_face, listed}
+use Rattle.cad_map.specs.Boundaries.{is_face, canonical_order}
 use Rattle.cad_map.specs.Map.{Map, has_source, has_point, has_face}
 use Rattle.cad_map.specs.Refusals.{is_there}
 use Rattle.cad_map.specs.Valid.{EachPair, AreNumbers, AreSources, HasSoundRows, HasTwoEnds}
 use Rattle.cad_map.specs.Table.{row_with}
-use Rattle.cad_map.proofs.Lists.{All-follows, All-map, All-append, All-flat_map}
+use Rattle.cad_map.proofs.CallerLemmas.{All-follows, All-map, All-append, All-flat_map}
 use Rattle.cad_files.specs.Fields.{repeated}
 use Rattle.cad_files.specs.Rows.{Rows, AreInRange, IsSourceList, IsSourceRow, IsPointRow, IsParcelRow, IsPlanString}
-use Rattle.cad_files.specs.Building.{map_of, first_fault, taken, unknown, source_taken, point_taken, parcel_taken, string_taken, retired_taken, missing, sources_named, face_named, string_names, points_name, parcels_name, strings_name, is_dangling, dangling, bad_corner, other_label}
+use Rattle.cad_files.specs.Building.{map_of, first_fault, twice_numbered, unknown_name, source_taken, point_taken, parcel_taken, string_taken, retired_taken, missing_name, sources_named, names_of_face, string_names, points_name, parcels_name, strings_name, is_dangling, dangling, bad_corner, other_label}
 use Rattle.cad_files.specs.declared.rows.PlanString.{PlanString}
 use Rattle.cad_files.specs.declared.faults.PlanFault.TheVariants as faults
 use Rattle.cad_files.proofs.FaultFacts.{none-parts, map-none}
@@ -37,9 +37,9 @@ pub record IsFaultless (rows : Rows) : Type 0 where
   pub parcels : parcel_taken rows.parcels ≡ None
   pub strings : string_taken rows.strings ≡ None
   pub retired : retired_taken rows.parcels rows.retired ≡ None
-  pub points_name : missing (map_of rows) (points_name rows.points) ≡ None
-  pub parcels_name : missing (map_of rows) (parcels_name rows.parcels) ≡ None
-  pub strings_name : missing (map_of rows) (strings_name rows.strings) ≡ None
+  pub points_name : missing_name (map_of rows) (points_name rows.points) ≡ None
+  pub parcels_name : missing_name (map_of rows) (parcels_name rows.parcels) ≡ None
+  pub strings_name : missing_name (map_of rows) (strings_name rows.strings) ≡ None
   pub dangling : dangling (map_of rows) rows.strings ≡ None
   pub corner : bad_corner (map_of rows) rows.strings ≡ None
   pub label : other_label (map_of rows) rows.strings ≡ None
@@ -51,12 +51,12 @@ faultless rows none =
     let d = none-parts _ _ b.1 in
     let e = none-parts _ _ d.1 in
     let l = none-parts _ _ e.1 in
-    let t1 = none-parts _ _ (map-none (λ n. faults.Taken n) (taken rows) a.0) in
+    let t1 = none-parts _ _ (map-none (λ n. faults.Taken n) (twice_numbered rows) a.0) in
     let t2 = none-parts _ _ t1.1 in
     let t3 = none-parts _ _ t2.1 in
     let t4 = none-parts _ _ t3.1 in
     let t5 = none-parts _ _ t4.1 in
-    let u1 = none-parts _ _ (map-none (λ n. faults.Unknown n) (unknown rows) b.0) in
+    let u1 = none-parts _ _ (map-none (λ n. faults.Unknown n) (unknown_name rows) b.0) in
     let u2 = none-parts _ _ u1.1 in
     let u3 = none-parts _ _ u2.1 in
     record {
@@ -133,7 +133,7 @@ retired_numbers parcels ns none =
 
 -- ---- Each row that is named is there
 
-there-each : (m : Map) (names : List Name) → missing m names ≡ None → AllByRecursion (λ n. IsTrue (is_there m n)) names
+there-each : (m : Map) (names : List Name) → missing_name m names ≡ None → AllByRecursion (λ n. IsTrue (is_there m n)) names
 there-each m [] none = tt
 there-each m (n ∷ names) none = elim (cases_Bool (is_there m n)) [
   | inl there ↦ (there, there-each m names (rw there at none))
@@ -153,19 +153,19 @@ module _ (m : Map) where
   each-sources sources [] lists all = tt
   each-sources sources (r ∷ rows) lists all = (are_sources (sources r) lists.0 all.0, each-sources sources rows lists.1 all.1)
 
-  point_sources : (rows : List PointRow) → AllByRecursion IsPointRow rows → missing m (points_name rows) ≡ None → AllByRecursion (λ r. AreSources m.sources r.sources) rows
+  point_sources : (rows : List PointRow) → AllByRecursion IsPointRow rows → missing_name m (points_name rows) ≡ None → AllByRecursion (λ r. AreSources m.sources r.sources) rows
   unfolding points_name
   point_sources rows all none =
       each-sources (λ r. r.sources) rows (All-follows IsPointRow (λ r. IsSourceList r.sources) (λ r h. h.sources) rows all)
       (All-flat_map (λ n. IsTrue (is_there m n)) (λ (r : PointRow). sources_named r.sources) rows (there-each m _ none))
 
-  parcel_sources : (rows : List ParcelRow) → AllByRecursion IsParcelRow rows → missing m (parcels_name rows) ≡ None → AllByRecursion (λ r. AreSources m.sources r.sources) rows
+  parcel_sources : (rows : List ParcelRow) → AllByRecursion IsParcelRow rows → missing_name m (parcels_name rows) ≡ None → AllByRecursion (λ r. AreSources m.sources r.sources) rows
   unfolding parcels_name
   parcel_sources rows all none =
       each-sources (λ r. r.sources) rows (All-follows IsParcelRow (λ r. IsSourceList r.sources) (λ r h. h.sources) rows all)
       (All-flat_map (λ n. IsTrue (is_there m n)) (λ (r : ParcelRow). sources_named r.sources) rows (there-each m _ none))
 
-  face-known : (f : Face) → AllByRecursion (λ n. IsTrue (is_there m n)) (face_named f) → IsTrue (has_face m f)
+  face-known : (f : Face) → AllByRecursion (λ n. IsTrue (is_there m n)) (names_of_face f) → IsTrue (has_face m f)
   face-known Outside all = refl
   face-known (Parcel n) all = all.0
 
@@ -177,11 +177,11 @@ module _ (m : Map) where
 
   is_known : (s : PlanString) → AllByRecursion (λ n. IsTrue (is_there m n)) (string_names s) → IsKnown s
   is_known s all =
-      let left = All-append (λ n. IsTrue (is_there m n)) (face_named s.left) _ all.1.1 in
-      let right = All-append (λ n. IsTrue (is_there m n)) (face_named s.right) _ left.1 in
+      let left = All-append (λ n. IsTrue (is_there m n)) (names_of_face s.left) _ all.1.1 in
+      let right = All-append (λ n. IsTrue (is_there m n)) (names_of_face s.right) _ left.1 in
       record { ends = (all.0, all.1.0); faces = (face-known s.left left.0, face-known s.right right.0); sources = right.1 }
 
-  strings-known : (strings : List PlanString) → missing m (strings_name strings) ≡ None → AllByRecursion IsKnown strings
+  strings-known : (strings : List PlanString) → missing_name m (strings_name strings) ≡ None → AllByRecursion IsKnown strings
   unfolding strings_name
   strings-known strings none =
       All-follows (λ s. AllByRecursion (λ n. IsTrue (is_there m n)) (string_names s)) IsKnown is_known strings (All-flat_map (λ n. IsTrue (is_there m n)) string_names strings (there-each m _ none))
@@ -239,9 +239,9 @@ module _ (rows : Rows) (range : AreInRange rows) (none : first_fault rows ≡ No
   pub two_ends : (bs : List Boundary) → HasTwoEnds (with_rings rows bs)
   two_ends bs = All-map (λ s. s.from ≢ s.to) (λ s. s.row) rows.strings ends-differ
 
-  pub sound_rows : (bs : List Boundary) → AllByRecursion (λ b. AllByRecursion (λ p. IsTrue (has_point (map_of rows) p)) b.ring) bs → AllByRecursion (λ b. IsTrue (has_face (map_of rows) b.face)) bs → listed bs ≡ bs
+  pub sound_rows : (bs : List Boundary) → AllByRecursion (λ b. AllByRecursion (λ p. IsTrue (has_point (map_of rows) p)) b.ring) bs → AllByRecursion (λ b. IsTrue (has_face (map_of rows) b.face)) bs → canonical_order bs ≡ bs
       → HasSoundRows (with_rings rows bs)
-  sound_rows bs points_of_rings faces_of_rings in_order =
+  sound_rows bs points_of_rings faces_of_rings canonical =
       let free = faultless rows none in
       let m = map_of rows in
       let sources = recursion_from_All IsSourceRow rows.sources range.sources in
@@ -270,7 +270,7 @@ module _ (rows : Rows) (range : AreInRange rows) (none : first_fault rows ≡ No
         few_parcels = range.few_parcels;
         few_strings = few_rows;
         few_retired = range.few_retired;
-        in_order = in_order;
+        canonical = canonical;
       }
     where
       few_rows : length (map (λ s. s.row) rows.strings) ≤ string_limit

@@ -20,8 +20,8 @@ abbrev pub leaves_open : Arrival → Spoke → Spoke → Bool
 leaves_open a w e = (e.far == w.far) || not (in_sector a.at w.position a.back e.position)
 
 -- w leads to a point that may follow, where these are the spokes at the side's end
-abbrev pub may_follow : Arrival → List Spoke → Spoke → Bool
-may_follow a ends w = not (w.far == a.from) && list_all (leaves_open a w) ends
+abbrev pub may_follow_there : Arrival → List Spoke → Spoke → Bool
+may_follow_there a ends w = not (w.far == a.from) && list_all (leaves_open a w) ends
 
 -- e leads where w does or where the side comes from, or w is in the sector from e to there
 abbrev pub is_barred : Arrival → Spoke → Spoke → Bool
@@ -36,12 +36,12 @@ is_other (Some w) e = not (w.far == e.far)
 -- of the spokes at the end w may follow, and each of some that may leads to the same point
 pub record IsOnly (a : Arrival) (ends some : List Spoke) (w : Spoke) : Type 0 where
   pub among : Contains ends w
-  pub follows : may_follow a ends w ≡ true
-  pub only : AllByRecursion (λ e. may_follow a ends e ≡ true → e.far ≡ w.far) some
+  pub follows : may_follow_there a ends w ≡ true
+  pub only : AllByRecursion (λ e. may_follow_there a ends e ≡ true → e.far ≡ w.far) some
 
 -- of the spokes at the end none of some may follow
 abbrev pub HasNone : Arrival → List Spoke → List Spoke → Type 0
-HasNone a ends some = AllByRecursion (λ e. may_follow a ends e ≡ false) some
+HasNone a ends some = AllByRecursion (λ e. may_follow_there a ends e ≡ false) some
 
 -- two of the spokes may follow, and lead to different points
 pub record HasTwo (a : Arrival) (ends : List Spoke) : Type 0 where
@@ -49,6 +49,6 @@ pub record HasTwo (a : Arrival) (ends : List Spoke) : Type 0 where
   pub second : Spoke
   pub first_among : Contains ends first
   pub second_among : Contains ends second
-  pub first_follows : may_follow a ends first ≡ true
-  pub second_follows : may_follow a ends second ≡ true
+  pub first_follows : may_follow_there a ends first ≡ true
+  pub second_follows : may_follow_there a ends second ≡ true
   pub apart : first.far ≢ second.far

@@ -73,8 +73,8 @@ unfoldable pub retired_taken : List ParcelRow → List ℕ → Option Name
 retired_taken parcels numbers = option_map (λ n. name.Parcel n) (repeated (map (λ r. r.number) parcels) numbers)
 
 -- by kinds: sources, points, parcels, strings, retired numbers
-abbrev pub taken : Rows → Option Name
-taken rows = first_some (source_taken rows.sources ∷ point_taken rows.points ∷ parcel_taken rows.parcels ∷ string_taken rows.strings ∷ retired_taken rows.parcels rows.retired ∷ [])
+abbrev pub twice_numbered : Rows → Option Name
+twice_numbered rows = first_some (source_taken rows.sources ∷ point_taken rows.points ∷ parcel_taken rows.parcels ∷ string_taken rows.strings ∷ retired_taken rows.parcels rows.retired ∷ [])
 
 -- ---- A row that is named and isn't there
 
@@ -90,25 +90,25 @@ unfoldable pub parcels_name : List ParcelRow → List Name
 parcels_name rows = flat_map (λ (r : ParcelRow). sources_named r.sources) rows
 
 -- the parcel that a face names
-abbrev pub face_named : Face → List Name
-face_named Outside = []
-face_named (Parcel n) = name.Parcel n ∷ []
+abbrev pub names_of_face : Face → List Name
+names_of_face Outside = []
+names_of_face (Parcel n) = name.Parcel n ∷ []
 
 -- what a string names: its points, its faces, its sources
 abbrev pub string_names : PlanString → List Name
-string_names s = name.Point s.row.from ∷ name.Point s.row.to ∷ (face_named s.left ++ (face_named s.right ++ sources_named s.row.sources))
+string_names s = name.Point s.row.from ∷ name.Point s.row.to ∷ (names_of_face s.left ++ (names_of_face s.right ++ sources_named s.row.sources))
 
 -- what the strings name
 unfoldable pub strings_name : List PlanString → List Name
 strings_name rows = flat_map string_names rows
 
 -- the first of these names of which the map has no row
-abbrev pub missing : Map → List Name → Option Name
-missing m names = find (λ n. not (is_there m n)) names
+abbrev pub missing_name : Map → List Name → Option Name
+missing_name m names = find (λ n. not (is_there m n)) names
 
 -- by kinds: points, parcels, strings
-abbrev pub unknown : Rows → Option Name
-unknown rows = first_some (missing (map_of rows) (points_name rows.points) ∷ missing (map_of rows) (parcels_name rows.parcels) ∷ missing (map_of rows) (strings_name rows.strings) ∷ [])
+abbrev pub unknown_name : Rows → Option Name
+unknown_name rows = first_some (missing_name (map_of rows) (points_name rows.points) ∷ missing_name (map_of rows) (parcels_name rows.parcels) ∷ missing_name (map_of rows) (strings_name rows.strings) ∷ [])
 
 -- ---- A string that ends nowhere, or has one face on both sides
 
@@ -150,8 +150,8 @@ other_label m strings = option_map (λ s. s.string) (find (λ s. not (keeps_face
 -- the first fault by which there is no such map
 abbrev pub first_fault : Rows → Option PlanFault
 first_fault rows = first_some
-    (option_map (λ n. faults.Taken n) (taken rows)
-    ∷ option_map (λ n. faults.Unknown n) (unknown rows)
+    (option_map (λ n. faults.Taken n) (twice_numbered rows)
+    ∷ option_map (λ n. faults.Unknown n) (unknown_name rows)
     ∷ option_map (λ n. faults.Dangling n) (dangling (map_of rows) rows.strings)
     ∷ option_map (λ n. faults.Corner n) (bad_corner (map_of rows) rows.strings)
     ∷ option_map (λ n. faults.Labels n) (other_label (map_of rows) rows.strings)

@@ -19,8 +19,8 @@ pub record FollowedSide : Type 0 where
   pub after : ℕ
   pub face : Face
 
-abbrev pub side_of : FollowedSide → Side
-side_of s = (s.from, s.to)
+abbrev pub side_of_followed : FollowedSide → Side
+side_of_followed s = (s.from, s.to)
 
 -- the side that comes after it
 abbrev pub side_behind : FollowedSide → Side
@@ -34,13 +34,13 @@ corner_of s = record { before = s.from; at = s.to; after = s.after }
 pub record HasNext (sides : List FollowedSide) (s : FollowedSide) : Type 0 where
   pub next : FollowedSide
   pub among : Contains sides next
-  pub behind : side_of next ≡ side_behind s
+  pub behind : side_of_followed next ≡ side_behind s
   pub face : next.face ≡ s.face
 
 -- sides of which each leads to another one with its face, and no two to the same one
 pub record AreFollowed (sides : List FollowedSide) : Type 0 where
   -- no side stands twice
-  pub once : EachPair (λ a b. a ≢ b) (map side_of sides)
+  pub once : EachPair (λ a b. a ≢ b) (map side_of_followed sides)
   -- two sides to the same point have different followers
   pub apart : EachPair (λ a b. a ≢ b) (map side_behind sides)
   pub next : AllByRecursion (HasNext sides) sides
@@ -49,16 +49,16 @@ pub record AreFollowed (sides : List FollowedSide) : Type 0 where
 -- ---- The sides of a plan
 
 -- a side with its face
-abbrev pub faced : FollowedSide → Side × Face
-faced s = (side_of s, s.face)
+abbrev pub side_and_face : FollowedSide → Side × Face
+side_and_face s = (side_of_followed s, s.face)
 
-abbrev pub faced_as : LabelledSide → Side × Face
-faced_as s = (s.side, s.face)
+abbrev pub labelled_side_and_face : LabelledSide → Side × Face
+labelled_side_and_face s = (s.side, s.face)
 
 -- both sides of each string in their order, each with its face and its one follower
 pub record AreSidesOf (m : Map) (strings : List PlanString) (sides : List FollowedSide) : Type 0 where
-  pub labels : map faced sides ≡ map faced_as (labelled_sides strings)
-  pub followers : AllByRecursion (λ s. followers m (side_of s) ≡ s.after ∷ []) sides
+  pub labels : map side_and_face sides ≡ map labelled_side_and_face (labelled_sides strings)
+  pub followers : AllByRecursion (λ s. followers m (side_of_followed s) ≡ s.after ∷ []) sides
 
 abbrev pub plan_side_of : PlanSide → Side
 plan_side_of s = (s.from, s.to)

@@ -5,7 +5,7 @@ use Rattle.geo_exact.specs.Sector.{in_sector}
 use Rattle.cad_rows.specs.declared.names.Face.{Face}
 use Rattle.cad_rings.specs.Cycle.{Side, opposite}
 use Rattle.cad_map.specs.Map.{Map, all_sides, all_corners, position_of, side_of, strings_at, far_end, left_face, right_face, string_sides}
-use Rattle.cad_map.specs.Boundaries.{listed}
+use Rattle.cad_map.specs.Boundaries.{canonical_order}
 use Rattle.cad_files.specs.declared.rows.PlanString.{PlanString}
 
 -- ---- Followers
@@ -44,7 +44,7 @@ pub record HasRingsOf (m : Map) (strings : List PlanString) : Type 0 where
   pub rows : m.strings ≡ map (λ s. s.row) strings
   -- each side of each string is in one ring, once, and no other side is in any
   pub once : IsPermutation (string_sides m) (all_sides m)
-  pub in_order : listed m.boundaries ≡ m.boundaries
+  pub canonical : canonical_order m.boundaries ≡ m.boundaries
   pub followers : AllByRecursion (λ c. Contains (followers m (c.before, c.at)) c.after) (all_corners m)
   pub left : AllByRecursion (λ s. left_face m s.row ≡ Some s.left) strings
   pub right : AllByRecursion (λ s. right_face m s.row ≡ Some s.right) strings

@@ -14,101 +14,101 @@ abbrev pub edit_line : Edit → Line
 edit_line e = lines.Command (commands.Edit e)
 
 -- a source: its number, and its text
-unfoldable pub add_source_meant : Seven → Option Line
-add_source_meant r =
+unfoldable pub add_source_of_fields : Seven → Option Line
+add_source_of_fields r =
     if are_blank (r.c ∷ r.d ∷ r.e ∷ r.f ∷ []) then option_and_then (λ n. option_map (λ text. edit_line (edits.AddSource n text)) (text_of r.b)) (number_of r.a) else None
 
 -- a point: its number, and its position
-unfoldable pub add_point_meant : Seven → Option Line
-add_point_meant r =
+unfoldable pub add_point_of_fields : Seven → Option Line
+add_point_of_fields r =
     if are_blank (r.d ∷ r.e ∷ r.f ∷ []) then
     option_and_then (λ n. option_and_then (λ x. option_map (λ y. edit_line (edits.AddPoint n x y)) (coordinate_of r.c)) (coordinate_of r.b)) (number_of r.a)
     else None
 
 -- a point's number
-unfoldable pub drop_point_meant : Seven → Option Line
-drop_point_meant r = if are_blank (r.b ∷ r.c ∷ r.d ∷ r.e ∷ r.f ∷ []) then option_map (λ n. edit_line (edits.DropPoint n)) (number_of r.a) else None
+unfoldable pub drop_point_of_fields : Seven → Option Line
+drop_point_of_fields r = if are_blank (r.b ∷ r.c ∷ r.d ∷ r.e ∷ r.f ∷ []) then option_map (λ n. edit_line (edits.DropPoint n)) (number_of r.a) else None
 
 -- a string, a new point and its position, and the numbers of the string's two halves
-unfoldable pub split_meant : Seven → Option Line
-split_meant r =
+unfoldable pub split_of_fields : Seven → Option Line
+split_of_fields r =
     option_and_then (λ s. option_and_then (λ p. option_and_then (λ x. option_and_then (λ y. option_and_then (λ first. option_map (λ second. edit_line (edits.Split s p x y first second))
     (number_of r.f)) (number_of r.e)) (coordinate_of r.d)) (coordinate_of r.c)) (number_of r.b)) (number_of r.a)
 
 -- a point, and the number of the joined string
-unfoldable pub join_meant : Seven → Option Line
-join_meant r = if are_blank (r.c ∷ r.d ∷ r.e ∷ r.f ∷ []) then option_and_then (λ p. option_map (λ s. edit_line (edits.Join p s)) (number_of r.b)) (number_of r.a) else None
+unfoldable pub join_of_fields : Seven → Option Line
+join_of_fields r = if are_blank (r.c ∷ r.d ∷ r.e ∷ r.f ∷ []) then option_and_then (λ p. option_map (λ s. edit_line (edits.Join p s)) (number_of r.b)) (number_of r.a) else None
 
 -- a face, the points of a chain, the strings along it, and the new parcel's number, label and source
-unfoldable pub divide_meant : Seven → Option Line
-divide_meant r =
+unfoldable pub divide_of_fields : Seven → Option Line
+divide_of_fields r =
     option_and_then (λ face. option_and_then (λ chain. option_and_then (λ strings. option_and_then (λ parcel. option_and_then (λ label. option_map (λ source. edit_line (edits.Divide face chain strings parcel label source))
     (number_of r.f)) (text_of r.e)) (number_of r.d)) (numbers_of r.c)) (numbers_of r.b)) (face_of r.a)
 
 -- the face that is kept, and the one that ends
-unfoldable pub merge_meant : Seven → Option Line
-merge_meant r = if are_blank (r.c ∷ r.d ∷ r.e ∷ r.f ∷ []) then option_and_then (λ kept. option_map (λ ended. edit_line (edits.Merge kept ended)) (face_of r.b)) (face_of r.a) else None
+unfoldable pub merge_of_fields : Seven → Option Line
+merge_of_fields r = if are_blank (r.c ∷ r.d ∷ r.e ∷ r.f ∷ []) then option_and_then (λ kept. option_map (λ ended. edit_line (edits.Merge kept ended)) (face_of r.b)) (face_of r.a) else None
 
 -- a face, the points round the island, the strings between them, and the new parcel's number, label and source
-unfoldable pub enclose_meant : Seven → Option Line
-enclose_meant r =
+unfoldable pub enclose_of_fields : Seven → Option Line
+enclose_of_fields r =
     option_and_then (λ face. option_and_then (λ points. option_and_then (λ strings. option_and_then (λ parcel. option_and_then (λ label. option_map (λ source. edit_line (edits.Enclose face points strings parcel label source))
     (number_of r.f)) (text_of r.e)) (number_of r.d)) (numbers_of r.c)) (numbers_of r.b)) (face_of r.a)
 
 -- a point, and its new position
-unfoldable pub move_meant : Seven → Option Line
-move_meant r =
+unfoldable pub move_of_fields : Seven → Option Line
+move_of_fields r =
     if are_blank (r.d ∷ r.e ∷ r.f ∷ []) then
     option_and_then (λ p. option_and_then (λ x. option_map (λ y. edit_line (edits.Move p x y)) (coordinate_of r.c)) (coordinate_of r.b)) (number_of r.a)
     else None
 
 -- an item, and a source's number
-unfoldable pub attach_meant : Seven → Option Line
-attach_meant r = if are_blank (r.d ∷ r.e ∷ r.f ∷ []) then option_and_then (λ i. option_map (λ s. edit_line (edits.Attach i s)) (number_of r.c)) (item_of r.a r.b) else None
+unfoldable pub attach_of_fields : Seven → Option Line
+attach_of_fields r = if are_blank (r.d ∷ r.e ∷ r.f ∷ []) then option_and_then (λ i. option_map (λ s. edit_line (edits.Attach i s)) (number_of r.c)) (item_of r.a r.b) else None
 
 -- a face
-unfoldable pub outline_meant : Seven → Option Line
-outline_meant r = if are_blank (r.b ∷ r.c ∷ r.d ∷ r.e ∷ r.f ∷ []) then option_map (λ f. lines.Outline f) (face_of r.a) else None
+unfoldable pub outline_of_fields : Seven → Option Line
+outline_of_fields r = if are_blank (r.b ∷ r.c ∷ r.d ∷ r.e ∷ r.f ∷ []) then option_map (λ f. lines.Outline f) (face_of r.a) else None
 
 -- an item, and a source's number
-unfoldable pub detach_meant : Seven → Option Line
-detach_meant r = if are_blank (r.d ∷ r.e ∷ r.f ∷ []) then option_and_then (λ i. option_map (λ s. edit_line (edits.Detach i s)) (number_of r.c)) (item_of r.a r.b) else None
+unfoldable pub detach_of_fields : Seven → Option Line
+detach_of_fields r = if are_blank (r.d ∷ r.e ∷ r.f ∷ []) then option_and_then (λ i. option_map (λ s. edit_line (edits.Detach i s)) (number_of r.c)) (item_of r.a r.b) else None
 
 -- a parcel, and its new label
-unfoldable pub rename_meant : Seven → Option Line
-rename_meant r =
+unfoldable pub rename_of_fields : Seven → Option Line
+rename_of_fields r =
     if are_blank (r.c ∷ r.d ∷ r.e ∷ r.f ∷ []) then option_and_then (λ p. option_map (λ label. edit_line (edits.Rename p label)) (text_of r.b)) (number_of r.a) else None
 
 -- a line whose record has its kind alone
-unfoldable pub bare_meant : Line → Seven → Option Line
-bare_meant line r = if are_blank (r.a ∷ r.b ∷ r.c ∷ r.d ∷ r.e ∷ r.f ∷ []) then Some line else None
+unfoldable pub bare_of_fields : Line → Seven → Option Line
+bare_of_fields line r = if are_blank (r.a ∷ r.b ∷ r.c ∷ r.d ∷ r.e ∷ r.f ∷ []) then Some line else None
 
 -- a line that asks for an edit
-unfoldable pub edit_meant : Seven → Option Line
-edit_meant r =
-    if bytes_eq r.kind (codes "add-source") then add_source_meant r
-    else if bytes_eq r.kind (codes "add-point") then add_point_meant r
-    else if bytes_eq r.kind (codes "drop-point") then drop_point_meant r
-    else if bytes_eq r.kind (codes "split") then split_meant r
-    else if bytes_eq r.kind (codes "join") then join_meant r
-    else if bytes_eq r.kind (codes "divide") then divide_meant r
-    else if bytes_eq r.kind (codes "merge") then merge_meant r
-    else if bytes_eq r.kind (codes "move") then move_meant r
-    else if bytes_eq r.kind (codes "attach") then attach_meant r
-    else if bytes_eq r.kind (codes "detach") then detach_meant r
-    else if bytes_eq r.kind (codes "rename") then rename_meant r
-    else if bytes_eq r.kind (codes "enclose") then enclose_meant r
+unfoldable pub edit_of_fields : Seven → Option Line
+edit_of_fields r =
+    if bytes_eq r.kind (codes "add-source") then add_source_of_fields r
+    else if bytes_eq r.kind (codes "add-point") then add_point_of_fields r
+    else if bytes_eq r.kind (codes "drop-point") then drop_point_of_fields r
+    else if bytes_eq r.kind (codes "split") then split_of_fields r
+    else if bytes_eq r.kind (codes "join") then join_of_fields r
+    else if bytes_eq r.kind (codes "divide") then divide_of_fields r
+    else if bytes_eq r.kind (codes "merge") then merge_of_fields r
+    else if bytes_eq r.kind (codes "move") then move_of_fields r
+    else if bytes_eq r.kind (codes "attach") then attach_of_fields r
+    else if bytes_eq r.kind (codes "detach") then detach_of_fields r
+    else if bytes_eq r.kind (codes "rename") then rename_of_fields r
+    else if bytes_eq r.kind (codes "enclose") then enclose_of_fields r
     else None
 
-unfoldable pub line_meant : Seven → Option Line
-line_meant r =
-    if bytes_eq r.kind (codes "undo") then bare_meant (lines.Command commands.Undo) r
-    else if bytes_eq r.kind (codes "redo") then bare_meant (lines.Command commands.Redo) r
-    else if bytes_eq r.kind (codes "areas") then bare_meant lines.Areas r
-    else if bytes_eq r.kind (codes "outline") then outline_meant r
-    else if bytes_eq r.kind (codes "print") then bare_meant lines.Print r
-    else edit_meant r
+unfoldable pub line_of_fields : Seven → Option Line
+line_of_fields r =
+    if bytes_eq r.kind (codes "undo") then bare_of_fields (lines.Command commands.Undo) r
+    else if bytes_eq r.kind (codes "redo") then bare_of_fields (lines.Command commands.Redo) r
+    else if bytes_eq r.kind (codes "areas") then bare_of_fields lines.Areas r
+    else if bytes_eq r.kind (codes "outline") then outline_of_fields r
+    else if bytes_eq r.kind (codes "print") then bare_of_fields lines.Print r
+    else edit_of_fields r
 
 -- what a record of a script asks for, where it is one
 abbrev pub line_of : List (List ℕ) → Option Line
-line_of fields = option_and_then line_meant (seven_of fields)
+line_of fields = option_and_then line_of_fields (seven_of fields)

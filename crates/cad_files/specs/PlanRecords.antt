@@ -16,46 +16,46 @@ version_of r =
     else None
 
 -- a source: its number, and its text
-unfoldable pub source_meant : Seven → Option PlanRecord
-source_meant r =
+unfoldable pub source_of_fields : Seven → Option PlanRecord
+source_of_fields r =
     if are_blank (r.c ∷ r.d ∷ r.e ∷ r.f ∷ []) then option_and_then (λ n. option_map (λ text. records.Source (record { number = n; text = text })) (text_of r.b)) (number_of r.a) else None
 
 -- a point: its number, its position, and its sources
-unfoldable pub point_meant : Seven → Option PlanRecord
-point_meant r =
+unfoldable pub point_of_fields : Seven → Option PlanRecord
+point_of_fields r =
     if are_blank (r.e ∷ r.f ∷ []) then
     option_and_then (λ n. option_and_then (λ x. option_and_then (λ y. option_map (λ sources. records.Point (record { number = n; x = x; y = y; sources = sources })) (distinct_of r.d)) (coordinate_of r.c)) (coordinate_of r.b)) (number_of r.a)
     else None
 
 -- a parcel: its number, its label, and its sources
-unfoldable pub parcel_meant : Seven → Option PlanRecord
-parcel_meant r =
+unfoldable pub parcel_of_fields : Seven → Option PlanRecord
+parcel_of_fields r =
     if are_blank (r.d ∷ r.e ∷ r.f ∷ []) then
     option_and_then (λ n. option_and_then (λ label. option_map (λ sources. records.Parcel (record { number = n; label = label; sources = sources })) (distinct_of r.c)) (text_of r.b)) (number_of r.a)
     else None
 
 -- a string: its number, the points that it runs from and to, the faces to its left and right, and its sources
-unfoldable pub string_meant : Seven → Option PlanRecord
-string_meant r =
+unfoldable pub string_of_fields : Seven → Option PlanRecord
+string_of_fields r =
     option_and_then (λ n. option_and_then (λ from. option_and_then (λ to. option_and_then (λ left. option_and_then (λ right. option_map (λ sources.
     records.String (record { number = n; from = from; to = to; left = left; right = right; sources = sources }))
     (distinct_of r.f)) (face_of r.e)) (face_of r.d)) (number_of r.c)) (number_of r.b)) (number_of r.a)
 
 -- a retired number of a parcel
-unfoldable pub retired_meant : Seven → Option PlanRecord
-retired_meant r = if are_blank (r.b ∷ r.c ∷ r.d ∷ r.e ∷ r.f ∷ []) then option_map (λ n. records.Retired n) (number_of r.a) else None
+unfoldable pub retired_of_fields : Seven → Option PlanRecord
+retired_of_fields r = if are_blank (r.b ∷ r.c ∷ r.d ∷ r.e ∷ r.f ∷ []) then option_map (λ n. records.Retired n) (number_of r.a) else None
 
 -- the end of the plan
-unfoldable pub open_meant : Seven → Option PlanRecord
-open_meant r = if are_blank (r.a ∷ r.b ∷ r.c ∷ r.d ∷ r.e ∷ r.f ∷ []) then Some records.Open else None
+unfoldable pub open_of_fields : Seven → Option PlanRecord
+open_of_fields r = if are_blank (r.a ∷ r.b ∷ r.c ∷ r.d ∷ r.e ∷ r.f ∷ []) then Some records.Open else None
 
 -- a record after the first
-unfoldable pub plan_meant : Seven → Option PlanRecord
-plan_meant r =
-    if bytes_eq r.kind (codes "source") then source_meant r
-    else if bytes_eq r.kind (codes "point") then point_meant r
-    else if bytes_eq r.kind (codes "parcel") then parcel_meant r
-    else if bytes_eq r.kind (codes "string") then string_meant r
-    else if bytes_eq r.kind (codes "retired") then retired_meant r
-    else if bytes_eq r.kind (codes "open") then open_meant r
+unfoldable pub plan_of_fields : Seven → Option PlanRecord
+plan_of_fields r =
+    if bytes_eq r.kind (codes "source") then source_of_fields r
+    else if bytes_eq r.kind (codes "point") then point_of_fields r
+    else if bytes_eq r.kind (codes "parcel") then parcel_of_fields r
+    else if bytes_eq r.kind (codes "string") then string_of_fields r
+    else if bytes_eq r.kind (codes "retired") then retired_of_fields r
+    else if bytes_eq r.kind (codes "open") then open_of_fields r
     else None

@@ -10,11 +10,11 @@ pub record Pool : Type 0 where
   pub left : List FollowedSide
 
 -- the sides that aren't taken, by their flags
-abbrev pub left_of : List PlanSide → List Bool → List FollowedSide
-left_of [] flags = []
-left_of (s ∷ sides) [] = []
-left_of (s ∷ sides) (true ∷ flags) = left_of sides flags
-left_of (s ∷ sides) (false ∷ flags) = followed_side s ∷ left_of sides flags
+abbrev pub untaken_sides : List PlanSide → List Bool → List FollowedSide
+untaken_sides [] flags = []
+untaken_sides (s ∷ sides) [] = []
+untaken_sides (s ∷ sides) (true ∷ flags) = untaken_sides sides flags
+untaken_sides (s ∷ sides) (false ∷ flags) = followed_side s ∷ untaken_sides sides flags
 
 -- each side with its flag, no side twice, each with the place of the one after it, and none left before the first place
 pub record IsPool (sides : List PlanSide) (flags : List Bool) (first : ℕ) : Type 0 where

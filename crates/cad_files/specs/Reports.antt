@@ -45,7 +45,7 @@ area_records m = map (λ r. area_record r (sum_of_face doubled_area m (face.Parc
 
 -- ---- Outlines
 
--- a ring of a face, in the form in which it is shown
+-- a ring of a face, in canonical form
 abbrev pub ring_record : Face → List ℕ → Ring → Record
 ring_record f kind r = codes "ring" ∷ face_field f ∷ kind ∷ list_field r ∷ [] ∷ [] ∷ [] ∷ []
 

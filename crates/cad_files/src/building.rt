@@ -1,7 +1,7 @@
 //! Building the map of a plan.
 ghost use Rattle.std.specs.Prelude.{◌≡◌, ◌≢◌, [], ◌||◌, IfOk, IfErr, OnOk, Some, None, option_map, map};
 ghost use Rattle.cad_map.specs.Map.{empty_map, has_parcel, is_retired};
-ghost use Rattle.cad_files.specs.Building.{source_taken, point_taken, parcel_taken, string_taken, retired_taken, taken, map_of, first_fault};
+ghost use Rattle.cad_files.specs.Building.{source_taken, point_taken, parcel_taken, string_taken, retired_taken, twice_numbered, map_of, first_fault};
 ghost use Rattle.cad_files.specs.Cycles.{AreSidesOf, AreLinked, followed_side};
 ghost use Rattle.cad_files.specs.declared.faults.PlanFault.TheVariants as faults;
 
@@ -113,8 +113,8 @@ fn put_retired(plain: &mut PlainMap, rows: &[ParcelNo]) -> Result<(), PlanFault>
 pub(crate) fn put_rows(plain: &mut PlainMap, rows: &PlanRows) -> Result<(), PlanFault>
     requires { plain.old ≡ empty_map }
     ensures ok { OnOk result (plain.new ≡ map_of rows.now) }
-    ensures free { OnOk result (taken rows.now ≡ None) }
-    ensures err { IfErr result (λ fault. fault ≢ faults.Memory → option_map (λ n. faults.Taken n) (taken rows.now) ≡ Some fault) }
+    ensures free { OnOk result (twice_numbered rows.now ≡ None) }
+    ensures err { IfErr result (λ fault. fault ≢ faults.Memory → option_map (λ n. faults.Taken n) (twice_numbered rows.now) ≡ Some fault) }
 {
     match put_sources(plain, rows.sources.as_slice()) {
         Ok(()) => {}
@@ -142,7 +142,7 @@ pub(crate) fn find_sides(
     rows: &PlanRows,
 ) -> Result<Vec<PlanSide>, PlanFault>
     requires map { plain.now ≡ map_of rows.now }
-    requires free { taken rows.now ≡ None }
+    requires free { twice_numbered rows.now ≡ None }
     ensures faultless { OnOk result (first_fault rows.now ≡ None) }
     ensures sides { IfOk result (λ sides. AreSidesOf plain.now rows.now.strings (map followed_side sides.items)) }
     ensures linked { IfOk result (λ sides. AreLinked sides.items) }

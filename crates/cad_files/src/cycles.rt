@@ -1,7 +1,7 @@
 //! The rings of a plan, from its sides and those that follow them.
 ghost use Rattle.std.specs.Prelude.{◌≡◌, ◌≢◌, ◌≤◌, ◌<◌, ◌∷◌, ◌++◌, [], false, length, map, slice_get, Some, IfOk, IfSome, IfNone, IsPermutation};
 ghost use Rattle.std.specs.List.{AllByRecursion, Contains};
-ghost use Rattle.cad_files.specs.Cycles.{side_of, side_behind, followed_side, AreFollowed, AreLinked, followed_of, followed_in};
+ghost use Rattle.cad_files.specs.Cycles.{side_of_followed, side_behind, followed_side, AreFollowed, AreLinked, followed_of, followed_in};
 
 use crate::side_pool::SidePool;
 use crate::sides::PlanSide;

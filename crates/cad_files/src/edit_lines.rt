@@ -1,6 +1,6 @@
 //! The lines of a script that ask for edits.
 ghost use Rattle.std.specs.Prelude.{◌≡◌, Some, None, IfOk};
-ghost use Rattle.cad_files.specs.Line.{add_source_meant, add_point_meant, drop_point_meant, split_meant, join_meant, divide_meant, merge_meant, move_meant, attach_meant, detach_meant, rename_meant, enclose_meant, edit_meant};
+ghost use Rattle.cad_files.specs.Line.{add_source_of_fields, add_point_of_fields, drop_point_of_fields, split_of_fields, join_of_fields, divide_of_fields, merge_of_fields, move_of_fields, attach_of_fields, detach_of_fields, rename_of_fields, enclose_of_fields, edit_of_fields};
 
 use crate::fields::{
     Fields, are_blank, coordinate, face, item, parcel_no, point_no, source_no, string_no, text,
@@ -12,9 +12,9 @@ use cad_rows::{Edit, Memory};
 use std::alloc::Global;
 
 // A source: its number, and its text.
-#[tactic(auto, unfolding(crate::specs::Line::add_source_meant))]
+#[tactic(auto, unfolding(crate::specs::Line::add_source_of_fields))]
 fn add_source(alloc: Global, r: &Fields<'_>) -> Result<Option<Line>, Memory>
-    ensures { IfOk result (λ line. line ≡ add_source_meant r.now) }
+    ensures { IfOk result (λ line. line ≡ add_source_of_fields r.now) }
 {
     if !are_blank(&[r.c, r.d, r.e, r.f]) {
         return Ok(None);
@@ -30,9 +30,9 @@ fn add_source(alloc: Global, r: &Fields<'_>) -> Result<Option<Line>, Memory>
 }
 
 // A point: its number, and its position.
-#[tactic(auto, unfolding(crate::specs::Line::add_point_meant))]
+#[tactic(auto, unfolding(crate::specs::Line::add_point_of_fields))]
 fn add_point(r: &Fields<'_>) -> Option<Line>
-    ensures { result ≡ add_point_meant r.now }
+    ensures { result ≡ add_point_of_fields r.now }
 {
     if !are_blank(&[r.d, r.e, r.f]) {
         return None;
@@ -44,9 +44,9 @@ fn add_point(r: &Fields<'_>) -> Option<Line>
 }
 
 // A point's number.
-#[tactic(auto, unfolding(crate::specs::Line::drop_point_meant))]
+#[tactic(auto, unfolding(crate::specs::Line::drop_point_of_fields))]
 fn drop_point(r: &Fields<'_>) -> Option<Line>
-    ensures { result ≡ drop_point_meant r.now }
+    ensures { result ≡ drop_point_of_fields r.now }
 {
     if !are_blank(&[r.b, r.c, r.d, r.e, r.f]) {
         return None;
@@ -56,9 +56,9 @@ fn drop_point(r: &Fields<'_>) -> Option<Line>
 }
 
 // A string, a new point and its position, and the numbers of the string's two halves.
-#[tactic(auto, unfolding(crate::specs::Line::split_meant))]
+#[tactic(auto, unfolding(crate::specs::Line::split_of_fields))]
 fn split(r: &Fields<'_>) -> Option<Line>
-    ensures { result ≡ split_meant r.now }
+    ensures { result ≡ split_of_fields r.now }
 {
     let string = string_no(r.a)?;
     let point = point_no(r.b)?;
@@ -77,9 +77,9 @@ fn split(r: &Fields<'_>) -> Option<Line>
 }
 
 // A point, and the number of the joined string.
-#[tactic(auto, unfolding(crate::specs::Line::join_meant))]
+#[tactic(auto, unfolding(crate::specs::Line::join_of_fields))]
 fn join(r: &Fields<'_>) -> Option<Line>
-    ensures { result ≡ join_meant r.now }
+    ensures { result ≡ join_of_fields r.now }
 {
     if !are_blank(&[r.c, r.d, r.e, r.f]) {
         return None;
@@ -90,9 +90,9 @@ fn join(r: &Fields<'_>) -> Option<Line>
 }
 
 // A face divided along a chain.
-#[tactic(auto, unfolding(crate::specs::Line::divide_meant))]
+#[tactic(auto, unfolding(crate::specs::Line::divide_of_fields))]
 fn divide(alloc: Global, r: &Fields<'_>) -> Result<Option<Line>, Memory>
-    ensures { IfOk result (λ line. line ≡ divide_meant r.now) }
+    ensures { IfOk result (λ line. line ≡ divide_of_fields r.now) }
 {
     let Some(face) = face(r.a) else {
         return Ok(None);
@@ -124,9 +124,9 @@ fn divide(alloc: Global, r: &Fields<'_>) -> Result<Option<Line>, Memory>
 }
 
 // The face that is kept, and the one that ends.
-#[tactic(auto, unfolding(crate::specs::Line::merge_meant))]
+#[tactic(auto, unfolding(crate::specs::Line::merge_of_fields))]
 fn merge(r: &Fields<'_>) -> Option<Line>
-    ensures { result ≡ merge_meant r.now }
+    ensures { result ≡ merge_of_fields r.now }
 {
     if !are_blank(&[r.c, r.d, r.e, r.f]) {
         return None;
@@ -137,9 +137,9 @@ fn merge(r: &Fields<'_>) -> Option<Line>
 }
 
 // A point, and its new position.
-#[tactic(auto, unfolding(crate::specs::Line::move_meant))]
+#[tactic(auto, unfolding(crate::specs::Line::move_of_fields))]
 fn move_point(r: &Fields<'_>) -> Option<Line>
-    ensures { result ≡ move_meant r.now }
+    ensures { result ≡ move_of_fields r.now }
 {
     if !are_blank(&[r.d, r.e, r.f]) {
         return None;
@@ -151,9 +151,9 @@ fn move_point(r: &Fields<'_>) -> Option<Line>
 }
 
 // An item, and a source's number.
-#[tactic(auto, unfolding(crate::specs::Line::attach_meant))]
+#[tactic(auto, unfolding(crate::specs::Line::attach_of_fields))]
 fn attach(r: &Fields<'_>) -> Option<Line>
-    ensures { result ≡ attach_meant r.now }
+    ensures { result ≡ attach_of_fields r.now }
 {
     if !are_blank(&[r.d, r.e, r.f]) {
         return None;
@@ -164,9 +164,9 @@ fn attach(r: &Fields<'_>) -> Option<Line>
 }
 
 // An item, and a source's number.
-#[tactic(auto, unfolding(crate::specs::Line::detach_meant))]
+#[tactic(auto, unfolding(crate::specs::Line::detach_of_fields))]
 fn detach(r: &Fields<'_>) -> Option<Line>
-    ensures { result ≡ detach_meant r.now }
+    ensures { result ≡ detach_of_fields r.now }
 {
     if !are_blank(&[r.d, r.e, r.f]) {
         return None;
@@ -177,9 +177,9 @@ fn detach(r: &Fields<'_>) -> Option<Line>
 }
 
 // A parcel, and its new label.
-#[tactic(auto, unfolding(crate::specs::Line::rename_meant))]
+#[tactic(auto, unfolding(crate::specs::Line::rename_of_fields))]
 fn rename(alloc: Global, r: &Fields<'_>) -> Result<Option<Line>, Memory>
-    ensures { IfOk result (λ line. line ≡ rename_meant r.now) }
+    ensures { IfOk result (λ line. line ≡ rename_of_fields r.now) }
 {
     if !are_blank(&[r.c, r.d, r.e, r.f]) {
         return Ok(None);
@@ -195,9 +195,9 @@ fn rename(alloc: Global, r: &Fields<'_>) -> Result<Option<Line>, Memory>
 }
 
 // A closed chain of points, made an island.
-#[tactic(auto, unfolding(crate::specs::Line::enclose_meant))]
+#[tactic(auto, unfolding(crate::specs::Line::enclose_of_fields))]
 fn enclose(alloc: Global, r: &Fields<'_>) -> Result<Option<Line>, Memory>
-    ensures { IfOk result (λ line. line ≡ enclose_meant r.now) }
+    ensures { IfOk result (λ line. line ≡ enclose_of_fields r.now) }
 {
     let Some(face) = face(r.a) else {
         return Ok(None);
@@ -229,9 +229,9 @@ fn enclose(alloc: Global, r: &Fields<'_>) -> Result<Option<Line>, Memory>
 }
 
 /// The edit that seven fields ask for, if they ask for one.
-#[tactic(auto, unfolding(crate::specs::Line::edit_meant))]
+#[tactic(auto, unfolding(crate::specs::Line::edit_of_fields))]
 pub(crate) fn edit_record(alloc: Global, r: &Fields<'_>) -> Result<Option<Line>, Memory>
-    ensures { IfOk result (λ line. line ≡ edit_meant r.now) }
+    ensures { IfOk result (λ line. line ≡ edit_of_fields r.now) }
 {
     if r.kind == b"add-source".as_slice() {
         add_source(alloc, r)

@@ -4,7 +4,7 @@ ghost use Rattle.std.specs.List.{list_all, Contains};
 ghost use Rattle.cad_map.specs.Map.{position_of};
 ghost use Rattle.cad_map.specs.Stars.{star, spokes_of};
 ghost use Rattle.cad_files.specs.Follower.{followers};
-ghost use Rattle.cad_files.specs.Arrival.{AreStarsOf, leaves_open as leaves_open_in, may_follow as may_follow_among, is_barred as is_barred_in, is_other as is_other_than, IsOnly, HasNone, HasTwo};
+ghost use Rattle.cad_files.specs.Arrival.{AreStarsOf, leaves_open as leaves_open_in, may_follow_there as may_follow_among, is_barred as is_barred_in, is_other as is_other_than, IsOnly, HasNone, HasTwo};
 
 use cad_map::{MapView, PlainMap, Spoke, Stars};
 use cad_rows::PointNo;

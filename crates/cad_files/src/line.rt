@@ -1,7 +1,7 @@
 //! The lines of a script.
 ghost use Rattle.std.specs.Prelude.{◌≡◌, Some, None, IfOk, IsErrOf};
 ghost use Rattle.csv.specs.Records.{fields_of};
-ghost use Rattle.cad_files.specs.Line.{outline_meant, bare_meant, line_meant, line_of};
+ghost use Rattle.cad_files.specs.Line.{outline_of_fields, bare_of_fields, line_of_fields, line_of};
 
 use crate::edit_lines::edit_record;
 use crate::fields::{Fields, are_blank, face, seven};
@@ -33,9 +33,9 @@ pub enum LineFault {
 }
 
 // A face.
-#[tactic(auto, unfolding(crate::specs::Line::outline_meant))]
+#[tactic(auto, unfolding(crate::specs::Line::outline_of_fields))]
 fn outline(r: &Fields<'_>) -> Option<Line>
-    ensures { result ≡ outline_meant r.now }
+    ensures { result ≡ outline_of_fields r.now }
 {
     if !are_blank(&[r.b, r.c, r.d, r.e, r.f]) {
         return None;
@@ -47,9 +47,9 @@ fn outline(r: &Fields<'_>) -> Option<Line>
 }
 
 // A line whose record has its kind alone.
-#[tactic(auto, unfolding(crate::specs::Line::bare_meant))]
+#[tactic(auto, unfolding(crate::specs::Line::bare_of_fields))]
 fn bare(line: Line, r: &Fields<'_>) -> Option<Line>
-    ensures { result ≡ bare_meant line r.now }
+    ensures { result ≡ bare_of_fields line r.now }
 {
     if are_blank(&[r.a, r.b, r.c, r.d, r.e, r.f]) {
         Some(line)
@@ -59,9 +59,9 @@ fn bare(line: Line, r: &Fields<'_>) -> Option<Line>
 }
 
 // What seven fields ask for.
-#[tactic(auto, unfolding(crate::specs::Line::line_meant))]
+#[tactic(auto, unfolding(crate::specs::Line::line_of_fields))]
 fn line_record(alloc: Global, r: &Fields<'_>) -> Result<Option<Line>, Memory>
-    ensures { IfOk result (λ line. line ≡ line_meant r.now) }
+    ensures { IfOk result (λ line. line ≡ line_of_fields r.now) }
 {
     if r.kind == b"undo".as_slice() {
         Ok(bare(Line::Command(Command::Undo), r))

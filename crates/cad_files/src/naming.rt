@@ -1,7 +1,7 @@
 //! Rows that a plan's records name.
 ghost use Rattle.std.specs.Prelude.{◌≡◌, ◌∷◌, []};
 ghost use Rattle.cad_rows.specs.declared.names.Name.TheVariants as name;
-ghost use Rattle.cad_files.specs.Building.{sources_named, face_named, string_names, points_name, parcels_name, strings_name, missing, first_some};
+ghost use Rattle.cad_files.specs.Building.{sources_named, names_of_face, string_names, points_name, parcels_name, strings_name, missing_name, first_some};
 
 use crate::rows::{PlanRows, PlanString};
 use cad_map::{MapView, PlainMap};
@@ -9,7 +9,7 @@ use cad_rows::{Face, Name, ParcelRow, PointNo, PointRow, SourceNo};
 
 // The point, where the map doesn't have it.
 fn missing_point(plain: &PlainMap, point: PointNo) -> Option<Name>
-    ensures { result ≡ missing plain.now (name.Point point ∷ []) }
+    ensures { result ≡ missing_name plain.now (name.Point point ∷ []) }
 {
     if plain.point(point).is_none() {
         return Some(Name::Point(point));
@@ -19,7 +19,7 @@ fn missing_point(plain: &PlainMap, point: PointNo) -> Option<Name>
 
 // The parcel of a face, where the map doesn't have it.
 fn missing_face(plain: &PlainMap, face: &Face) -> Option<Name>
-    ensures { result ≡ missing plain.now (face_named face.now) }
+    ensures { result ≡ missing_name plain.now (names_of_face face.now) }
 {
     match face {
         Face::Outside => None,
@@ -34,7 +34,7 @@ fn missing_face(plain: &PlainMap, face: &Face) -> Option<Name>
 
 // The first of these sources that the map doesn't have.
 fn missing_source(plain: &PlainMap, sources: &[SourceNo]) -> Option<Name>
-    ensures { result ≡ missing plain.now (sources_named sources.now) }
+    ensures { result ≡ missing_name plain.now (sources_named sources.now) }
 {
     for i in 0..sources.len() {
         let source = sources[i];
@@ -47,7 +47,7 @@ fn missing_source(plain: &PlainMap, sources: &[SourceNo]) -> Option<Name>
 
 // The first row that a string names and the map doesn't have: of its points, its faces and its sources.
 fn missing_of_string(plain: &PlainMap, string: &PlanString) -> Option<Name>
-    ensures { result ≡ missing plain.now (string_names string.now) }
+    ensures { result ≡ missing_name plain.now (string_names string.now) }
 {
     let from = missing_point(plain, string.row.from);
     let to = missing_point(plain, string.row.to);
@@ -60,7 +60,7 @@ fn missing_of_string(plain: &PlainMap, string: &PlanString) -> Option<Name>
 // The first row that the points name and the map doesn't have.
 #[tactic(auto, unfolding(crate::specs::Building::points_name))]
 fn missing_of_points(plain: &PlainMap, rows: &[PointRow]) -> Option<Name>
-    ensures { result ≡ missing plain.now (points_name rows.now) }
+    ensures { result ≡ missing_name plain.now (points_name rows.now) }
 {
     for i in 0..rows.len() {
         let name = missing_source(plain, rows[i].sources.as_slice());
@@ -74,7 +74,7 @@ fn missing_of_points(plain: &PlainMap, rows: &[PointRow]) -> Option<Name>
 // The first row that the parcels name and the map doesn't have.
 #[tactic(auto, unfolding(crate::specs::Building::parcels_name))]
 fn missing_of_parcels(plain: &PlainMap, rows: &[ParcelRow]) -> Option<Name>
-    ensures { result ≡ missing plain.now (parcels_name rows.now) }
+    ensures { result ≡ missing_name plain.now (parcels_name rows.now) }
 {
     for i in 0..rows.len() {
         let name = missing_source(plain, rows[i].sources.as_slice());
@@ -88,7 +88,7 @@ fn missing_of_parcels(plain: &PlainMap, rows: &[ParcelRow]) -> Option<Name>
 // The first row that the strings name and the map doesn't have.
 #[tactic(auto, unfolding(crate::specs::Building::strings_name))]
 fn missing_of_strings(plain: &PlainMap, rows: &[PlanString]) -> Option<Name>
-    ensures { result ≡ missing plain.now (strings_name rows.now) }
+    ensures { result ≡ missing_name plain.now (strings_name rows.now) }
 {
     for i in 0..rows.len() {
         let name = missing_of_string(plain, &rows[i]);
@@ -102,7 +102,7 @@ fn missing_of_strings(plain: &PlainMap, rows: &[PlanString]) -> Option<Name>
 /// The first row that the rows of a plan name and the map doesn't have: what points name comes first, then what parcels
 /// and what strings name.
 pub(crate) fn missing_row(plain: &PlainMap, rows: &PlanRows) -> Option<Name>
-    ensures { result ≡ first_some (missing plain.now (points_name rows.now.points) ∷ missing plain.now (parcels_name rows.now.parcels) ∷ missing plain.now (strings_name rows.now.strings) ∷ []) }
+    ensures { result ≡ first_some (missing_name plain.now (points_name rows.now.points) ∷ missing_name plain.now (parcels_name rows.now.parcels) ∷ missing_name plain.now (strings_name rows.now.strings) ∷ []) }
 {
     if let Some(name) = missing_of_points(plain, rows.points.as_slice()) {
         return Some(name);

@@ -3,7 +3,7 @@ ghost use Rattle.std.specs.Prelude.{◌≡◌, ◌≢◌, ◌+◌, ◌<◌, ◌^
 ghost use Rattle.csv.specs.Records.{fields_of};
 ghost use Rattle.cad_files.specs.Input.{HasRead};
 ghost use Rattle.cad_files.specs.Rows.{no_rows, HasOneMore};
-ghost use Rattle.cad_files.specs.Plan.{beginning, reading, opened, faulty, is_within as is_within_of, with_source, with_parcel, with_string, with_retired, point_step, record_step, plan_step, plan_of, IsPlanFault};
+ghost use Rattle.cad_files.specs.Plan.{beginning, reading, opened, faulty, is_within as is_within_of, with_source, with_parcel_record, with_string_record, with_retired, point_step, record_step, plan_step, plan_of, IsPlanFault};
 ghost use Rattle.cad_files.specs.declared.faults.PlanFault.TheVariants as faults;
 
 use crate::faults::PlanFault;
@@ -80,8 +80,8 @@ fn take_point(
 
 // Takes a parcel into the rows.
 fn take_parcel(rows: &mut PlanRows, parcel: ParcelRecord) -> Result<(), PlanFault>
-    ensures ok { OnOk result (with_parcel rows.old parcel ≡ Some rows.new) }
-    ensures full { IfErr result (λ fault. fault ≢ faults.Memory → with_parcel rows.old parcel ≡ None) }
+    ensures ok { OnOk result (with_parcel_record rows.old parcel ≡ Some rows.new) }
+    ensures full { IfErr result (λ fault. fault ≢ faults.Memory → with_parcel_record rows.old parcel ≡ None) }
     ensures err { IfErr result (λ fault. fault ≢ faults.Memory → fault ≡ faults.Full) }
     ensures grows { OnOk result (HasOneMore rows.old rows.new) }
 {
@@ -101,8 +101,8 @@ fn take_parcel(rows: &mut PlanRows, parcel: ParcelRecord) -> Result<(), PlanFaul
 
 // Takes a string into the rows, with the faces on its two sides.
 fn take_string(rows: &mut PlanRows, string: StringRecord) -> Result<(), PlanFault>
-    ensures ok { OnOk result (with_string rows.old string ≡ Some rows.new) }
-    ensures full { IfErr result (λ fault. fault ≢ faults.Memory → with_string rows.old string ≡ None) }
+    ensures ok { OnOk result (with_string_record rows.old string ≡ Some rows.new) }
+    ensures full { IfErr result (λ fault. fault ≢ faults.Memory → with_string_record rows.old string ≡ None) }
     ensures err { IfErr result (λ fault. fault ≢ faults.Memory → fault ≡ faults.Full) }
     ensures grows { OnOk result (HasOneMore rows.old rows.new) }
 {

@@ -1,6 +1,6 @@
 //! The records of a plan, each by itself.
 ghost use Rattle.std.specs.Prelude.{◌≡◌, IfOk};
-ghost use Rattle.cad_files.specs.PlanRecords.{version_of, source_meant, point_meant, parcel_meant, string_meant, retired_meant, open_meant, plan_meant};
+ghost use Rattle.cad_files.specs.PlanRecords.{version_of, source_of_fields, point_of_fields, parcel_of_fields, string_of_fields, retired_of_fields, open_of_fields, plan_of_fields};
 
 use crate::fields::{
     Fields, are_blank, coordinate, face, parcel_no, point_no, source_no, string_no, text,
@@ -74,9 +74,9 @@ pub(crate) fn plan_version(r: &Fields<'_>) -> Option<Version>
 }
 
 // A source: its number, and its text.
-#[tactic(auto, unfolding(crate::specs::PlanRecords::source_meant))]
+#[tactic(auto, unfolding(crate::specs::PlanRecords::source_of_fields))]
 fn source_record(alloc: Global, r: &Fields<'_>) -> Result<Option<PlanRecord>, Memory>
-    ensures { IfOk result (λ o. o ≡ source_meant r.now) }
+    ensures { IfOk result (λ o. o ≡ source_of_fields r.now) }
 {
     if !are_blank(&[r.c, r.d, r.e, r.f]) {
         return Ok(None);
@@ -91,9 +91,9 @@ fn source_record(alloc: Global, r: &Fields<'_>) -> Result<Option<PlanRecord>, Me
 }
 
 // A point: its number, its position, and its sources.
-#[tactic(auto, unfolding(crate::specs::PlanRecords::point_meant))]
+#[tactic(auto, unfolding(crate::specs::PlanRecords::point_of_fields))]
 fn point_record(alloc: Global, r: &Fields<'_>) -> Result<Option<PlanRecord>, Memory>
-    ensures { IfOk result (λ o. o ≡ point_meant r.now) }
+    ensures { IfOk result (λ o. o ≡ point_of_fields r.now) }
 {
     if !are_blank(&[r.e, r.f]) {
         return Ok(None);
@@ -119,9 +119,9 @@ fn point_record(alloc: Global, r: &Fields<'_>) -> Result<Option<PlanRecord>, Mem
 }
 
 // A parcel: its number, its label, and its sources.
-#[tactic(auto, unfolding(crate::specs::PlanRecords::parcel_meant))]
+#[tactic(auto, unfolding(crate::specs::PlanRecords::parcel_of_fields))]
 fn parcel_record(alloc: Global, r: &Fields<'_>) -> Result<Option<PlanRecord>, Memory>
-    ensures { IfOk result (λ o. o ≡ parcel_meant r.now) }
+    ensures { IfOk result (λ o. o ≡ parcel_of_fields r.now) }
 {
     if !are_blank(&[r.d, r.e, r.f]) {
         return Ok(None);
@@ -143,9 +143,9 @@ fn parcel_record(alloc: Global, r: &Fields<'_>) -> Result<Option<PlanRecord>, Me
 }
 
 // A string: its number, its points, the faces to its left and right, and its sources.
-#[tactic(auto, unfolding(crate::specs::PlanRecords::string_meant))]
+#[tactic(auto, unfolding(crate::specs::PlanRecords::string_of_fields))]
 fn string_record(alloc: Global, r: &Fields<'_>) -> Result<Option<PlanRecord>, Memory>
-    ensures { IfOk result (λ o. o ≡ string_meant r.now) }
+    ensures { IfOk result (λ o. o ≡ string_of_fields r.now) }
 {
     let Some(number) = string_no(r.a) else {
         return Ok(None);
@@ -176,9 +176,9 @@ fn string_record(alloc: Global, r: &Fields<'_>) -> Result<Option<PlanRecord>, Me
 }
 
 // A retired number of a parcel.
-#[tactic(auto, unfolding(crate::specs::PlanRecords::retired_meant))]
+#[tactic(auto, unfolding(crate::specs::PlanRecords::retired_of_fields))]
 fn retired_record(r: &Fields<'_>) -> Option<PlanRecord>
-    ensures { result ≡ retired_meant r.now }
+    ensures { result ≡ retired_of_fields r.now }
 {
     if !are_blank(&[r.b, r.c, r.d, r.e, r.f]) {
         return None;
@@ -190,9 +190,9 @@ fn retired_record(r: &Fields<'_>) -> Option<PlanRecord>
 }
 
 // The end of the plan.
-#[tactic(auto, unfolding(crate::specs::PlanRecords::open_meant))]
+#[tactic(auto, unfolding(crate::specs::PlanRecords::open_of_fields))]
 fn open_record(r: &Fields<'_>) -> Option<PlanRecord>
-    ensures { result ≡ open_meant r.now }
+    ensures { result ≡ open_of_fields r.now }
 {
     if are_blank(&[r.a, r.b, r.c, r.d, r.e, r.f]) {
         Some(PlanRecord::Open)
@@ -202,9 +202,9 @@ fn open_record(r: &Fields<'_>) -> Option<PlanRecord>
 }
 
 /// What a record after the first means, or `None` where it is none of a plan.
-#[tactic(auto, unfolding(crate::specs::PlanRecords::plan_meant))]
+#[tactic(auto, unfolding(crate::specs::PlanRecords::plan_of_fields))]
 pub(crate) fn plan_record(alloc: Global, r: &Fields<'_>) -> Result<Option<PlanRecord>, Memory>
-    ensures { IfOk result (λ o. o ≡ plan_meant r.now) }
+    ensures { IfOk result (λ o. o ≡ plan_of_fields r.now) }
 {
     if r.kind == b"source".as_slice() {
         source_record(alloc, r)

@@ -2,7 +2,7 @@
 ghost use Rattle.std.specs.Prelude.{◌≡◌, ◌≢◌, ◌<◌, ◌≤◌, ◌∷◌, [], true, false, length, map, slice_get, Some, IfOk, IfSome, IfNone, IsPermutation, ℕ};
 ghost use Rattle.std.specs.List.{AllByRecursion, Contains};
 ghost use Rattle.cad_map.specs.Valid.{EachPair};
-ghost use Rattle.cad_files.specs.Cycles.{side_of, side_behind, plan_side_of, followed_side, AreLinked};
+ghost use Rattle.cad_files.specs.Cycles.{side_of_followed, side_behind, plan_side_of, followed_side, AreLinked};
 
 use crate::sides::PlanSide;
 use cad_rows::Memory;
@@ -20,13 +20,13 @@ pub(crate) struct SidePool {
 }
 
 impl Model for SidePool {
-    ghost use Rattle.cad_files.specs.Pool.{Pool, left_of, IsPool};
+    ghost use Rattle.cad_files.specs.Pool.{Pool, untaken_sides, IsPool};
 
     ghost Value = { Pool };
 
     ghost view = { λ a. record {
       all = a.sides.items;
-      left = left_of a.sides.items a.is_taken.items;
+      left = untaken_sides a.sides.items a.is_taken.items;
     } };
 
     ghost invariant = { λ a. IsPool a.sides.items a.is_taken.items a.first };
@@ -87,7 +87,7 @@ impl SidePool {
         requires { Contains self.old.all last.now }
         ensures among { IfSome result (λ s. Contains self.old.all s) }
         ensures some { IfSome result (λ s. (plan_side_of s ≡ side_behind (followed_side last.now)) × IsPermutation self.old.left (followed_side s ∷ self.new.left)) }
-        ensures none { IfNone result (AllByRecursion (λ s. side_of s ≢ side_behind (followed_side last.now)) self.old.left × (self.new ≡ self.old)) }
+        ensures none { IfNone result (AllByRecursion (λ s. side_of_followed s ≢ side_behind (followed_side last.now)) self.old.left × (self.new ≡ self.old)) }
         ensures all { self.new.all ≡ self.old.all }
     {
         let next = last.next;

@@ -2,7 +2,7 @@
 
 ghost use Rattle.std.specs.Prelude.{◌≡◌, ◌≤◌, ◌<◌, ◌-◌, ◌==◌, ℕ, List, Option, Some, length, take, MatchResult, OnOk, OnErr, IfOk, is_err, IsErr, ◌↔◌, [], if◌then◌else◌};
 ghost use Rattle.std.specs.Io.KnownBytes.{Appends, Keeps};
-ghost use Rattle.cad_files.specs.Sinks.{IsFront, fails_with, counted};
+ghost use Rattle.cad_files.specs.Sinks.{IsFront, fails_with, counted_up};
 
 use std::alloc::Global;
 use std::marker::Model;
@@ -24,12 +24,12 @@ pub trait Sink {
     fn write(&mut self, bytes: &[u8]) -> Result<usize, SinkFault>
         ensures within { IfOk result (λ n. n ≤ length bytes.now) }
         ensures taken { MatchResult result (λ n. Appends (taken self.old) (taken self.new) (take n bytes.now)) (λ _. Keeps (taken self.old) (taken self.new)) }
-        ensures failures { failures self.new ≡ (if fails_with result bytes.now then counted (failures self.old) else failures self.old) };
+        ensures failures { failures self.new ≡ (if fails_with result bytes.now then counted_up (failures self.old) else failures self.old) };
 
     /// Sends on what was taken.
     fn flush(&mut self) -> Result<(), SinkFault>
         ensures taken { Keeps (taken self.old) (taken self.new) }
-        ensures failures { failures self.new ≡ (if is_err result then counted (failures self.old) else failures self.old) };
+        ensures failures { failures self.new ≡ (if is_err result then counted_up (failures self.old) else failures self.old) };
 }
 
 /// A sink that keeps its bytes in memory, and fails from a call on.
@@ -42,9 +42,9 @@ pub struct MemSink {
 }
 
 impl Model for MemSink {
-    ghost use Rattle.cad_files.specs.Sinks.{Kept};
+    ghost use Rattle.cad_files.specs.Sinks.{KeptBytes};
 
-    ghost Value = { Kept };
+    ghost Value = { KeptBytes };
 
     ghost view = { λ s. record { bytes = s.bytes.items; calls = s.calls; fails_from = s.fails_from; failures = s.failures } };
 }
@@ -78,10 +78,10 @@ impl Sink for MemSink {
     fn write(&mut self, bytes: &[u8]) -> Result<usize, SinkFault>
         ensures within { IfOk result (λ n. n ≤ length bytes.now) }
         ensures taken { MatchResult result (λ n. Appends (Some self.old.bytes) (Some self.new.bytes) (take n bytes.now)) (λ _. Keeps (Some self.old.bytes) (Some self.new.bytes)) }
-        ensures failures { self.new.failures ≡ (if fails_with result bytes.now then counted self.old.failures else self.old.failures) }
+        ensures failures { self.new.failures ≡ (if fails_with result bytes.now then counted_up self.old.failures else self.old.failures) }
         ensures whole { IfOk result (λ n. n ≡ length bytes.now) }
-        ensures calls { self.new.calls ≡ counted self.old.calls }
-        ensures fails { self.old.fails_from ≤ counted self.old.calls → IsErr result }
+        ensures calls { self.new.calls ≡ counted_up self.old.calls }
+        ensures fails { self.old.fails_from ≤ counted_up self.old.calls → IsErr result }
         ensures limit { self.new.fails_from ≡ self.old.fails_from }
     {
         self.calls = self.calls.saturating_add(1);
@@ -94,9 +94,9 @@ impl Sink for MemSink {
 
     fn flush(&mut self) -> Result<(), SinkFault>
         ensures taken { Keeps (Some self.old.bytes) (Some self.new.bytes) }
-        ensures failures { self.new.failures ≡ (if is_err result then counted self.old.failures else self.old.failures) }
-        ensures calls { self.new.calls ≡ counted self.old.calls }
-        ensures fails { IsErr result ↔ (self.old.fails_from ≤ counted self.old.calls) }
+        ensures failures { self.new.failures ≡ (if is_err result then counted_up self.old.failures else self.old.failures) }
+        ensures calls { self.new.calls ≡ counted_up self.old.calls }
+        ensures fails { IsErr result ↔ (self.old.fails_from ≤ counted_up self.old.calls) }
         ensures limit { self.new.fails_from ≡ self.old.fails_from }
     {
         self.calls = self.calls.saturating_add(1);
@@ -112,7 +112,7 @@ impl Sink for MemSink {
 pub fn write_all<S: Sink>(sink: &mut S, bytes: &[u8]) -> Result<(), SinkFault>
     ensures ok { OnOk result (Appends (S.taken sink.old) (S.taken sink.new) bytes.now) }
     ensures err { OnErr result ((front : List ℕ) × IsFront front bytes.now × Appends (S.taken sink.old) (S.taken sink.new) front) }
-    ensures failed { OnErr result (S.failures sink.new ≡ counted (S.failures sink.old)) }
+    ensures failed { OnErr result (S.failures sink.new ≡ counted_up (S.failures sink.old)) }
     ensures passed { OnOk result (S.failures sink.new ≡ S.failures sink.old) }
 {
     let mut rest = bytes;

@@ -4,7 +4,7 @@ use Rattle.std.proofs.lemmas.Option.{same_Some}
 use Rattle.cad_rows.specs.declared.edits.Edit.{Edit}
 use Rattle.cad_map.specs.Map.{Map}
 use Rattle.cad_map.specs.Outcome.{LeadsTo}
-use Rattle.cad_history.specs.History.{History, IsHistory, opened, shown, standing, LeadAlong}
+use Rattle.cad_history.specs.History.{History, IsHistory, opened, shown_map, standing, LeadAlong}
 
 -- each map leads to the next by its edit
 Chain : List Map → List Edit → Type 0
@@ -26,6 +26,6 @@ built_from (m ∷ maps) edits k first a chain same at_first at =
     let is_first = same_Some _ _ at_first in
     subst (λ x. LeadAlong x (take k edits) a) is_first (built_to k m maps edits a chain (omega arith) at)
 
-pub built_shown : (h : History) (first a : Map) → IsHistory h → opened h ≡ Some first → shown h ≡ Some a → LeadAlong first (standing h) a
+pub built_shown : (h : History) (first a : Map) → IsHistory h → opened h ≡ Some first → shown_map h ≡ Some a → LeadAlong first (standing h) a
 unfolding Chain
 built_shown h first a is at_first at = built_from h.maps h.edits h.place first a is.each is.one_more at_first at

@@ -8,7 +8,7 @@ use Rattle.cad_rows.specs.declared.edits.Edit.{Edit}
 use Rattle.cad_map.specs.Map.{Map}
 use Rattle.cad_map.specs.Valid.{IsValid}
 use Rattle.cad_map.specs.Outcome.{LeadsTo}
-use Rattle.cad_history.specs.History.{History, IsHistory, shown, beginning, with_edit}
+use Rattle.cad_history.specs.History.{History, IsHistory, shown_map, beginning, with_edit}
 use Rattle.cad_history.specs.Standing.{EditorState, StandsFor}
 use Rattle.cad_history.proofs.Cut.{length-cut, cut_below, cut_at}
 
@@ -26,7 +26,7 @@ IsHistory-beginning m depth valid = record {
 }
 
 -- a history with an edit
-pub IsHistory-with_edit : (h : History) (e : Edit) (b a : Map) → IsHistory h → shown h ≡ Some b → LeadsTo b e a → IsHistory (with_edit h e a)
+pub IsHistory-with_edit : (h : History) (e : Edit) (b a : Map) → IsHistory h → shown_map h ≡ Some b → LeadsTo b e a → IsHistory (with_edit h e a)
 IsHistory-with_edit h e b a is at_b leads =
     let k = h.place in
     let fits : k + 1 ≤ length h.maps = omega (arith, is.at_a_map) in
@@ -75,8 +75,8 @@ IsHistory-at h k is above within = record {
 
 module _ {S R : Type 0} (map_of : S → Map) (belongs : R → Map → Map → Type 0) where
   -- an editor whose map is valid stands for valid maps
-  pub shown-valid : (s : EditorState S R) (h : History) → StandsFor map_of belongs s h → IsValid (map_of s.store)
-  shown-valid s h st = st.history.valid h.place (map_of s.store) st.shows
+  pub shown_map-valid : (s : EditorState S R) (h : History) → StandsFor map_of belongs s h → IsValid (map_of s.store)
+  shown_map-valid s h st = st.history.valid h.place (map_of s.store) st.shows
 
   -- no more edits stand than there are records
   pub within_records : (s : EditorState S R) (h : History) → StandsFor map_of belongs s h → s.place ≤ length s.records

@@ -9,7 +9,7 @@ use Rattle.cad_history.specs.declared.commands.Answer.TheVariants.{Refused}
 use Rattle.cad_history.specs.History.{History, with_edit}
 use Rattle.cad_history.specs.Steps.{Step, Run}
 use Rattle.cad_history.specs.Steps.Step.{edit_made, edit_refused, undo_made, nothing_to_undo, redo_made, nothing_to_redo, no_memory_to_undo, no_memory_to_redo}
-use Rattle.cad_map.proofs.Broken.{leads-one, leads-not_refused, refused-one, refused-but_memory}
+use Rattle.cad_map.proofs.CallerLemmas.{leads-one, leads-not_refused, refused-one, refused-but_memory}
 
 step-one : (h x y : History) (c : Command) (a : Answer) → Step h c a x → Step h c a y → x ≡ y
 step-one h x y c a (edit_made {e} {old = m} {new = n} at leads) (edit_made {e = f} {old = m'} {new = n'} at' leads') =

@@ -20,8 +20,8 @@ abbrev pub opened : History → Option Map
 opened h = slice_get h.maps 0
 
 -- the map that is shown
-abbrev pub shown : History → Option Map
-shown h = slice_get h.maps h.place
+abbrev pub shown_map : History → Option Map
+shown_map h = slice_get h.maps h.place
 
 -- each map, the opened one too, is valid and led to the next by its edit, and place and floor are in their ranges
 pub record IsHistory (h : History) : Type 0 where

@@ -5,7 +5,7 @@ use Rattle.std.specs.Coded.{Coded, code_by, coded×, coded_list, coded_ℕ}
 use Rattle.cad_map.specs.Map.{Map}
 use Rattle.cad_history.specs.declared.commands.Command.{Command}
 use Rattle.cad_history.specs.declared.commands.Answer.{Answer}
-use Rattle.cad_history.specs.History.{History, IsHistory, shown}
+use Rattle.cad_history.specs.History.{History, IsHistory, shown_map}
 use Rattle.cad_history.specs.Steps.{Step, Run}
 
 -- an editor: its store, the records of the edits from the floor on, how many of them stand, and its depth
@@ -25,7 +25,7 @@ module _ {Store Entry : Type 0} (map_of : Store → Map) (belongs : Entry → Ma
   -- neighbours from the floor to the last map.
   pub record StandsFor (e : EditorState Store Entry) (h : History) : Type 0 where
     pub history : IsHistory h
-    pub shows : shown h ≡ Some (map_of e.store)
+    pub shows : shown_map h ≡ Some (map_of e.store)
     pub pairs : (i : ℕ) (r : Entry) (before after : Map) → slice_get e.records i ≡ Some r → slice_get h.maps (h.floor + i) ≡ Some before → slice_get h.maps (h.floor + i + 1) ≡ Some after → belongs r before after
     pub each_pair : h.floor + length e.records + 1 ≡ length h.maps
     pub at_place : h.floor + e.place ≡ h.place

@@ -11,14 +11,14 @@ use Rattle.cad_history.specs.declared.commands.Answer.{Answer}
 use Rattle.cad_history.specs.declared.commands.Answer.TheVariants.{Done, Nothing, Refused}
 use Rattle.cad_history.specs.declared.commands.UndoFault.{UndoFault}
 use Rattle.cad_history.specs.declared.commands.UndoFault.TheVariants as fault
-use Rattle.cad_history.specs.History.{History, shown, with_edit, CanUndo, CanRedo, undone, redone}
+use Rattle.cad_history.specs.History.{History, shown_map, with_edit, CanUndo, CanRedo, undone, redone}
 
 -- a history may give this answer to a command, and goes on as that one
 pub data Step (h : History) : Command → Answer → History → Type 0 where
   -- the edit leads from the map that is shown to another
-  edit_made : {e : Edit} {old new : Map} → shown h ≡ Some old → LeadsTo old e new → Step h (command.Edit e) Done (with_edit h e new)
+  edit_made : {e : Edit} {old new : Map} → shown_map h ≡ Some old → LeadsTo old e new → Step h (command.Edit e) Done (with_edit h e new)
   -- or it is refused there, and nothing changes
-  edit_refused : {e : Edit} {old : Map} {r : Refusal} → shown h ≡ Some old → MayRefuse old e r → Step h (command.Edit e) (Refused r) h
+  edit_refused : {e : Edit} {old : Map} {r : Refusal} → shown_map h ≡ Some old → MayRefuse old e r → Step h (command.Edit e) (Refused r) h
   undo_made : CanUndo h → Step h command.Undo Done (undone h)
   nothing_to_undo : ¬ CanUndo h → Step h command.Undo Nothing h
   redo_made : CanRedo h → Step h command.Redo Done (redone h)

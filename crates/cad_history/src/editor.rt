@@ -2,7 +2,7 @@
 ghost use Rattle.std.specs.Prelude.{◌≡◌, ◌↔◌, Some, IsTrue, IfOk, IfErr};
 ghost use Rattle.cad_map.specs.Map.{Map};
 ghost use Rattle.cad_map.specs.Valid.{IsValid};
-ghost use Rattle.cad_history.specs.History.{History, beginning, opened, shown, standing, CanUndo, CanRedo, LeadAlong};
+ghost use Rattle.cad_history.specs.History.{History, beginning, opened, shown_map, standing, CanUndo, CanRedo, LeadAlong};
 ghost use Rattle.cad_history.specs.Steps.{edit_answer, undo_answer};
 ghost use Rattle.cad_history.specs.Standing.{StandsFor, StandsForSome, Goes};
 
@@ -115,7 +115,7 @@ impl<M: MapStore> Editor<M> {
     /// The map that is shown.
     pub fn map(&self) -> &M
         ensures store { result.now ≡ self.now.store }
-        ensures shown { (h : History) → StandsFor M.map M.belongs self.now h → shown h ≡ Some (M.map result.now) }
+        ensures shown_map { (h : History) → StandsFor M.map M.belongs self.now h → shown_map h ≡ Some (M.map result.now) }
 
         // It is valid.
         ensures valid { StandsForSome M.map M.belongs self.now → IsValid (M.map result.now) }

@@ -6,7 +6,7 @@ ghost use Rattle.cad_history.specs.declared.commands.Answer.{Answer};
 ghost use Rattle.cad_history.specs.declared.commands.Answer.TheVariants as answer;
 ghost use Rattle.cad_map.specs.Map.{Map};
 ghost use Rattle.cad_map.specs.Valid.{IsValid};
-ghost use Rattle.cad_history.specs.History.{History, IsHistory, beginning, shown};
+ghost use Rattle.cad_history.specs.History.{History, IsHistory, beginning, shown_map};
 ghost use Rattle.cad_history.specs.Steps.{Step, Run};
 
 /// To a command there is one answer beside want of memory, and after given answers there is one history.
@@ -21,5 +21,5 @@ pub fn one_history()
 pub fn histories_stay()
     ensures beginning { (m : Map) (depth : ℕ) → IsValid m → IsHistory (beginning m depth) }
     ensures step { (h new : History) (c : Command) (a : Answer) → IsHistory h → Step h c a new → IsHistory new }
-    ensures shown { (h : History) (m : Map) → IsHistory h → shown h ≡ Some m → IsValid m }
+    ensures shown_map { (h : History) (m : Map) → IsHistory h → shown_map h ≡ Some m → IsValid m }
 {}

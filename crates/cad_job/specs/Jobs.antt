@@ -3,7 +3,7 @@ use Rattle.std.specs.Prelude.{◌≡◌, ◌≢◌, ◌⊎◌, ℕ, List, [], �
 use Rattle.cad_rows.specs.declared.refusals.Refusal.TheVariants as refusal
 use Rattle.cad_rows.specs.declared.names.Face.{Face}
 use Rattle.cad_map.specs.Map.{Map}
-use Rattle.cad_history.specs.History.{History, beginning, shown}
+use Rattle.cad_history.specs.History.{History, beginning, shown_map}
 use Rattle.cad_history.specs.Steps.{Step}
 use Rattle.cad_history.specs.declared.commands.Command.{Command}
 use Rattle.cad_history.specs.declared.commands.Answer.{Answer}
@@ -34,11 +34,11 @@ pub data IsAnswered (h : History) : Option Line → List ℕ → History → Typ
   by_history : {c : Command} {a : Answer} {after : History} {text : List ℕ} → Step h c a after → ¬ (a ≡ answer.Refused refusal.Memory)
       → text ≡ text_of (answer_record a ∷ []) → IsAnswered h (Some (line.Command c)) text after
   -- the areas of the parcels of the map that is shown
-  told_areas : {m : Map} {text : List ℕ} → shown h ≡ Some m → text ≡ text_of (area_records m) → IsAnswered h (Some line.Areas) text h
+  told_areas : {m : Map} {text : List ℕ} → shown_map h ≡ Some m → text ≡ text_of (area_records m) → IsAnswered h (Some line.Areas) text h
   -- the outline of a face of the map that is shown, or that the parcel is unknown
-  told_outline : {m : Map} {f : Face} {text : List ℕ} → shown h ≡ Some m → text ≡ text_of (outline_answer m f) → IsAnswered h (Some (line.Outline f)) text h
+  told_outline : {m : Map} {f : Face} {text : List ℕ} → shown_map h ≡ Some m → text ≡ text_of (outline_answer m f) → IsAnswered h (Some (line.Outline f)) text h
   -- the plan of the map that is shown
-  printed : {m : Map} {text : List ℕ} → shown h ≡ Some m → text ≡ text_of (plan_records m) → IsAnswered h (Some line.Print) text h
+  printed : {m : Map} {text : List ℕ} → shown_map h ≡ Some m → text ≡ text_of (plan_records m) → IsAnswered h (Some line.Print) text h
 
 -- the records of a script are answered in turn by these bytes
 abbrev pub AreAnswered : History → List (List (List ℕ)) → List ℕ → History → Type 0

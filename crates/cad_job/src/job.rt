@@ -10,7 +10,7 @@ ghost use Rattle.cad_files.specs.Input.{HasRead};
 ghost use Rattle.cad_files.specs.Rows.{Rows};
 ghost use Rattle.cad_files.specs.Plan.{plan_of, opened};
 ghost use Rattle.cad_files.specs.Line.{line_of};
-ghost use Rattle.cad_files.specs.Sinks.{counted};
+ghost use Rattle.cad_files.specs.Sinks.{counted_up};
 ghost use Rattle.cad_job.specs.Jobs.{IsAnswered, DoesScript, DoesJob, job_fault};
 
 use crate::faults::JobFault;
@@ -50,7 +50,7 @@ pub fn run_job<R: Read + Drop, S: Sink>(
         × Appends (S.taken sink.old) (S.taken sink.new) written × DoesJob (strip_bom input) depth written result) }
 
     // A write fault comes only of a failed call of the sink.
-    ensures write { IsErrOf result JobFault.Write → S.failures sink.new ≡ counted (S.failures sink.old) }
+    ensures write { IsErrOf result JobFault.Write → S.failures sink.new ≡ counted_up (S.failures sink.old) }
     ensures quiet { OnOk result (S.failures sink.new ≡ S.failures sink.old) }
 {
     let mut reader = ReaderBuilder::new()
@@ -78,7 +78,7 @@ fn run_script<R: Read, S: Sink, M: MapStore + Drop>(
     requires { IsValid (M.map store) }
     ensures does { (text : List ℕ) (plan : List (List (List ℕ))) (rows : Rows) → HasRead R.remaining text plan reader.old → plan_of plan ≡ opened rows
         → (written : List ℕ) × Appends (S.taken sink.old) (S.taken sink.new) written × DoesScript text plan (M.map store) depth written result }
-    ensures write { IsErrOf result JobFault.Write → S.failures sink.new ≡ counted (S.failures sink.old) }
+    ensures write { IsErrOf result JobFault.Write → S.failures sink.new ≡ counted_up (S.failures sink.old) }
     ensures quiet { OnOk result (S.failures sink.new ≡ S.failures sink.old) }
 {
     let mut editor = match Editor::open(alloc, store, depth) {
@@ -112,7 +112,7 @@ fn run_script<R: Read, S: Sink, M: MapStore + Drop>(
 fn flushed<S: Sink>(sink: &mut S, end: Result<(), JobFault>) -> Result<(), JobFault>
     ensures kept { Keeps (S.taken sink.old) (S.taken sink.new) }
     ensures ended { ((result ≡ end) × (S.failures sink.new ≡ S.failures sink.old))
-        ⊎ ((result ≡ Err JobFault.Write) × (S.failures sink.new ≡ counted (S.failures sink.old))) }
+        ⊎ ((result ≡ Err JobFault.Write) × (S.failures sink.new ≡ counted_up (S.failures sink.old))) }
 {
     match sink.flush() {
         Ok(()) => end,

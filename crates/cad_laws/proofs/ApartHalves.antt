@@ -9,15 +9,10 @@ use Rattle.cad_rings.specs.Cycle.{Side, is_side, opposite}
 use Rattle.cad_map.specs.Map.{Map, string_of, side_of, string_sides, all_sides}
 use Rattle.cad_map.specs.Rings.{HasWholeRings}
 use Rattle.cad_map.specs.Valid.{EachPair, HasTwoEnds}
-use Rattle.cad_map.proofs.Elements.{Contains-cases, Contains-first, Contains-later, Contains-flat_map, All-at_each}
-use Rattle.cad_map.proofs.ElementFacts.{find-Contains}
-use Rattle.cad_map.proofs.JoinedStrings.{both}
-use Rattle.cad_map.proofs.Lists.{found-number}
-use Rattle.cad_map.proofs.Parallel.{pairs-IsPermutation, is_side-is}
-use Rattle.cad_map.proofs.TakenOut.{EachPair-append}
+use Rattle.cad_map.proofs.CallerLemmas.{Contains-cases, Contains-first, Contains-later, Contains-flat_map, All-at_each, find-Contains, both, found-number, pairs-IsPermutation, is_side-is, EachPair-append}
 use Rattle.half_table.specs.declared.half.Half.{Half}
 use Rattle.half_table.specs.Half.{half_of, forward_of, backward_of}
-use Rattle.half_table.specs.Rows.{Rows, origin}
+use Rattle.half_table.specs.Rows.{HalfRows, origin_of}
 use Rattle.cad_laws.specs.Local.{IsShown, side_by, BeginAtEnds}
 
 -- a side that two strings have is of one
@@ -47,7 +42,7 @@ one-string (s ∷ strings) once r q h k u has too =
       ]
     ]
 
-module _ (m : Map) (rows : Rows) (two : HasTwoEnds m) (whole : HasWholeRings m)
+module _ (m : Map) (rows : HalfRows) (two : HasTwoEnds m) (whole : HasWholeRings m)
     (begin : BeginAtEnds m rows) where
   -- the string of a half, and which way the half goes along it
   record IsOf (h : Half) : Type 0 where
@@ -70,8 +65,8 @@ module _ (m : Map) (rows : Rows) (two : HasTwoEnds m) (whole : HasWholeRings m)
           record { string = row; there = there; way = either h.forward refl row number ends }
         where
           either : (b : Bool) → h.forward ≡ b → (row : StringRow) → row.number ≡ h.string
-              → (origin rows (forward_of row.number) ≡ row.from)
-              × (origin rows (backward_of row.number) ≡ row.to)
+              → (origin_of rows (forward_of row.number) ≡ row.from)
+              × (origin_of rows (backward_of row.number) ≡ row.to)
               → ((h ≡ forward_of row.number) × (side_by rows h ≡ side_of row))
               ⊎ ((h ≡ backward_of row.number) × (side_by rows h ≡ opposite (side_of row)))
           either true e row number ends =

@@ -8,11 +8,7 @@ use Rattle.cad_rings.specs.Surgery.{sides_of_chain}
 use Rattle.cad_map.specs.Chain.{start_of, inner_of, end_of}
 use Rattle.cad_map.specs.Map.{Map, all_sides}
 use Rattle.cad_map.specs.Rings.{HasWholeRings}
-use Rattle.cad_map.proofs.AddedRows.{All-join}
-use Rattle.cad_map.proofs.ChainFacts.{in_parts, ends-along, ends-chain}
-use Rattle.cad_map.proofs.Elements.{Contains-first, All-at_each, All-from_each}
-use Rattle.cad_map.proofs.Merged.{of_both_ways}
-use Rattle.cad_map.proofs.WholeSides.{opposite-in_all}
+use Rattle.cad_map.proofs.CallerLemmas.{All-join, in_parts, ends-along, ends-chain, Contains-first, All-at_each, All-from_each, of_both_ways, opposite-in_all}
 use Rattle.cad_laws.specs.Parting.{HasCorner, IsOn, IsParted, HasIsland}
 use Rattle.cad_laws.specs.Joining.{WasCorner, IsJoinedAt}
 use Rattle.cad_laws.specs.Joining.WasCorner.{stood, before_first, before_second, behind_first, behind_second}

@@ -25,13 +25,7 @@ use Rattle.cad_map.specs.Map.{Map, point_of, parcel_of, string_of, strings_at, i
 use Rattle.cad_map.specs.Refusals.{first_refusal, sources_at}
 use Rattle.cad_map.specs.Table.{row_with, without_row, with_row}
 use Rattle.cad_map.specs.Valid.{IsValid}
-use Rattle.cad_map.proofs.Allowed.{allowed, IsAllowed, free-point, free-source, free-split, free-join, two-joined, there-one}
-use Rattle.cad_map.proofs.AllowedParcels.{can-divide, can-enclose, can-merge, names-parcels}
-use Rattle.cad_map.proofs.Elements.{Contains-cases, Contains-map}
-use Rattle.cad_map.proofs.Lists.{found-number, map-with_row, All-Contains}
-use Rattle.cad_map.proofs.ChainFacts.{numbers-strings_along}
-use Rattle.cad_map.proofs.KeptJoin.{MeetAt, meet-at}
-use Rattle.cad_map.proofs.KeptRows.{length-push}
+use Rattle.cad_map.proofs.CallerLemmas.{allowed, IsAllowed, free-point, free-source, free-split, free-join, two-joined, there-one, can-divide, can-enclose, can-merge, names-parcels, Contains-cases, Contains-map, found-number, map-with_row, All-Contains, numbers-strings_along, MeetAt, meet-at, length-push}
 use Rattle.cad_laws.specs.Counts.{rows_by, sources_by, shared_strings, sources_of_strings}
 use Rattle.cad_laws.proofs.CountedRows.{Turn, Turns, turns, turned, turned-put, turned-out, turned-same, row-out, row-turned, filter-alike}
 

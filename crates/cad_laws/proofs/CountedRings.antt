@@ -16,25 +16,17 @@ use Rattle.cad_rows.specs.declared.rows.ParcelRow.{ParcelRow}
 use Rattle.cad_rings.specs.Cycle.{Ring, Side, sides_of, anchor_of}
 use Rattle.cad_map.specs.declared.boundary.Boundary.{Boundary}
 use Rattle.cad_map.specs.Asked.{GivesInRange}
-use Rattle.cad_map.specs.Boundaries.{is_face, bounding, shown}
+use Rattle.cad_map.specs.Boundaries.{is_face, bounding, canonical_form}
 use Rattle.cad_map.specs.Costs.{has_ring, has_boundary, rings_moved}
 use Rattle.cad_map.specs.Division.{hole_placed}
 use Rattle.cad_map.specs.Effects.{after}
 use Rattle.cad_map.specs.Map.{Map, has_face, rings_of, is_negative, is_in_ring}
-use Rattle.cad_map.specs.Merger.{Seam, handed_over}
-use Rattle.cad_map.specs.Merger.Seam.{along, around}
+use Rattle.cad_map.specs.Merger.{ChainInRings, handed_over}
+use Rattle.cad_map.specs.Merger.ChainInRings.{along, around}
 use Rattle.cad_map.specs.Refusals.{first_refusal}
 use Rattle.cad_map.specs.Rings.{HasWholeRings}
 use Rattle.cad_map.specs.Valid.{IsValid, HasSoundRows}
-use Rattle.cad_map.proofs.Allowed.{allowed}
-use Rattle.cad_map.proofs.AllowedParcels.{can-divide, can-enclose, can-merge, names-parcels}
-use Rattle.cad_map.proofs.Elements.{All-at_each, Contains-first, Contains-later, Contains-map, count-yes, count-no, count-map, list_any-Contains}
-use Rattle.cad_map.proofs.Kept.{kept}
-use Rattle.cad_map.proofs.Lists.{All-follows}
-use Rattle.cad_map.proofs.MergedRows.{CanMerge}
-use Rattle.cad_map.proofs.RingsOfMap.{rings_of_map}
-use Rattle.cad_map.proofs.TrailsOfRings.{has_first}
-use Rattle.cad_map.proofs.WholeSides.{one_boundary}
+use Rattle.cad_map.proofs.CallerLemmas.{allowed, can-divide, can-enclose, can-merge, names-parcels, All-at_each, Contains-first, Contains-later, Contains-map, count-yes, count-no, count-map, list_any-Contains, kept, All-follows, CanMerge, rings_of_map, has_first, one_boundary}
 use Rattle.cad_laws.specs.Counts.{rings_by}
 use Rattle.cad_laws.specs.Faces.{HasPlaced, HasMerged, IsMergedIn, merged_with, placed_with}
 use Rattle.cad_laws.proofs.CountedSides.{not-there, no-face, ended-gone}
@@ -120,7 +112,7 @@ module _ (m after : Map) (kept ended : Face) (chain : List Side) (k e : Ring) (m
   handed b h is =
       has-moved after b (handed_over kept ended b)
       (Contains-permutation (merged_with kept ended more others) after.boundaries _ it.are
-      (Contains-append_right (map (λ r. shown (bounding kept r)) more)
+      (Contains-append_right (map (λ r. canonical_form (bounding kept r)) more)
       (map (handed_over kept ended) others) _
       (Contains-map (handed_over kept ended) others b h)))
       (by (of_ended b) refl) (not-there after b (λ k. no-face after v1 ended gone b k is))
@@ -166,7 +158,7 @@ module _ (m after : Map) (face new : Face) (gone : List Boundary) (left right : 
       let first = has_first b.ring (All-at_each (λ b. 2 ≤ length b.ring) after.boundaries b long h)
       in
       one_boundary first.0 after.boundaries b c
-      ((rings_of_map after after.boundaries whole whole.v1.in_order long).distinct.once first.0)
+      ((rings_of_map after after.boundaries whole whole.v1.canonical long).distinct.once first.0)
       h k first.2 (subst (λ (r : Ring). Contains (sides_of r) first.0) (sym same) first.2)
 
   old : (b : Boundary) → Contains others b → Contains m.boundaries b
@@ -194,9 +186,9 @@ module _ (m after : Map) (face new : Face) (gone : List Boundary) (left right : 
       there : Contains after.boundaries (placed b)
       there =
           Contains-permutation (placed_with m face new left right others) after.boundaries
-          (placed b) it.are (Contains-later (shown (bounding new left))
-          (shown (bounding face right) ∷ map placed others) (placed b)
-          (Contains-later (shown (bounding face right)) (map placed others) (placed b)
+          (placed b) it.are (Contains-later (canonical_form (bounding new left))
+          (canonical_form (bounding face right) ∷ map placed others) (placed b)
+          (Contains-later (canonical_form (bounding face right)) (map placed others) (placed b)
           (Contains-map placed others b h)))
 
   rings-placed : length (rings_of after new) - 1 ≤ rings_moved m after
@@ -204,9 +196,9 @@ module _ (m after : Map) (face new : Face) (gone : List Boundary) (left right : 
       let all = rings-counted after new in
       let there = count-permuted of_new (placed_with m face new left right others)
       after.boundaries it.are in
-      let first = count-first of_new (shown (bounding new left))
-      (shown (bounding face right) ∷ map placed others) in
-      let second = count-no of_new (shown (bounding face right)) (map placed others)
+      let first = count-first of_new (canonical_form (bounding new left))
+      (canonical_form (bounding face right) ∷ map placed others) in
+      let second = count-no of_new (canonical_form (bounding face right)) (map placed others)
       (not-face new face two) in
       let images = count-map placed of_new others in
       let few = count-passing (λ b. of_new (placed b)) (moved after) others passed in
@@ -221,9 +213,9 @@ merged-rings : (m : Map) (k n : ℕ) → IsValid m → GivesInRange (Merge (Parc
     → length (rings_of m (Parcel n)) - 1
     ≤ rings_moved m (after m (Merge (Parcel k) (Parcel n)))
 merged-rings m k n v given none =
-    by can.seam (merged-faces m (Parcel k) (Parcel n) can.seam v none
-    (subst (λ (l : List Seam). Contains l can.seam) (sym can.found)
-    (Contains-first can.seam can.others)))
+    by can.shared_chain (merged-faces m (Parcel k) (Parcel n) can.shared_chain v none
+    (subst (λ (l : List ChainInRings). Contains l can.shared_chain) (sym can.found)
+    (Contains-first can.shared_chain can.others)))
   where
     can : CanMerge m k n
     can = can-merge m k n (allowed m (Merge (Parcel k) (Parcel n)) none)
@@ -237,7 +229,7 @@ merged-rings m k n v given none =
     two : Parcel n ≢ Parcel k
     two same = can.two (let is : n ≡ k = cc in sym is)
 
-    by : (x : Seam) → IsMergedIn x m new (Parcel k) (Parcel n)
+    by : (x : ChainInRings) → IsMergedIn x m new (Parcel k) (Parcel n)
         → length (rings_of m (Parcel n)) - 1 ≤ rings_moved m new
     by (along c r i e j) it =
         rings-merged m new (Parcel k) (Parcel n) _ r e _ it.0 it.1 v1 (ended-gone m k n) two

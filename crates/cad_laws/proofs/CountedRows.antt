@@ -15,11 +15,7 @@ use Rattle.cad_map.specs.Costs.{rows_changed, sources_removed}
 use Rattle.cad_map.specs.Map.{Map}
 use Rattle.cad_map.specs.Table.{row_with, without_row}
 use Rattle.cad_map.specs.Valid.{EachPair}
-use Rattle.cad_map.proofs.Elements.{Contains-cases, Contains-first, Contains-later, Contains-map}
-use Rattle.cad_map.proofs.ElementFacts.{filter-Contains}
-use Rattle.cad_map.proofs.JoinedRings.{filter-append}
-use Rattle.cad_map.proofs.Lists.{All-Contains}
-use Rattle.cad_map.proofs.RowsLeft.{none-filter}
+use Rattle.cad_map.proofs.CallerLemmas.{Contains-cases, Contains-first, Contains-later, Contains-map, filter-Contains, filter-append, All-Contains, none-filter}
 use Rattle.cad_laws.proofs.Elsewhere.{filter-none}
 
 -- ---- Tests of the elements of one list

@@ -12,7 +12,7 @@ use Rattle.cad_rings.specs.Surgery.{corner, left_ring, right_ring, sides_of_chai
 use Rattle.cad_rings.proofs.CallerLemmas.{IsCut, cut, corners_of-same, IsSameRing-turned, sides_of_chain-is}
 use Rattle.cad_rings.proofs.CutCorners.{last_of, first_of}
 use Rattle.cad_map.specs.declared.boundary.Boundary.{Boundary}
-use Rattle.cad_map.specs.Boundaries.{bounding, listed, corners_in}
+use Rattle.cad_map.specs.Boundaries.{bounding, canonical_order, corners_in}
 use Rattle.cad_map.specs.Map.{Map, all_sides, all_corners, rings_of}
 use Rattle.cad_map.specs.Chain.{start_of, next_of, end_of, last_but_one, inner_of, leaving, chosen_corner, strings_along}
 use Rattle.cad_map.specs.Division.{place_of, hole_placed}
@@ -21,20 +21,9 @@ use Rattle.cad_map.specs.Effects.{after}
 use Rattle.cad_map.specs.Refusals.{first_refusal}
 use Rattle.cad_map.specs.Asked.{GivesInRange}
 use Rattle.cad_map.specs.Valid.{IsValid}
-use Rattle.cad_map.proofs.Allowed.{allowed}
-use Rattle.cad_map.proofs.AllowedParcels.{can-divide}
-use Rattle.cad_map.proofs.ChosenCorners.{IsChosen, face-ring}
-use Rattle.cad_map.proofs.CutSides.{IsOnlyIn}
-use Rattle.cad_map.proofs.Divided.{CanDivide, IsCutRing, cut_ring}
-use Rattle.cad_map.proofs.Divided as divided
-use Rattle.cad_map.proofs.Elements.{Contains-in_part, All-at_each}
-use Rattle.cad_map.proofs.FacesBeside.{has_side-Contains, sides-once}
-use Rattle.cad_map.proofs.JoinedRings.{corner-sides}
-use Rattle.cad_map.proofs.ListedSides.{corners_in-listed}
-use Rattle.cad_map.proofs.NextSides.{one_boundary, ring-walked}
-use Rattle.cad_map.proofs.TrailsOfRings.{IsWalked}
-use Rattle.cad_map.proofs.Walks.{once-from_pairs}
-use Rattle.cad_map.specs.Trails.{next_side}
+use Rattle.cad_map.proofs.CallerLemmas.{allowed, can-divide, IsChosen, face-ring, IsOnlyIn, CanDivide, IsCutRing, cut_ring, Contains-in_part, All-at_each, has_side-Contains, sides-once, corner-sides, corners_in-canonical_order, one_boundary, ring-walked, IsWalked, once-from_pairs}
+use Rattle.cad_map.proofs.CallerLemmas as maps
+use Rattle.cad_map.specs.Steps.{next_side}
 use Rattle.cad_laws.specs.Parting.{IsOn, IsParted}
 use Rattle.cad_laws.proofs.PartedCorners.{ends-there, whole, parted, is_parted}
 use Rattle.cad_laws.proofs.MapCorners.{off-sides, two-sides, behind-only, place-begins, parts-among, corners-holes_placed}
@@ -75,7 +64,7 @@ module _ (m : Map) (valid : IsValid m) (face : Face) (chain strings : List ℕ) 
   Z = slice_index b.ring j
 
   abbrev k : IsCut i j inner b.ring
-  k = cut i j inner b.ring (divided.two m valid face chain strings parcel label source can b ring)
+  k = cut i j inner b.ring (maps.two m valid face chain strings parcel label source can b ring)
 
   abbrev pub others : List Boundary
   others = filter (λ c. not (has_side (leaving can.first) (sides_of c.ring))) m.boundaries
@@ -106,7 +95,7 @@ module _ (m : Map) (valid : IsValid m) (face : Face) (chain strings : List ℕ) 
       behind-only b.ring walked.two walked.once first can.first
       (round_i first (ends-there A k.xs Z k.ys).0)
       (in-ring m valid face (start_of chain) (next_of chain) can.first
-      (divided.at_first m valid face chain strings parcel label source can)
+      (maps.at_first m valid face chain strings parcel label source can)
       b ring.there ring.has_first)
       (sym (place-begins (leaving can.first) b.ring ring.has_first A k.xs Z k.ys k.round))
 
@@ -115,12 +104,12 @@ module _ (m : Map) (valid : IsValid m) (face : Face) (chain strings : List ℕ) 
       behind-only b.ring walked.two walked.once last can.last
       (round_i last (ends-there A k.xs Z k.ys).1)
       (in-ring m valid face (end_of chain) (last_but_one chain) can.last
-      (divided.at_last m valid face chain strings parcel label source can)
+      (maps.at_last m valid face chain strings parcel label source can)
       b ring.there ring.has_last)
       (sym (place-begins (leaving can.last) b.ring ring.has_last Z k.ys A k.xs k.round_back))
 
   only : IsOnlyIn (leaving can.first) m.boundaries b
-  only = divided.only m valid face chain strings parcel label source can b ring
+  only = maps.only m valid face chain strings parcel label source can b ring
 
   before-is : IsPermutation (whole A k.xs Z k.ys inner rest) (all_corners m)
   before-is =
@@ -153,7 +142,7 @@ module _ (m : Map) (valid : IsValid m) (face : Face) (chain strings : List ℕ) 
 
   pub new-is : new ≡ with_boundaries placed
       (with_new_parcel (strings_along (source ∷ []) strings chain) parcel label source m)
-  new-is = divided.divide-is m valid face chain strings parcel label source can b ring
+  new-is = maps.divide-is m valid face chain strings parcel label source can b ring
 
   after-is : IsPermutation (parted A k.xs Z k.ys inner rest) (all_corners new)
   after-is =
@@ -164,22 +153,22 @@ module _ (m : Map) (valid : IsValid m) (face : Face) (chain strings : List ℕ) 
       (corners_of (k.right t) ++ corners-holes_placed m face (Parcel parcel) L others t))
       ∙ sym (append_assoc L1 R1 rest) in
       subst (λ (n : Map). IsPermutation ((L1 ++ R1) ++ rest) (all_corners n)) (sym new-is)
-      (subst (λ (l : List Corner). IsPermutation l (corners_in (listed placed))) same
-      (corners_in-listed placed))
+      (subst (λ (l : List Corner). IsPermutation l (corners_in (canonical_order placed))) same
+      (corners_in-canonical_order placed))
 
   free : (c : Corner) → Contains (all_corners m) c → IsOn (sides_along A inner Z) c → ⊥
   free c h on =
-      let across = divided.across m valid face chain strings parcel label source can b ring in
+      let across = maps.across m valid face chain strings parcel label source can b ring in
       let sides : sides_along A inner Z ≡ sides_of_chain chain =
       sym (sides_of_chain-is A inner Z) ∙ ap sides_of_chain across in
       off-sides m.boundaries (two-sides m valid) (sides_of_chain chain)
-      (divided.new-side m valid face chain strings parcel label source can)
-      (divided.new-side_back m valid face chain strings parcel label source can) c h
+      (maps.new-side m valid face chain strings parcel label source can)
+      (maps.new-side_back m valid face chain strings parcel label source can) c h
       (subst (λ (l : List Side). IsOn l c) sides on)
 
   parted-divided : IsParted m new chain can.first can.last
   parted-divided =
-      let across = divided.across m valid face chain strings parcel label source can b ring in
+      let across = maps.across m valid face chain strings parcel label source can b ring in
       subst (λ (t : List ℕ × Corner × Corner). IsParted m new t.0 t.1 t.2)
       (λ t. (across t, first-is t, last-is t))
       (is_parted A k.xs Z k.ys inner rest m new before-is after-is free)

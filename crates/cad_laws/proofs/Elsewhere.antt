@@ -5,15 +5,11 @@ use Rattle.std.specs.List.{Contains}
 use Rattle.cad_rows.specs.declared.names.Face.{Face}
 use Rattle.cad_rows.specs.declared.names.Face.TheVariants.{Outside, Parcel}
 use Rattle.cad_map.specs.declared.boundary.Boundary.{Boundary}
-use Rattle.cad_map.specs.Boundaries.{is_face, listed}
+use Rattle.cad_map.specs.Boundaries.{is_face, canonical_order}
 use Rattle.cad_map.specs.Map.{Map, rings_at, rings_of}
 use Rattle.cad_map.specs.Table.{row_with, with_row, without_row}
 use Rattle.cad_map.specs.Valid.{HasSoundRows}
-use Rattle.cad_map.proofs.Elements.{Contains-cases, Contains-first, Contains-later}
-use Rattle.cad_map.proofs.FacesBeside.{is_face-same}
-use Rattle.cad_map.proofs.JoinedRings.{filter-append}
-use Rattle.cad_map.proofs.KeptRows.{differs}
-use Rattle.cad_map.proofs.ListedParts.{listed-filter}
+use Rattle.cad_map.proofs.CallerLemmas.{Contains-cases, Contains-first, Contains-later, is_face-same, filter-append, differs, canonical_order-filter}
 
 -- ---- Elements
 
@@ -125,15 +121,15 @@ module _ {X : Type 0} (test : X → Bool) where
 
 -- ---- Rings of one face
 
--- boundaries that have the face's rings as a map has them are listed with the same
+-- boundaries that have the face's rings as a map has them have the same in canonical order
 pub rings-elsewhere : (m : Map) → HasSoundRows m → (f : Face) (bs : List Boundary)
     → filter (λ b. is_face f b.face) bs ≡ filter (λ b. is_face f b.face) m.boundaries
-    → rings_at f (listed bs) ≡ rings_of m f
+    → rings_at f (canonical_order bs) ≡ rings_of m f
 rings-elsewhere m rows f bs same =
     let own : Boundary → Bool = λ b. is_face f b.face in
     ap (map (λ (b : Boundary). b.ring))
-    (sym (listed-filter own (λ b. refl) bs) ∙ ap listed same
-    ∙ listed-filter own (λ b. refl) m.boundaries ∙ ap (filter own) rows.in_order)
+    (sym (canonical_order-filter own (λ b. refl) bs) ∙ ap canonical_order same
+    ∙ canonical_order-filter own (λ b. refl) m.boundaries ∙ ap (filter own) rows.canonical)
 
 -- ---- Rows by their numbers
 

@@ -7,7 +7,7 @@ use Rattle.cad_rows.specs.declared.names.Face.TheVariants.{Parcel}
 use Rattle.cad_rows.specs.declared.edits.Edit.TheVariants.{Enclose}
 use Rattle.cad_rings.specs.Cycle.{sides_of, Corner, corners_of}
 use Rattle.cad_rings.proofs.CallerLemmas.{corners_of-reversed}
-use Rattle.cad_map.specs.Boundaries.{listed, corners_in}
+use Rattle.cad_map.specs.Boundaries.{canonical_order, corners_in}
 use Rattle.cad_map.specs.Map.{Map, all_corners}
 use Rattle.cad_map.specs.Division.{boundaries_enclosed}
 use Rattle.cad_map.specs.Changes.{enclose}
@@ -15,10 +15,7 @@ use Rattle.cad_map.specs.Effects.{after}
 use Rattle.cad_map.specs.Refusals.{first_refusal}
 use Rattle.cad_map.specs.Asked.{GivesInRange}
 use Rattle.cad_map.specs.Valid.{IsValid}
-use Rattle.cad_map.proofs.Allowed.{allowed}
-use Rattle.cad_map.proofs.AllowedParcels.{can-enclose}
-use Rattle.cad_map.proofs.Enclosed.{CanEnclose, is_division-enclosed}
-use Rattle.cad_map.proofs.ListedSides.{corners_in-listed}
+use Rattle.cad_map.proofs.CallerLemmas.{allowed, can-enclose, CanEnclose, is_division-enclosed, corners_in-canonical_order}
 use Rattle.cad_laws.specs.Parting.{HasIsland}
 use Rattle.cad_laws.proofs.MapCorners.{off-sides, two-sides, corners-holes_placed}
 use Rattle.cad_laws.proofs.IslandCorners.{has_island}
@@ -40,8 +37,8 @@ island-enclosed m face (a ∷ others) strings parcel label source valid can =
     (all_corners m) (corners_of-reversed points) m
     (enclose m face points strings parcel label source)
     (IsPermutation-refl (all_corners m))
-    (subst (λ (l : List Corner). IsPermutation l (corners_in (listed bs))) same
-    (corners_in-listed bs))
+    (subst (λ (l : List Corner). IsPermutation l (corners_in (canonical_order bs))) same
+    (corners_in-canonical_order bs))
     (λ c h on.
     off-sides m.boundaries (two-sides m valid) (sides_of points) of.new of.new_back c h on)
 

@@ -6,11 +6,7 @@ use Rattle.std.specs.Prelude.{IsPermutation}
 use Rattle.std.specs.List.{Contains}
 use Rattle.cad_rings.specs.Cycle.{Ring, sides_of, Corner, corner_back, corners_of}
 use Rattle.cad_map.specs.Map.{Map, all_corners}
-use Rattle.cad_map.proofs.Elements.{Contains-map}
-use Rattle.cad_map.proofs.ElementFacts.{map-Contains}
-use Rattle.cad_map.proofs.JoinedRings.{corner-sides}
-use Rattle.cad_map.proofs.Merged.{in_both_ways}
-use Rattle.cad_map.proofs.Walks.{side_before}
+use Rattle.cad_map.proofs.CallerLemmas.{Contains-map, map-Contains, corner-sides, in_both_ways, side_before}
 use Rattle.cad_laws.specs.Parting.{IsOn, HasIsland}
 
 module _ (ring : Ring) (two : 2 ≤ length ring) (back rest : List Corner)

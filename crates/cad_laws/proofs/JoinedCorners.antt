@@ -12,31 +12,19 @@ use Rattle.cad_rings.specs.Cycle.{Ring, Side, sides_of, times_through, Corner, c
 use Rattle.cad_rings.specs.Surgery.{corner, without, StandsBetween}
 use Rattle.cad_rings.proofs.CallerLemmas.{corners_of-without, without-none}
 use Rattle.cad_map.specs.declared.boundary.Boundary.{Boundary}
-use Rattle.cad_map.specs.Boundaries.{shown, listed, corners_in}
+use Rattle.cad_map.specs.Boundaries.{canonical_form, canonical_order, corners_in}
 use Rattle.cad_map.specs.Map.{Map, all_sides, all_corners, far_end, strings_at}
 use Rattle.cad_map.specs.Changes.{by_number, join, with_boundaries}
 use Rattle.cad_map.specs.Effects.{after}
 use Rattle.cad_map.specs.Refusals.{first_refusal}
-use Rattle.cad_map.proofs.Allowed.{allowed, two-joined}
-use Rattle.cad_map.proofs.KeptJoin.{meet-at}
+use Rattle.cad_map.proofs.CallerLemmas.{allowed, two-joined, meet-at, All-join, corners_at, new_side, old_sides, sides-without, through-corners, Contains-cases, Contains-first, Contains-later, Contains-flat_map, Contains-in_part, Contains-map, All-at_each, All-from_each, Contains-filter, filter-Contains, map-Contains, beside, has_side-Contains, sides-once, corner-sides, dropped, differs, IsPermutation-canonical_order, corners_in-canonical_order, one_boundary, once-from_pairs}
 use Rattle.cad_map.specs.Valid.{IsValid}
 use Rattle.cad_map.specs.Views.{HasSide}
-use Rattle.cad_map.proofs.AddedRows.{All-join}
-use Rattle.cad_map.proofs.CornersAt.{corners_at, new_side, old_sides, sides-without, through-corners}
-use Rattle.cad_map.proofs.Elements.{Contains-cases, Contains-first, Contains-later, Contains-flat_map, Contains-in_part, Contains-map, All-at_each, All-from_each}
-use Rattle.cad_map.proofs.ElementFacts.{Contains-filter, filter-Contains, map-Contains}
-use Rattle.cad_map.proofs.FacesBeside.{beside, has_side-Contains, sides-once}
-use Rattle.cad_map.proofs.JoinedRings.{corner-sides, dropped}
-use Rattle.cad_map.proofs.JoinedStrings as joined
-use Rattle.cad_map.proofs.KeptRows.{differs}
-use Rattle.cad_map.proofs.Listed.{IsPermutation-listed}
-use Rattle.cad_map.proofs.ListedSides.{corners_in-listed}
-use Rattle.cad_map.proofs.NextSides.{one_boundary}
-use Rattle.cad_map.proofs.Walks.{once-from_pairs}
+use Rattle.cad_map.proofs.CallerLemmas as maps
 use Rattle.cad_laws.specs.Joining.{WasCorner, IsJoinedAt}
 use Rattle.cad_laws.specs.Joining.WasCorner.{stood, before_first, before_second, behind_first, behind_second}
 use Rattle.cad_laws.proofs.MapCorners.{two-sides}
-use Rattle.cad_laws.proofs.PlacedFaces.{has-side_listed, map-map}
+use Rattle.cad_laws.proofs.PlacedFaces.{has-side_canonical, map-map}
 
 -- the points of a corner are the ring's
 corner-along : (P : ℕ → Type 0) (x y : ℕ) (points : List ℕ) → P x → P y → AllByRecursion P points
@@ -74,7 +62,7 @@ module _ (m : Map) (valid : IsValid m) (p : ℕ) (s t : StringRow)
   put : (r : Boundary) (c : Corner) → Contains m.boundaries r
       → Contains (corners_of (without p r.ring)) c → Contains (all_corners made) c
   put r c there h =
-      Contains-permutation (corners_in bs) (corners_in (listed bs)) c (corners_in-listed bs)
+      Contains-permutation (corners_in bs) (corners_in (canonical_order bs)) c (corners_in-canonical_order bs)
       (Contains-flat_map (λ (d : Boundary). corners_of d.ring) bs (dropped p r) c
       (Contains-map (dropped p) m.boundaries r there) h)
 
@@ -101,7 +89,7 @@ module _ (m : Map) (valid : IsValid m) (p : ℕ) (s t : StringRow)
   few-at : (r : Boundary) → Contains m.boundaries r → length (corners_at p r.ring) ≤ 1
   few-at r there =
       All-at_each (λ r. length (corners_at p r.ring) ≤ 1) m.boundaries r
-      (joined.at-most-one m valid p s t at) there
+      (maps.at-most-one m valid p s t at) there
 
   through : (r : Boundary) → Contains m.boundaries r
       → times_through p r.ring ≡ length (corners_at p r.ring)
@@ -127,7 +115,7 @@ module _ (m : Map) (valid : IsValid m) (p : ℕ) (s t : StringRow)
 
   -- ---- The ring with a corner at the point
 
-  module _ (w n : ℕ) (r : Boundary) (k : joined.IsThere m valid p s t at r (corner w p n))
+  module _ (w n : ℕ) (r : Boundary) (k : maps.IsThere m valid p s t at r (corner w p n))
       (w_away : w ≢ p) (n_away : n ≢ p) (two : w ≢ n) where
     abbrev d : Corner
     d = corner w p n
@@ -349,7 +337,7 @@ module _ (m : Map) (valid : IsValid m) (p : ℕ) (s t : StringRow)
           | inr there ↦
               subst (λ (g : Face). HasSide made g (w, n))
               (sym (it.face ∙ ap (λ (q : Boundary). q.face) same))
-              (has-side_listed bs others (dropped p r) (w, n)
+              (has-side_canonical bs others (dropped p r) (w, n)
               (Contains-map (dropped p) m.boundaries r k.ring) there)
         ]
 
@@ -372,18 +360,18 @@ module _ (m : Map) (valid : IsValid m) (p : ℕ) (s t : StringRow)
         | inl gone ↦ absurd (at-an_end r v gone zero one)
         | inr there ↦
             subst (λ (g : Face). HasSide made g v) (sym it.face)
-            (has-side_listed bs others (dropped p r) v
+            (has-side_canonical bs others (dropped p r) v
             (Contains-map (dropped p) m.boundaries r it.there) there)
       ]
 
   away-a : a ≢ p
-  away-a = let k = joined.at-first m valid p s t at in joined.away m valid p s t at s k.0 k.1
+  away-a = let k = maps.at-first m valid p s t at in maps.away m valid p s t at s k.0 k.1
 
   away-b : b ≢ p
-  away-b = let k = joined.at-second m valid p s t at in joined.away m valid p s t at t k.0 k.1
+  away-b = let k = maps.at-second m valid p s t at in maps.away m valid p s t at t k.0 k.1
 
   differ : a ≢ b
-  differ = joined.differ m valid p s t at
+  differ = maps.differ m valid p s t at
 
   stays : (c : Corner) → Contains (all_corners m) c → c.before ≢ p → c.at ≢ p → c.after ≢ p
       → Contains (all_corners made) c
@@ -401,15 +389,15 @@ module _ (m : Map) (valid : IsValid m) (p : ℕ) (s t : StringRow)
           let kept =
           filter-Contains (λ c. c.at == p) (corners_of r.ring) d
           (subst (λ (l : List Corner). Contains l d) (sym is) (Contains-first d ds)) in
-          let k : joined.IsThere m valid p s t at r d =
+          let k : maps.IsThere m valid p s t at r d =
           record { ring = there; there = kept.0; point = eqb-true d.at p kept.1 } in
-          elim (joined.is-one m valid p s t at r d k) [
+          elim (maps.is-one m valid p s t at r d k) [
             | inl e ↦
                 stays-here a b r
-                (subst (joined.IsThere m valid p s t at r) e k) away-a away-b
+                (subst (maps.IsThere m valid p s t at r) e k) away-a away-b
                 differ c in_ring before here behind
             | inr e ↦
-                stays-here b a r (subst (joined.IsThere m valid p s t at r) e k) away-b away-a
+                stays-here b a r (subst (maps.IsThere m valid p s t at r) e k) away-b away-a
                 (λ same. differ (sym same)) c in_ring before here behind
           ]
 
@@ -431,11 +419,11 @@ module _ (m : Map) (valid : IsValid m) (p : ℕ) (s t : StringRow)
           let kept =
           filter-Contains (λ c. c.at == p) (corners_of r.ring) d
           (subst (λ (l : List Corner). Contains l d) (sym is) (Contains-first d ds)) in
-          let k : joined.IsThere m valid p s t at r d =
+          let k : maps.IsThere m valid p s t at r d =
           record { ring = there; there = kept.0; point = eqb-true d.at p kept.1 } in
-          elim (joined.is-one m valid p s t at r d k) [
+          elim (maps.is-one m valid p s t at r d k) [
             | inl e ↦
-                let it = subst (joined.IsThere m valid p s t at r) e k in
+                let it = subst (maps.IsThere m valid p s t at r) e k in
                 let both = beside-point a b r it away-a away-b differ in
                 elim (comes-here a b r it away-a away-b differ c h) [
                   | inl old ↦ stood c (in_map c old)
@@ -449,7 +437,7 @@ module _ (m : Map) (valid : IsValid m) (p : ℕ) (s t : StringRow)
                   ]
                 ]
             | inr e ↦
-                let it = subst (joined.IsThere m valid p s t at r) e k in
+                let it = subst (maps.IsThere m valid p s t at r) e k in
                 let other : b ≢ a = λ same. differ (sym same) in
                 let both = beside-point b a r it away-b away-a other in
                 elim (comes-here b a r it away-b away-a other c h) [
@@ -472,7 +460,7 @@ module _ (m : Map) (valid : IsValid m) (p : ℕ) (s t : StringRow)
   two-there c h =
       Contains-permutation (corner a p b ∷ corner b p a ∷ []) those c
       (IsPermutation-sym those (corner a p b ∷ corner b p a ∷ [])
-      (joined.the-corners m valid p s t at)) h
+      (maps.the-corners m valid p s t at)) h
 
   first : Contains those (corner a p b)
   first = two-there (corner a p b) (Contains-first (corner a p b) (corner b p a ∷ []))
@@ -489,24 +477,24 @@ module _ (m : Map) (valid : IsValid m) (p : ℕ) (s t : StringRow)
   made-of c h =
       let part =
       Contains-in_part (λ (d : Boundary). corners_of d.ring) bs c
-      (Contains-permutation (corners_in (listed bs)) (corners_in bs) c
-      (IsPermutation-sym (corners_in bs) (corners_in (listed bs)) (corners_in-listed bs)) h) in
+      (Contains-permutation (corners_in (canonical_order bs)) (corners_in bs) c
+      (IsPermutation-sym (corners_in bs) (corners_in (canonical_order bs)) (corners_in-canonical_order bs)) h) in
       let r = map-Contains (dropped p) m.boundaries part.0 part.1 in
       (r.0, r.1, subst (λ (d : Boundary). Contains (corners_of d.ring) c) (sym r.2) part.2)
 
   joined-at : IsJoinedAt m made p a b
   joined-at =
-      let F = joined.in_ring-of m valid p s t at (corner a p b) first in
-      let S = joined.in_ring-of m valid p s t at (corner b p a) second in
+      let F = maps.in_ring-of m valid p s t at (corner a p b) first in
+      let S = maps.in_ring-of m valid p s t at (corner b p a) second in
       let other : b ≢ a = λ same. differ (sym same) in
       record {
         apart = differ;
         first_there = (filter-Contains (λ c. c.at == p) (all_corners m) (corner a p b) first).0;
         second_there = (filter-Contains (λ c. c.at == p) (all_corners m) (corner b p a) second).0;
         at_point = λ c h is.
-            let k = joined.in_ring-of m valid p s t at c
+            let k = maps.in_ring-of m valid p s t at c
             (Contains-filter (λ c. c.at == p) (all_corners m) c h (eq-eqb c.at p is)) in
-            joined.is-one m valid p s t at k.0 c k.1;
+            maps.is-one m valid p s t at k.0 c k.1;
         gone = λ c h. let k = made-of c h in no-point k.0 c k.2;
         stays = stays;
         to_first = to a b F.0 F.1 away-a away-b differ;
@@ -518,8 +506,8 @@ module _ (m : Map) (valid : IsValid m) (p : ℕ) (s t : StringRow)
         side_forth = forth a b F.0 F.1 away-a away-b differ;
         side_back = forth b a S.0 S.1 away-b away-a other;
         boundaries =
-            subst (λ (l : List Boundary). IsPermutation l (listed bs))
-            (map-map shown (dropped p) m.boundaries) (IsPermutation-listed bs);
+            subst (λ (l : List Boundary). IsPermutation l (canonical_order bs))
+            (map-map canonical_form (dropped p) m.boundaries) (IsPermutation-canonical_order bs);
       }
 
 -- A join that isn't refused at once: the far ends of its two strings see each other.

@@ -19,15 +19,7 @@ use Rattle.cad_map.specs.Map.{Map, all_sides, all_corners}
 use Rattle.cad_rows.specs.declared.names.Face.{Face}
 use Rattle.cad_map.specs.Rings.{HasWholeRings}
 use Rattle.cad_map.specs.Valid.{IsValid}
-use Rattle.cad_map.proofs.Elements.{Contains-flat_map, Contains-in_part, All-at_each, count-map, one-only}
-use Rattle.cad_map.proofs.ElementFacts.{map-Contains}
-use Rattle.cad_map.proofs.JoinedRings.{corner-sides, count-part}
-use Rattle.cad_map.proofs.Lists.{All-follows, drop-at}
-use Rattle.cad_map.proofs.Merged.{of_both_ways}
-use Rattle.cad_map.proofs.NextSides.{one_boundary}
-use Rattle.cad_map.proofs.PlacedRings.{ring-hole_placed}
-use Rattle.cad_map.proofs.TrailsOfRings.{has_first}
-use Rattle.cad_map.proofs.Walks.{side_before, side_behind, sides-behind, sides_in-before, corner-only, is_side-refl, once-from_pairs}
+use Rattle.cad_map.proofs.CallerLemmas.{Contains-flat_map, Contains-in_part, All-at_each, count-map, one-only, map-Contains, corner-sides, count-part, All-follows, drop-at, of_both_ways, one_boundary, ring-hole_placed, has_first, side_before, side_behind, sides-behind, sides_in-before, corner-only, is_side-refl, once-from_pairs}
 use Rattle.cad_laws.specs.Parting.{IsOn}
 
 -- ---- The sides of corners

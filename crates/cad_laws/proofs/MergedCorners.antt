@@ -9,30 +9,21 @@ use Rattle.cad_rows.specs.declared.names.Face.{Face}
 use Rattle.cad_rows.specs.declared.names.Face.TheVariants.{Parcel}
 use Rattle.cad_rows.specs.declared.edits.Edit.TheVariants.{Merge}
 use Rattle.cad_rings.specs.Cycle.{Ring, Side, sides_along, Corner, corner_back, corners_of, turned, IsSameRing}
-use Rattle.cad_rings.specs.Shown.{least_rotation}
+use Rattle.cad_rings.specs.Canonical.{least_rotation}
 use Rattle.cad_rings.specs.Surgery.{corner, chain_from, joined, sides_of_chain}
 use Rattle.cad_rings.proofs.CallerLemmas.{is_joined, IsSameRing-append, IsSameRing-turned, IsSameRing-from_least_rotation, corners_of-same, corners_of-reversed, sides_of_chain-is}
 use Rattle.cad_rings.proofs.CutCorners.{last_of, first_of}
 use Rattle.cad_map.specs.declared.boundary.Boundary.{Boundary}
-use Rattle.cad_map.specs.Boundaries.{is_face, bounding, listed, corners_in}
+use Rattle.cad_map.specs.Boundaries.{is_face, bounding, canonical_order, corners_in}
 use Rattle.cad_map.specs.Map.{Map, all_corners}
 use Rattle.cad_map.specs.Changes.{merge, with_boundaries}
 use Rattle.cad_map.specs.Effects.{after}
 use Rattle.cad_map.specs.Refusals.{first_refusal}
-use Rattle.cad_map.specs.Merger.{Seam, shared_sides, is_along, is_around, seams, handed_over, boundaries_by, boundaries_merged}
-use Rattle.cad_map.specs.Merger.Seam.{along, around}
+use Rattle.cad_map.specs.Merger.{ChainInRings, shared_sides, is_along, is_around, shared_chains, handed_over, boundaries_by, boundaries_merged}
+use Rattle.cad_map.specs.Merger.ChainInRings.{along, around}
 use Rattle.cad_map.specs.Valid.{IsValid}
-use Rattle.cad_map.proofs.Elements.{All-at_each}
-use Rattle.cad_map.proofs.Lists.{All-follows}
-use Rattle.cad_map.proofs.Allowed.{IsAllowed, allowed}
-use Rattle.cad_map.proofs.AllowedParcels.{can-merge, names-parcels}
-use Rattle.cad_map.proofs.ListedSides.{corners_in-listed}
-use Rattle.cad_map.proofs.Merged.{two_out, stays, gone, three-merged}
-use Rattle.cad_map.proofs.MergedRows.{faces-differ, rows}
-use Rattle.cad_map.proofs.Seams.{IsSeam, common-along, along-found, around-found}
+use Rattle.cad_map.proofs.CallerLemmas.{All-at_each, All-follows, IsAllowed, allowed, can-merge, names-parcels, corners_in-canonical_order, two_out, stays, gone, three-merged, faces-differ, rows, IsChainInRings, common-along, along-found, around-found, IsFound, found, merged-any}
 use Rattle.cad_laws.specs.Parting.{IsOn, IsParted, HasIsland, IsMergedBy}
-use Rattle.cad_map.proofs.OneSeam.{IsFound, found, merged-any}
-use Rattle.cad_map.proofs.OneSeam.IsFound.{by_round, by_chain}
 use Rattle.cad_laws.proofs.PartedCorners.{is_parted}
 use Rattle.cad_laws.proofs.MapCorners.{corner-in, two-sides}
 use Rattle.cad_laws.proofs.IslandCorners.{has_island}
@@ -56,18 +47,18 @@ module _ (m : Map) (valid : IsValid m) (kept ended : Face) (two : kept ≢ ended
   n = length (shared_sides m kept ended)
 
   -- no corner of the new rings has a side of the chain
-  off-chain : (seam : Seam) (it : IsSeam m kept ended seam) (c : Corner)
+  off-chain : (shared_chain : ChainInRings) (it : IsChainInRings m kept ended shared_chain) (c : Corner)
       → Contains (corners_in (boundaries_merged m kept ended it.k it.e it.more)) c
       → IsOn it.chain c → ⊥
-  off-chain seam it c h on =
+  off-chain shared_chain it c h on =
       let new = boundaries_merged m kept ended it.k it.e it.more in
       let long =
       All-follows (λ b. 3 ≤ length b.ring) (λ b. 2 ≤ length b.ring)
-      (λ b h. omega (arith, h)) new (three-merged m kept ended valid two seam it) in
+      (λ b h. omega (arith, h)) new (three-merged m kept ended valid two shared_chain it) in
       let sides = corner-in new long c h in
       elim on [
-        | inl before ↦ gone m kept ended valid two seam it (c.before, c.at) before sides.0
-        | inr behind ↦ gone m kept ended valid two seam it (c.at, c.after) behind sides.1
+        | inl before ↦ gone m kept ended valid two shared_chain it (c.before, c.at) before sides.0
+        | inr behind ↦ gone m kept ended valid two shared_chain it (c.at, c.after) behind sides.1
       ]
 
   module _ (k e : Ring) (k_there : Contains m.boundaries (bounding kept k))
@@ -78,14 +69,14 @@ module _ (m : Map) (valid : IsValid m) (kept ended : Face) (two : kept ≢ ended
     before : IsPermutation (all_corners m) (corners_of k ++ (corners_of e ++ rest))
     before = two_out m kept ended valid two (λ b. corners_of b.ring) k e k_there e_there
 
-    listed-as : (more : List Ring) (c : Corner)
+    canonical_order-as : (more : List Ring) (c : Corner)
         → Contains
         (all_corners (with_boundaries (boundaries_merged m kept ended k e more) others)) c
         → Contains (corners_in (boundaries_merged m kept ended k e more)) c
-    listed-as more c h =
+    canonical_order-as more c h =
         let bs = boundaries_merged m kept ended k e more in
-        Contains-permutation (corners_in (listed bs)) (corners_in bs) c
-        (IsPermutation-sym (corners_in bs) (corners_in (listed bs)) (corners_in-listed bs)) h
+        Contains-permutation (corners_in (canonical_order bs)) (corners_in bs) c
+        (IsPermutation-sym (corners_in bs) (corners_in (canonical_order bs)) (corners_in-canonical_order bs)) h
 
     -- ---- Along a chain
 
@@ -111,10 +102,10 @@ module _ (m : Map) (valid : IsValid m) (kept ended : Face) (two : kept ≢ ended
         let same : corners_in bs ≡ corners_of ring ++ rest =
         ap (λ (l : List Corner). corners_of ring ++ l)
         (corners_in-handed kept ended (stays m kept ended k e)) in
-        let after_is : IsPermutation (C ++ rest) (corners_in (listed bs)) =
-        IsPermutation-trans (C ++ rest) (corners_of ring ++ rest) (corners_in (listed bs)) moved
-        (subst (λ (l : List Corner). IsPermutation l (corners_in (listed bs))) same
-        (corners_in-listed bs)) in
+        let after_is : IsPermutation (C ++ rest) (corners_in (canonical_order bs)) =
+        IsPermutation-trans (C ++ rest) (corners_of ring ++ rest) (corners_in (canonical_order bs)) moved
+        (subst (λ (l : List Corner). IsPermutation l (corners_in (canonical_order bs))) same
+        (corners_in-canonical_order bs)) in
         let K = corners_of (c ∷ it.mid ++ d ∷ it.r) in
         let E = corners_of (d ∷ reverse it.mid ++ c ∷ it.s) in
         let kt : IsPermutation K (corners_of k) =
@@ -138,7 +129,7 @@ module _ (m : Map) (valid : IsValid m) (kept ended : Face) (two : kept ≢ ended
         let all = is_parted c it.s d it.r it.mid rest (with_boundaries bs others) m after_is back
         (λ x h on.
         off-chain (along n k i e j) (along-found m kept ended k e k_there e_there i j is) x
-        (listed-as (ring ∷ []) x h) (subst (λ (l : List Side). IsOn l x) sides on)) in
+        (canonical_order-as (ring ∷ []) x h) (subst (λ (l : List Side). IsOn l x) sides on)) in
         let first = corner (last_of d it.r) c (first_of it.s d) in
         let last = corner (last_of c it.s) d (first_of it.r c) in (
           first,
@@ -166,24 +157,24 @@ module _ (m : Map) (valid : IsValid m) (kept ended : Face) (two : kept ≢ ended
         (corners_of e) (corners_of-reversed k) (corners_of-same (reverse k) e turned_round) in
         let same : corners_in bs ≡ rest = corners_in-handed kept ended (stays m kept ended k e) in
         has_island k three (corners_of e) rest back (with_boundaries bs others) m
-        (subst (λ (l : List Corner). IsPermutation l (corners_in (listed bs))) same
-        (corners_in-listed bs))
+        (subst (λ (l : List Corner). IsPermutation l (corners_in (canonical_order bs))) same
+        (corners_in-canonical_order bs))
         (IsPermutation-sym (all_corners m) (corners_of k ++ (corners_of e ++ rest)) before)
         (λ x h on.
         off-chain (around k e) (around-found m kept ended k e k_there e_there is) x
-        (listed-as [] x h) on)
+        (canonical_order-as [] x h) on)
 
-  -- ---- By any seam
+  -- ---- By any shared chain
 
-  by-seam : (x : Seam) → IsFound m valid kept ended x
+  by-shared_chain : (x : ChainInRings) → IsFound m valid kept ended x
       → IsMergedBy x (with_boundaries (boundaries_by m kept ended x) others) m
-  by-seam x (by_round k e k_there e_there is) = island-around k e k_there e_there is
-  by-seam x (by_chain k i e j k_there e_there is) = parted-along k e k_there e_there i j is
+  by-shared_chain x (IsFound.by_round k e k_there e_there is) = island-around k e k_there e_there is
+  by-shared_chain x (IsFound.by_chain k i e j k_there e_there is) = parted-along k e k_there e_there i j is
 
 -- A merger that is not refused takes out the corners of the chain, or of the island, that is found,
 -- and makes one of two at each of the chain's ends.
-pub merged-corners : (m : Map) (kept ended : Face) (x : Seam) → IsValid m
-    → first_refusal m (Merge kept ended) ≡ None → Contains (seams m kept ended) x
+pub merged-corners : (m : Map) (kept ended : Face) (x : ChainInRings) → IsValid m
+    → first_refusal m (Merge kept ended) ≡ None → Contains (shared_chains m kept ended) x
     → IsMergedBy x (after m (Merge kept ended)) m
 unfolding after
 merged-corners m kept ended x valid none h =
@@ -193,14 +184,14 @@ merged-corners m kept ended x valid none h =
     subst (λ (f : Face). IsAllowed m (Merge f (Parcel names.second))) names.kept_is
     (subst (λ (f : Face). IsAllowed m (Merge kept f)) names.ended_is free) in
     let there =
-    subst (λ (f : Face). Contains (seams m f (Parcel names.second)) x) names.kept_is
-    (subst (λ (f : Face). Contains (seams m kept f) x) names.ended_is h) in
+    subst (λ (f : Face). Contains (shared_chains m f (Parcel names.second)) x) names.kept_is
+    (subst (λ (f : Face). Contains (shared_chains m kept f) x) names.ended_is h) in
     subst (λ (f : Face). IsMergedBy x (merge m f ended) m) (sym names.kept_is)
     (subst (λ (f : Face). IsMergedBy x (merge m (Parcel names.first) f) m) (sym names.ended_is)
     (two-parcels names.first names.second at there))
   where
     two-parcels : (k e : ℕ) → IsAllowed m (Merge (Parcel k) (Parcel e))
-        → Contains (seams m (Parcel k) (Parcel e)) x
+        → Contains (shared_chains m (Parcel k) (Parcel e)) x
         → IsMergedBy x (merge m (Parcel k) (Parcel e)) m
     two-parcels k e free there =
         let can = can-merge m k e free in
@@ -211,5 +202,5 @@ merged-corners m kept ended x valid none h =
         ap (λ (bs : List Boundary). with_boundaries bs others)
         (merged-any m valid (Parcel k) (Parcel e) two x there) in
         subst (λ (a : Map). IsMergedBy x a m) (sym is)
-        (by-seam m valid (Parcel k) (Parcel e) two others x
+        (by-shared_chain m valid (Parcel k) (Parcel e) two others x
         (found m valid (Parcel k) (Parcel e) x there))

@@ -12,35 +12,25 @@ use Rattle.cad_rows.specs.declared.edits.Edit.TheVariants.{Merge}
 use Rattle.cad_rings.specs.Cycle.{Side, opposite, sides_of}
 use Rattle.cad_rings.specs.Surgery.{both_ways}
 use Rattle.cad_map.specs.declared.boundary.Boundary.{Boundary}
-use Rattle.cad_map.specs.Boundaries.{is_face, bounding, shown, listed, sides_in}
+use Rattle.cad_map.specs.Boundaries.{is_face, bounding, canonical_form, canonical_order, sides_in}
 use Rattle.cad_map.specs.Map.{Map, all_sides}
 use Rattle.cad_map.specs.Changes.{merge, with_boundaries}
 use Rattle.cad_map.specs.Effects.{after}
 use Rattle.cad_map.specs.Refusals.{first_refusal}
-use Rattle.cad_map.specs.Merger.{Seam, seams, handed_over, boundaries_by, boundaries_merged}
-use Rattle.cad_map.specs.Merger.Seam.{along, around}
+use Rattle.cad_map.specs.Merger.{ChainInRings, shared_chains, handed_over, boundaries_by, boundaries_merged}
+use Rattle.cad_map.specs.Merger.ChainInRings.{along, around}
 use Rattle.cad_map.specs.Views.{HasSide}
 use Rattle.cad_map.specs.Valid.{IsValid}
-use Rattle.cad_map.proofs.Allowed.{IsAllowed, allowed}
-use Rattle.cad_map.proofs.AllowedParcels.{can-merge, names-parcels}
-use Rattle.cad_map.proofs.Elements.{Contains-in_part, Contains-flat_map}
-use Rattle.cad_map.proofs.FacesBeside.{beside, has_side-Contains, Contains-has_side, one_ring, face-told}
-use Rattle.cad_map.proofs.Listed.{IsPermutation-listed}
-use Rattle.cad_map.proofs.Merged.{two_out, stays, sides-parted, was-beside, of_face}
-use Rattle.cad_map.proofs.MergedRows.{faces-differ, rows}
-use Rattle.cad_map.proofs.ElementFacts.{filter-Contains}
-use Rattle.cad_map.proofs.Seams.{IsSeam, along-found, around-found}
+use Rattle.cad_map.proofs.CallerLemmas.{IsAllowed, allowed, can-merge, names-parcels, Contains-in_part, Contains-flat_map, beside, has_side-Contains, Contains-has_side, one_ring, face-told, IsPermutation-canonical_order, two_out, stays, sides-parted, was-beside, of_face, faces-differ, rows, filter-Contains, IsChainInRings, along-found, around-found, IsFound, found, merged-any}
 use Rattle.cad_laws.specs.Faces.{over, HasMerged, IsMergedIn}
-use Rattle.cad_map.proofs.OneSeam.{IsFound, found, merged-any}
-use Rattle.cad_map.proofs.OneSeam.IsFound.{by_round, by_chain}
-use Rattle.cad_laws.proofs.PlacedFaces.{has-side_listed, as-shown, map-same, map-map}
+use Rattle.cad_laws.proofs.PlacedFaces.{has-side_canonical, as-shown, map-same, map-map}
 
 singles : {X : Type 0} (xs : List X) → flat_map (λ x. x ∷ []) xs ≡ xs
 singles [] = refl
 singles (x ∷ xs) = λ i. x ∷ singles xs i
 
 module _ (m : Map) (valid : IsValid m) (kept ended : Face) (two : kept ≢ ended) (others : Map)
-    (seam : Seam) (it : IsSeam m kept ended seam) where
+    (shared_chain : ChainInRings) (it : IsChainInRings m kept ended shared_chain) where
   abbrev left : List Boundary
   left = stays m kept ended it.k it.e
 
@@ -51,13 +41,13 @@ module _ (m : Map) (valid : IsValid m) (kept ended : Face) (two : kept ≢ ended
   made = with_boundaries new others
 
   shown-handed : (b : Boundary) → Contains left b
-      → shown (handed_over kept ended b) ≡ handed_over kept ended b
+      → canonical_form (handed_over kept ended b) ≡ handed_over kept ended b
   shown-handed b h = by (is_face ended b.face)
     where
-      same : shown b ≡ b
+      same : canonical_form b ≡ b
       same = as-shown m valid b (filter-Contains _ m.boundaries b h).0
 
-      by : (t : Bool) → shown (if t then bounding kept b.ring else b) ≡
+      by : (t : Bool) → canonical_form (if t then bounding kept b.ring else b) ≡
           (if t then bounding kept b.ring else b)
       by true = ap (λ (c : Boundary). bounding kept c.ring) same
       by false = same
@@ -71,19 +61,19 @@ module _ (m : Map) (valid : IsValid m) (kept ended : Face) (two : kept ≢ ended
       sides_of b.ring) m.boundaries k.boundary s k.there k.has in
       elim (Contains-append_cases (both_ways it.chain) (sides_in new) s
       (Contains-permutation (all_sides m) (both_ways it.chain ++ sides_in new) s
-      (sides-parted m kept ended valid two seam it) old)) [
+      (sides-parted m kept ended valid two shared_chain it) old)) [
         | inl on ↦ absurd (off on)
         | inr there ↦
             let part = Contains-in_part (λ (b : Boundary). sides_of b.ring) new s there in
             let was =
-            was-beside m kept ended valid two seam it part.0.face s
+            was-beside m kept ended valid two shared_chain it part.0.face s
             (record { boundary = part.0; there = part.1; face = refl; has = part.2 }) in
             let one : was.0 ≡ f =
             same_Some was.0 f
             (sym (one_ring m valid s was.1.boundary was.1.there was.1.has
             ∙ ap Some (sym was.1.face)) ∙ face-told m valid f s has) in
             subst (λ (g : Face). HasSide made g s) (was.2 ∙ ap (over kept ended) one)
-            (has-side_listed new others part.0 s part.1 part.2)
+            (has-side_canonical new others part.0 s part.1 part.2)
       ]
 
   has_merged : HasMerged m made kept ended it.chain it.k it.e it.more left
@@ -92,13 +82,13 @@ module _ (m : Map) (valid : IsValid m) (kept ended : Face) (two : kept ≢ ended
         IsPermutation l.0 (bounding kept it.k ∷ bounding ended it.e ∷ l.1))
         (λ i. (singles m.boundaries i, singles left i))
         (two_out m kept ended valid two (λ b. b ∷ []) it.k it.e it.k_there it.e_there);
-    are = subst (λ (l : List Boundary). IsPermutation l (listed new))
-        (map-append shown (map (bounding kept) it.more) (map (handed_over kept ended) left)
-        ∙ (λ i. map-map shown (bounding kept) it.more i ++
-        (map-map shown (handed_over kept ended) left
-        ∙ map-same (λ b. shown (handed_over kept ended b))
+    are = subst (λ (l : List Boundary). IsPermutation l (canonical_order new))
+        (map-append canonical_form (map (bounding kept) it.more) (map (handed_over kept ended) left)
+        ∙ (λ i. map-map canonical_form (bounding kept) it.more i ++
+        (map-map canonical_form (handed_over kept ended) left
+        ∙ map-same (λ b. canonical_form (handed_over kept ended b))
         (handed_over kept ended) left shown-handed) i))
-        (IsPermutation-listed new);
+        (IsPermutation-canonical_order new);
     faces = faces-merged;
     in_kept = λ s h. Contains-has_side s _ (of_face m kept it.k s it.k_there (it.in_kept s h));
     in_ended =
@@ -106,21 +96,21 @@ module _ (m : Map) (valid : IsValid m) (kept ended : Face) (two : kept ≢ ended
         (of_face m ended it.e (opposite s) it.e_there (it.in_ended s h));
   }
 
-by-seam : (m : Map) (valid : IsValid m) (kept ended : Face) (two : kept ≢ ended) (others : Map)
-    (x : Seam) → IsFound m valid kept ended x
+by-shared_chain : (m : Map) (valid : IsValid m) (kept ended : Face) (two : kept ≢ ended) (others : Map)
+    (x : ChainInRings) → IsFound m valid kept ended x
     → IsMergedIn x m (with_boundaries (boundaries_by m kept ended x) others) kept ended
 unfolding along-found around-found
-by-seam m valid kept ended two others x (by_round k e k_there e_there is) =
+by-shared_chain m valid kept ended two others x (IsFound.by_round k e k_there e_there is) =
     let it = around-found m kept ended k e k_there e_there is in
     (stays m kept ended k e, has_merged m valid kept ended two others (around k e) it)
-by-seam m valid kept ended two others x (by_chain k i e j k_there e_there is) =
+by-shared_chain m valid kept ended two others x (IsFound.by_chain k i e j k_there e_there is) =
     let it = along-found m kept ended k e k_there e_there i j is in
     (stays m kept ended k e, has_merged m valid kept ended two others (along _ k i e j) it)
 
 -- A merger that is not refused: two rings go, at most one comes, and the kept face has the ended
 -- one's other rings.
-pub merged-faces : (m : Map) (kept ended : Face) (x : Seam) → IsValid m
-    → first_refusal m (Merge kept ended) ≡ None → Contains (seams m kept ended) x
+pub merged-faces : (m : Map) (kept ended : Face) (x : ChainInRings) → IsValid m
+    → first_refusal m (Merge kept ended) ≡ None → Contains (shared_chains m kept ended) x
     → IsMergedIn x m (after m (Merge kept ended)) kept ended
 unfolding after
 merged-faces m kept ended x valid none h =
@@ -130,15 +120,15 @@ merged-faces m kept ended x valid none h =
     subst (λ (f : Face). IsAllowed m (Merge f (Parcel names.second))) names.kept_is
     (subst (λ (f : Face). IsAllowed m (Merge kept f)) names.ended_is free) in
     let there =
-    subst (λ (f : Face). Contains (seams m f (Parcel names.second)) x) names.kept_is
-    (subst (λ (f : Face). Contains (seams m kept f) x) names.ended_is h) in
+    subst (λ (f : Face). Contains (shared_chains m f (Parcel names.second)) x) names.kept_is
+    (subst (λ (f : Face). Contains (shared_chains m kept f) x) names.ended_is h) in
     subst (λ (f : Face). IsMergedIn x m (merge m f ended) f ended) (sym names.kept_is)
     (subst (λ (f : Face).
     IsMergedIn x m (merge m (Parcel names.first) f) (Parcel names.first) f)
     (sym names.ended_is) (two-parcels names.first names.second at there))
   where
     two-parcels : (k e : ℕ) → IsAllowed m (Merge (Parcel k) (Parcel e))
-        → Contains (seams m (Parcel k) (Parcel e)) x
+        → Contains (shared_chains m (Parcel k) (Parcel e)) x
         → IsMergedIn x m (merge m (Parcel k) (Parcel e)) (Parcel k) (Parcel e)
     two-parcels k e free there =
         let can = can-merge m k e free in
@@ -149,5 +139,5 @@ merged-faces m kept ended x valid none h =
         ap (λ (bs : List Boundary). with_boundaries bs others)
         (merged-any m valid (Parcel k) (Parcel e) two x there) in
         subst (λ (a : Map). IsMergedIn x m a (Parcel k) (Parcel e)) (sym is)
-        (by-seam m valid (Parcel k) (Parcel e) two others x
+        (by-shared_chain m valid (Parcel k) (Parcel e) two others x
         (found m valid (Parcel k) (Parcel e) x there))

@@ -10,10 +10,7 @@ use Rattle.cad_rings.proofs.CallerLemmas.{sides_of_chain-is, corners_of_chain-re
 use Rattle.cad_rings.proofs.CutCorners.{last_of, first_of, between, corners_of-parts, corners-parts, back_again, first_of-reverse}
 use Rattle.cad_map.specs.Map.{Map, all_corners}
 use Rattle.cad_map.specs.Chain.{start_of, next_of, end_of, last_but_one}
-use Rattle.cad_map.proofs.Elements.{Contains-cases, Contains-first, Contains-later, Contains-map}
-use Rattle.cad_map.proofs.ElementFacts.{map-Contains}
-use Rattle.cad_map.proofs.Walks.{side_before, side_behind}
-use Rattle.cad_map.proofs.Merged.{in_both_ways}
+use Rattle.cad_map.proofs.CallerLemmas.{Contains-cases, Contains-first, Contains-later, Contains-map, map-Contains, side_before, side_behind, in_both_ways}
 use Rattle.cad_laws.specs.Parting.{IsOn, IsParted}
 
 no_element : {X : Type 0} (x : X) → Contains [] x → ⊥

@@ -12,7 +12,7 @@ use Rattle.cad_rings.specs.Cycle.{Ring, Side, has_side, sides_of, sides_along, C
 use Rattle.cad_rings.specs.Surgery.{sides_of_chain, both_ways}
 use Rattle.cad_rings.proofs.CallerLemmas.{cut, sides_of-least_rotation, sides_of-cut, sides_along-append, sides_of_chain-is}
 use Rattle.cad_map.specs.declared.boundary.Boundary.{Boundary}
-use Rattle.cad_map.specs.Boundaries.{bounding, shown, listed}
+use Rattle.cad_map.specs.Boundaries.{bounding, canonical_form, canonical_order}
 use Rattle.cad_map.specs.Map.{Map}
 use Rattle.cad_map.specs.Chain.{start_of, next_of, end_of, last_but_one, inner_of, leaving, chosen_corner, strings_along}
 use Rattle.cad_map.specs.Division.{place_of, hole_placed}
@@ -22,16 +22,9 @@ use Rattle.cad_map.specs.Refusals.{first_refusal}
 use Rattle.cad_map.specs.Asked.{GivesInRange}
 use Rattle.cad_map.specs.Views.{HasSide}
 use Rattle.cad_map.specs.Valid.{IsValid}
-use Rattle.cad_map.proofs.Allowed.{allowed}
-use Rattle.cad_map.proofs.AllowedParcels.{can-divide}
-use Rattle.cad_map.proofs.Divided.{CanDivide, IsCutRing, cut_ring}
-use Rattle.cad_map.proofs.Divided as divided
-use Rattle.cad_map.proofs.Elements.{Contains-cases, Contains-first, Contains-later, Contains-map, All-at_each}
-use Rattle.cad_map.proofs.FacesBeside.{IsBeside, beside, has_side-Contains, Contains-has_side}
-use Rattle.cad_map.proofs.Listed.{IsPermutation-listed, each_shown}
-use Rattle.cad_map.proofs.Merged.{of_face}
-use Rattle.cad_map.proofs.PlacedRings.{ring-hole_placed, face-hole_placed}
-use Rattle.cad_laws.specs.Faces.{IsOfMoved, IsOfNew, HasPlaced, left_of, right_of, IsDividedIn}
+use Rattle.cad_map.proofs.CallerLemmas.{allowed, can-divide, CanDivide, IsCutRing, cut_ring, Contains-cases, Contains-first, Contains-later, Contains-map, All-at_each, IsBeside, beside, has_side-Contains, Contains-has_side, IsPermutation-canonical_order, each_canonical, of_face, ring-hole_placed, face-hole_placed}
+use Rattle.cad_map.proofs.CallerLemmas as maps
+use Rattle.cad_laws.specs.Faces.{IsOfMoved, IsOfNew, HasPlaced, left_of_chain, right_of_chain, IsDividedIn}
 
 -- ---- A boundary's sides are its face's
 
@@ -39,21 +32,21 @@ pub has-side : (m : Map) (b : Boundary) (s : Side) → Contains m.boundaries b
     → Contains (sides_of b.ring) s → HasSide m b.face s
 has-side m b s there has = Contains-has_side s _ (of_face m b.face b.ring s there has)
 
--- of boundaries that are listed
-pub has-side_listed : (bs : List Boundary) (others : Map) (b : Boundary) (s : Side) → Contains bs b
+-- of boundaries in canonical order
+pub has-side_canonical : (bs : List Boundary) (others : Map) (b : Boundary) (s : Side) → Contains bs b
     → Contains (sides_of b.ring) s → HasSide (with_boundaries bs others) b.face s
-has-side_listed bs others b s there has =
-    has-side (with_boundaries bs others) (shown b) s
-    (Contains-permutation (map shown bs) (listed bs) (shown b) (IsPermutation-listed bs)
-    (Contains-map shown bs b there))
-    (Contains-permutation (sides_of b.ring) (sides_of (shown b).ring) s
+has-side_canonical bs others b s there has =
+    has-side (with_boundaries bs others) (canonical_form b) s
+    (Contains-permutation (map canonical_form bs) (canonical_order bs) (canonical_form b) (IsPermutation-canonical_order bs)
+    (Contains-map canonical_form bs b there))
+    (Contains-permutation (sides_of b.ring) (sides_of (canonical_form b).ring) s
     (sides_of-least_rotation b.ring) has)
 
--- a map's boundaries are shown
-pub as-shown : (m : Map) → IsValid m → (b : Boundary) → Contains m.boundaries b → shown b ≡ b
+-- a map's boundaries are in canonical form
+pub as-shown : (m : Map) → IsValid m → (b : Boundary) → Contains m.boundaries b → canonical_form b ≡ b
 as-shown m valid b there =
-    All-at_each (λ (c : Boundary). shown c ≡ c) (listed m.boundaries) b (each_shown m.boundaries)
-    (subst (λ (l : List Boundary). Contains l b) (sym valid.sound.v1.in_order) there)
+    All-at_each (λ (c : Boundary). canonical_form c ≡ c) (canonical_order m.boundaries) b (each_canonical m.boundaries)
+    (subst (λ (l : List Boundary). Contains l b) (sym valid.sound.v1.canonical) there)
 
 pub map-same : {X Y : Type 0} (f g : X → Y) (xs : List X) → ((x : X) → Contains xs x → f x ≡ g x)
     → map f xs ≡ map g xs
@@ -87,19 +80,19 @@ module _ (m : Map) (valid : IsValid m) (face new : Face) (left right : Ring)
       (IsPermutation-sym m.boundaries (gone ++ others) were)
       (Contains-append_right gone others b h)
 
-  placed-shown : (b : Boundary) → Contains others b → shown (place b) ≡ place b
+  placed-shown : (b : Boundary) → Contains others b → canonical_form (place b) ≡ place b
   placed-shown b h = by (place b) (ring-hole_placed m face new left b)
     where
-      by : (c : Boundary) → c.ring ≡ b.ring → shown c ≡ c
+      by : (c : Boundary) → c.ring ≡ b.ring → canonical_form c ≡ c
       by c ring =
           let e = ap (λ (d : Boundary). d.ring) (as-shown m valid b (other-there b h)) in
-          ap (λ (r : Ring). bounding c.face (shown (bounding c.face r)).ring) ring
+          ap (λ (r : Ring). bounding c.face (canonical_form (bounding c.face r)).ring) ring
           ∙ ap (bounding c.face) (e ∙ sym ring)
 
   of_other : (b : Boundary) (s : Side) → Contains others b → Contains (sides_of b.ring) s
       → HasSide made (place b).face s
   of_other b s h has =
-      has-side_listed bs rows (place b) s
+      has-side_canonical bs rows (place b) s
       (Contains-later (bounding new left) (bounding face right ∷ map place others) (place b)
       (Contains-later (bounding face right) (map place others) (place b)
       (Contains-map place others b h)))
@@ -108,7 +101,7 @@ module _ (m : Map) (valid : IsValid m) (face new : Face) (left right : Ring)
 
   right-side : (s : Side) → Contains (sides_of right) s → HasSide made face s
   right-side s has =
-      has-side_listed bs rows (bounding face right) s
+      has-side_canonical bs rows (bounding face right) s
       (Contains-later (bounding new left) (bounding face right ∷ map place others)
       (bounding face right) (Contains-first (bounding face right) (map place others))) has
 
@@ -116,12 +109,12 @@ module _ (m : Map) (valid : IsValid m) (face new : Face) (left right : Ring)
   has_placed = record {
     were = were;
     are = subst (λ (l : List Boundary).
-        IsPermutation (shown (bounding new left) ∷ shown (bounding face right) ∷ l) (listed bs))
-        (map-map shown place others ∙ map-same (λ b. shown (place b)) place others placed-shown)
-        (IsPermutation-listed bs);
+        IsPermutation (canonical_form (bounding new left) ∷ canonical_form (bounding face right) ∷ l) (canonical_order bs))
+        (map-map canonical_form place others ∙ map-same (λ b. canonical_form (place b)) place others placed-shown)
+        (IsPermutation-canonical_order bs);
     on_left =
         λ s has.
-        has-side_listed bs rows (bounding new left) s
+        has-side_canonical bs rows (bounding new left) s
         (Contains-first (bounding new left) (bounding face right ∷ map place others)) has;
     on_right = right-side;
     of_others = of_other;
@@ -173,10 +166,10 @@ module _ (m : Map) (valid : IsValid m) (face : Face) (chain strings : List ℕ) 
   inner = inner_of chain
 
   abbrev L : Ring
-  L = left_of chain can.first can.last b.ring
+  L = left_of_chain chain can.first can.last b.ring
 
   abbrev R : Ring
-  R = right_of chain can.first can.last b.ring
+  R = right_of_chain chain can.first can.last b.ring
 
   abbrev others_of : List Boundary
   others_of = filter (λ c. not (has_side (leaving can.first) (sides_of c.ring))) m.boundaries
@@ -190,9 +183,9 @@ module _ (m : Map) (valid : IsValid m) (face : Face) (chain strings : List ℕ) 
       subst (λ (l : List ℕ).
       IsPermutation (sides_of L ++ sides_of R)
       (both_ways (sides_of_chain l) ++ sides_of b.ring))
-      (divided.across m valid face chain strings parcel label source can b ring)
+      (maps.across m valid face chain strings parcel label source can b ring)
       (sides_of-cut i j inner b.ring
-      (divided.two m valid face chain strings parcel label source can b ring))
+      (maps.two m valid face chain strings parcel label source can b ring))
 
   on-hands : (s : Side) → Contains (sides_of b.ring) s
       → Contains (sides_of L) s ⊎ Contains (sides_of R) s
@@ -206,10 +199,10 @@ module _ (m : Map) (valid : IsValid m) (face : Face) (chain strings : List ℕ) 
   chain-left : (s : Side) → Contains (sides_of_chain chain) s → Contains (sides_of L) s
   chain-left s h =
       let k = cut i j inner b.ring
-      (divided.two m valid face chain strings parcel label source can b ring) in
+      (maps.two m valid face chain strings parcel label source can b ring) in
       let A = slice_index b.ring i in
       let Z = slice_index b.ring j in
-      let across = divided.across m valid face chain strings parcel label source can b ring in
+      let across = maps.across m valid face chain strings parcel label source can b ring in
       let sides : sides_along A inner Z ≡ sides_of_chain chain =
       sym (sides_of_chain-is A inner Z) ∙ ap sides_of_chain across in
       subst (λ (l : List Side). Contains l s)
@@ -219,7 +212,7 @@ module _ (m : Map) (valid : IsValid m) (face : Face) (chain strings : List ℕ) 
 
   were-parted : IsPermutation m.boundaries (b ∷ others_of)
   were-parted =
-      let only = divided.only m valid face chain strings parcel label source can b ring in
+      let only = maps.only m valid face chain strings parcel label source can b ring in
       subst (λ (bs : List Boundary). IsPermutation bs (b ∷ others_of)) (sym only.whole)
       (subst (λ (bs : List Boundary). IsPermutation (only.front ++ b ∷ only.back) (b ∷ bs))
       (sym only.others) (IsPermutation-middle only.front b only.back))
@@ -236,7 +229,7 @@ module _ (m : Map) (valid : IsValid m) (face : Face) (chain strings : List ℕ) 
     along = chain-left;
     placed =
         subst (λ (a : Map). HasPlaced m a face (Parcel parcel) (b ∷ []) L R others_of)
-        (sym (divided.divide-is m valid face chain strings parcel label source can b ring))
+        (sym (maps.divide-is m valid face chain strings parcel label source can b ring))
         (has_placed m valid face (Parcel parcel) L R (b ∷ []) others_of new_rows were-parted
         (λ c h. elim (Contains-cases b [] c h) [
           | inl is ↦ (

@@ -12,36 +12,22 @@ use Rattle.cad_rows.specs.declared.names.Face.{Face}
 use Rattle.cad_rows.specs.declared.rows.PointRow.{PointRow}
 use Rattle.cad_rows.specs.declared.rows.StringRow.{StringRow}
 use Rattle.cad_rings.specs.Cycle.{Ring, Side, is_side, opposite, sides_along, sides_of, Corner, corners_of, IsSameRing}
-use Rattle.cad_rings.specs.Shown.{least_rotation}
+use Rattle.cad_rings.specs.Canonical.{least_rotation}
 use Rattle.cad_rings.specs.Surgery.{corner, without, put_on}
 use Rattle.cad_rings.proofs.CallerLemmas.{is_side-same, without-same, least_rotation-same, IsSameRing-least_rotation, IsSameRing-sym}
 use Rattle.cad_map.specs.declared.boundary.Boundary.{Boundary}
-use Rattle.cad_map.specs.Boundaries.{bounding, shown, listed}
+use Rattle.cad_map.specs.Boundaries.{bounding, canonical_form, canonical_order}
 use Rattle.cad_map.specs.Asked.{GivesInRange}
 use Rattle.cad_map.specs.Changes.{split}
 use Rattle.cad_map.specs.Effects.{after}
 use Rattle.cad_map.specs.Refusals.{first_refusal}
 use Rattle.cad_map.specs.Table.{without_row}
-use Rattle.cad_map.proofs.Allowed.{allowed, free-split}
-use Rattle.cad_map.proofs.RowsLeft.{sum-without}
-use Rattle.cad_map.proofs.Lists.{found-number}
-use Rattle.cad_map.proofs.ElementFacts.{find-Contains}
+use Rattle.cad_map.proofs.CallerLemmas.{allowed, free-split, sum-without, found-number, find-Contains, times, times-flat_map, times-permuted, Contains-cases, Contains-first, Contains-later, Contains-flat_map, Contains-in_part, All-at_each, count-some, apart-valid, beside-canonical_order, IsBeside, beside, has_side-Contains, both_sides, in_all, corner-sides, both, split_ring, split_boundary, apart-split, Came, came, old-known, along-known, IsPermutation-canonical_order, whole_valid, string-side-points, side_before, side_behind, is_side-refl, once-from_pairs}
 use Rattle.cad_laws.proofs.WholeAfter.{whole-after}
 use Rattle.cad_map.specs.Map.{Map, point_of, string_of, has_point, side_of, string_sides, all_sides, all_corners}
 use Rattle.cad_map.specs.Rings.{HasWholeRings}
 use Rattle.cad_map.specs.Valid.{IsValid}
 use Rattle.cad_map.specs.Views.{HasSide}
-use Rattle.cad_map.proofs.Counted.{times, times-flat_map, times-permuted}
-use Rattle.cad_map.proofs.Elements.{Contains-cases, Contains-first, Contains-later, Contains-flat_map, Contains-in_part, All-at_each, count-some}
-use Rattle.cad_map.proofs.Faced.{apart-valid, beside-listed}
-use Rattle.cad_map.proofs.FacesBeside.{IsBeside, beside, has_side-Contains, both_sides, in_all}
-use Rattle.cad_map.proofs.JoinedRings.{corner-sides}
-use Rattle.cad_map.proofs.JoinedStrings.{both}
-use Rattle.cad_map.proofs.KeptSplit.{split_ring, split_boundary, apart-split, Came, came, old-known, along-known}
-use Rattle.cad_map.proofs.KeptSplit.Came.{whole, first_half, second_half}
-use Rattle.cad_map.proofs.Listed.{IsPermutation-listed}
-use Rattle.cad_map.proofs.RingsOfMap.{whole_valid, string-side-points}
-use Rattle.cad_map.proofs.Walks.{side_before, side_behind, is_side-refl, once-from_pairs}
 use Rattle.cad_laws.specs.Joining.{AreNotJoined, WasCorner, IsJoinedAt}
 use Rattle.cad_laws.specs.Joining.WasCorner.{stood, before_first, before_second, behind_first, behind_second}
 use Rattle.cad_laws.proofs.MapCorners.{corner-in, two-whole, before-one, some-corner}
@@ -138,14 +124,14 @@ module _ (m : Map) (valid : IsValid m) (row : StringRow) (there : Contains m.str
   came-from : (g : Face) (u : Side) → HasSide S g u → Came m valid row there p new g u
   came-from g u has =
       came m valid row there p new g u
-      (beside-listed g u rings (beside g u (listed rings) (has_side-Contains u _ has)))
+      (beside-canonical_order g u rings (beside g u (canonical_order rings) (has_side-Contains u _ has)))
 
   some-came : (u : Side) → Contains (all_sides S) u → (g : Face) × Came m valid row there p new g u
   some-came u h =
       let part = Contains-in_part (λ (b : Boundary). sides_of b.ring) S.boundaries u h in (
         part.0.face,
         came m valid row there p new part.0.face u
-            (beside-listed part.0.face u rings
+            (beside-canonical_order part.0.face u rings
             (record { boundary = part.0; there = part.1; face = refl; has = part.2 })),
       )
 
@@ -161,20 +147,20 @@ module _ (m : Map) (valid : IsValid m) (row : StringRow) (there : Contains m.str
   old-side u h zero one = by (some-came u h).0 (some-came u h).1
     where
       by : (g : Face) → Came m valid row there p new g u → Contains (all_sides m) u
-      by g (whole k) = in-sides g u k
-      by g (first_half a b along k e) = absurd (one (ap (λ (s : Side). s.1) e))
-      by g (second_half a b along k e) = absurd (zero (ap (λ (s : Side). s.0) e))
+      by g (Came.whole k) = in-sides g u k
+      by g (Came.first_half a b along k e) = absurd (one (ap (λ (s : Side). s.1) e))
+      by g (Came.second_half a b along k e) = absurd (zero (ap (λ (s : Side). s.0) e))
 
   -- no side leads along the string any more
   along-gone : (u : Side) → Contains (all_sides S) u → 1 ≤ times u (both row) → u.0 ≢ p → u.1 ≢ p
       → ⊥
   along-gone u h some zero one =
-      let listed_so =
+      let canonical_so =
       subst (λ (l : List Side). Contains l u) strings
       (Contains-permutation (all_sides S) (string_sides S) u
       (IsPermutation-sym (string_sides S) (all_sides S) rings_after.v5.once) h) in
       elim (Contains-append_cases (flat_map both left)
-      ((f, p) ∷ (p, f) ∷ (p, t) ∷ (t, p) ∷ []) u listed_so) [
+      ((f, p) ∷ (p, f) ∷ (p, t) ∷ (t, p) ∷ []) u canonical_so) [
         | inl k ↦
             let e = parted u in
             let more = count-some (is_side u) (flat_map both left) u k (is_side-refl u) in
@@ -230,8 +216,8 @@ module _ (m : Map) (valid : IsValid m) (row : StringRow) (there : Contains m.str
             subst (λ (q : ℕ). Contains (sides_of part.0.ring) (c.at, q)) (sym same) sides.1;
       } in
       (apart-split m valid row there p new).apart (c.before, c.at) part.0.face part.0.face
-      (beside-listed part.0.face (c.before, c.at) rings k)
-      (beside-listed part.0.face (c.at, c.before) rings l) refl
+      (beside-canonical_order part.0.face (c.before, c.at) rings k)
+      (beside-canonical_order part.0.face (c.at, c.before) rings l) refl
 
   turns-before : (c : Corner) → Contains (all_corners m) c → c.before ≢ c.after
   turns-before c h same =
@@ -455,12 +441,12 @@ module _ (m : Map) (valid : IsValid m) (row : StringRow) (there : Contains m.str
   leads-to o h = by (some-came (o, p) h).0 (some-came (o, p) h).1
     where
       by : (g : Face) → Came m valid row there p new g (o, p) → (o ≡ f) ⊎ (o ≡ t)
-      by g (whole k) = absurd ((old-known m valid row there p new g (o, p) k).1 refl)
-      by g (first_half a b along k e) = elim along [
+      by g (Came.whole k) = absurd ((old-known m valid row there p new g (o, p) k).1 refl)
+      by g (Came.first_half a b along k e) = elim along [
         | inl is ↦ inl (ap (λ (s : Side). s.0) e ∙ is.0)
         | inr is ↦ inr (ap (λ (s : Side). s.0) e ∙ is.0)
       ]
-      by g (second_half a b along k e) =
+      by g (Came.second_half a b along k e) =
           absurd ((along-known m valid row there p new a b along).1
           (sym (ap (λ (s : Side). s.1) e)))
 
@@ -468,11 +454,11 @@ module _ (m : Map) (valid : IsValid m) (row : StringRow) (there : Contains m.str
   leads-from w h = by (some-came (p, w) h).0 (some-came (p, w) h).1
     where
       by : (g : Face) → Came m valid row there p new g (p, w) → (w ≡ f) ⊎ (w ≡ t)
-      by g (whole k) = absurd ((old-known m valid row there p new g (p, w) k).0 refl)
-      by g (first_half a b along k e) =
+      by g (Came.whole k) = absurd ((old-known m valid row there p new g (p, w) k).0 refl)
+      by g (Came.first_half a b along k e) =
           absurd ((along-known m valid row there p new a b along).0
           (sym (ap (λ (s : Side). s.0) e)))
-      by g (second_half a b along k e) = elim along [
+      by g (Came.second_half a b along k e) = elim along [
         | inl is ↦ inr (ap (λ (s : Side). s.1) e ∙ is.1)
         | inr is ↦ inl (ap (λ (s : Side). s.1) e ∙ is.1)
       ]
@@ -524,17 +510,17 @@ module _ (m : Map) (valid : IsValid m) (row : StringRow) (there : Contains m.str
   side-stays g u has zero one = by (came-from g u has)
     where
       by : Came m valid row there p new g u → HasSide m g u
-      by (whole k) = of-beside g u k
-      by (first_half a b along k e) = absurd (one (ap (λ (s : Side). s.1) e))
-      by (second_half a b along k e) = absurd (zero (ap (λ (s : Side). s.0) e))
+      by (Came.whole k) = of-beside g u k
+      by (Came.first_half a b along k e) = absurd (one (ap (λ (s : Side). s.1) e))
+      by (Came.second_half a b along k e) = absurd (zero (ap (λ (s : Side). s.0) e))
 
   side-to : (w n : ℕ) → ((w ≡ f) × (n ≡ t)) ⊎ ((w ≡ t) × (n ≡ f)) → w ≢ p → (g : Face)
       → HasSide S g (w, p) → HasSide m g (w, n)
   side-to w n which w_away g has = by (came-from g (w, p) has)
     where
       by : Came m valid row there p new g (w, p) → HasSide m g (w, n)
-      by (whole k) = absurd ((old-known m valid row there p new g (w, p) k).1 refl)
-      by (first_half a b along k e) =
+      by (Came.whole k) = absurd ((old-known m valid row there p new g (w, p) k).1 refl)
+      by (Came.first_half a b along k e) =
           let begins : w ≡ a = ap (λ (s : Side). s.0) e in
           let ends_at : n ≡ b = elim along [
             | inl is ↦ elim which [
@@ -548,13 +534,13 @@ module _ (m : Map) (valid : IsValid m) (row : StringRow) (there : Contains m.str
           ] in
           subst (λ (u : Side). HasSide m g u) (λ i. (sym begins i, sym ends_at i))
           (of-beside g (a, b) k)
-      by (second_half a b along k e) = absurd (w_away (ap (λ (s : Side). s.0) e))
+      by (Came.second_half a b along k e) = absurd (w_away (ap (λ (s : Side). s.0) e))
 
   abbrev drop : Boundary → Boundary
-  drop r = shown (bounding r.face (without p r.ring))
+  drop r = canonical_form (bounding r.face (without p r.ring))
 
   dropped-again : (r : Boundary) → Contains m.boundaries r
-      → drop (shown (split_boundary (side_of row) p r)) ≡ r
+      → drop (canonical_form (split_boundary (side_of row) p r)) ≡ r
   dropped-again r h =
       let R = split_ring (side_of row) p r.ring in
       let same : IsSameRing (without p (least_rotation R)) (without p R) =
@@ -584,14 +570,14 @@ module _ (m : Map) (valid : IsValid m) (row : StringRow) (there : Contains m.str
 
   boundaries-back : IsPermutation (map drop S.boundaries) m.boundaries
   boundaries-back =
-      let e : map drop (map shown rings) ≡ m.boundaries =
-      map-map drop shown rings ∙ map-map (λ r. drop (shown r))
+      let e : map drop (map canonical_form rings) ≡ m.boundaries =
+      map-map drop canonical_form rings ∙ map-map (λ r. drop (canonical_form r))
       (split_boundary (side_of row) p) m.boundaries
-      ∙ map-same (λ r. drop (shown (split_boundary (side_of row) p r)))
+      ∙ map-same (λ r. drop (canonical_form (split_boundary (side_of row) p r)))
       (λ r. r) m.boundaries dropped-again ∙ itself m.boundaries in
       subst (IsPermutation (map drop S.boundaries)) e
-      (IsPermutation-map drop (listed rings) (map shown rings)
-      (IsPermutation-sym (map shown rings) (listed rings) (IsPermutation-listed rings)))
+      (IsPermutation-map drop (canonical_order rings) (map canonical_form rings)
+      (IsPermutation-sym (map canonical_form rings) (canonical_order rings) (IsPermutation-canonical_order rings)))
     where
       itself : (l : List Boundary) → map (λ r. r) l ≡ l
       itself [] = refl

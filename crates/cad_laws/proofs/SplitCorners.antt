@@ -10,11 +10,10 @@ use Rattle.cad_rings.specs.Cycle.{Ring, Side, is_side, sides_along, Corner, corn
 use Rattle.cad_rings.specs.Surgery.{corner, corners_of_chain, put_on}
 use Rattle.cad_rings.proofs.CallerLemmas.{corners_of_chain-append}
 use Rattle.cad_map.specs.declared.boundary.Boundary.{Boundary}
-use Rattle.cad_map.specs.Boundaries.{bounding, listed, corners_in}
+use Rattle.cad_map.specs.Boundaries.{bounding, canonical_order, corners_in}
 use Rattle.cad_map.specs.Map.{Map, all_corners}
 use Rattle.cad_map.specs.Changes.{split}
-use Rattle.cad_map.proofs.Elements.{Contains-cases, Contains-first, Contains-later, Contains-flat_map, Contains-in_part, Contains-map}
-use Rattle.cad_map.proofs.ListedSides.{corners_in-listed}
+use Rattle.cad_map.proofs.CallerLemmas.{Contains-cases, Contains-first, Contains-later, Contains-flat_map, Contains-in_part, Contains-map, corners_in-canonical_order}
 
 -- what becomes of a corner where a point is put on a side: a point that the corner sees along the
 -- side gives way to it
@@ -213,7 +212,7 @@ image-split m row p x y first second c h =
     image-ring (row.to, row.from) p (put_on (row.from, row.to) p part.0.ring)
     (image (row.from, row.to) p c) one in
     Contains-permutation (corners_in (map change m.boundaries))
-    (corners_in (listed (map change m.boundaries))) d
-    (corners_in-listed (map change m.boundaries))
+    (corners_in (canonical_order (map change m.boundaries))) d
+    (corners_in-canonical_order (map change m.boundaries))
     (Contains-flat_map (λ (b : Boundary). corners_of b.ring) (map change m.boundaries)
     (change part.0) d (Contains-map change m.boundaries part.0 part.1) two)

@@ -11,10 +11,7 @@ use Rattle.cad_map.specs.Boundaries.{bounding}
 use Rattle.cad_map.specs.Map.{Map, has_point, has_face, position_of, is_end, far_end, strings_at, rings_of, all_corners}
 use Rattle.cad_map.specs.Touched.{Touched, neighbours, PointStands, StringStands, FaceStands, IsTouched}
 use Rattle.cad_map.specs.Valid.{HasSoundRows}
-use Rattle.cad_map.proofs.Elements.{All-at_each, All-from_each}
-use Rattle.cad_map.proofs.ElementFacts.{Contains-filter, filter-Contains}
-use Rattle.cad_map.proofs.Meetings.{ends}
-use Rattle.cad_map.proofs.Seams.{ring-there}
+use Rattle.cad_map.proofs.CallerLemmas.{All-at_each, All-from_each, Contains-filter, filter-Contains, ends, ring-there}
 use Rattle.cad_laws.specs.Parting.{HasCorner}
 use Rattle.cad_laws.proofs.Elsewhere.{has-or_not, picked-elsewhere}
 

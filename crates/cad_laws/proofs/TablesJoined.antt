@@ -7,11 +7,10 @@ use Rattle.cad_rings.specs.Surgery.{corner}
 use Rattle.cad_map.specs.Map.{Map, all_sides, all_corners}
 use Rattle.cad_map.specs.Rings.{HasWholeRings}
 use Rattle.cad_map.specs.Views.{ComesAfter}
-use Rattle.cad_map.proofs.KeptRows.{differs}
-use Rattle.cad_map.proofs.Walks.{side_before, side_behind}
+use Rattle.cad_map.proofs.CallerLemmas.{differs, side_before, side_behind}
 use Rattle.half_table.specs.declared.half.Half.{Half}
 use Rattle.half_table.specs.Half.{twin}
-use Rattle.half_table.specs.Rows.{Rows, next, origin}
+use Rattle.half_table.specs.Rows.{HalfRows, next, origin_of}
 use Rattle.cad_laws.specs.Joining.{AreNotJoined, IsJoinedAt}
 use Rattle.cad_laws.specs.Local.{IsShown, side_by, beyond, IsLocal}
 use Rattle.cad_laws.specs.Tables.{GoesOnJoined, GoesOnSplit}
@@ -21,16 +20,16 @@ use Rattle.cad_laws.proofs.TablesParted.{corner_of, next-side}
 
 -- ---- It goes
 
-module _ (m after : Map) (rows : Rows) (local : IsLocal m rows) (p a b : ℕ)
+module _ (m after : Map) (rows : HalfRows) (local : IsLocal m rows) (p a b : ℕ)
     (it : IsJoinedAt m after p a b) where
   -- the half's corner, where its next one leads from w to v
   own-at : (h : Half) → IsShown m h → (w v : ℕ) → side_by rows (next rows h) ≡ (w, v)
-      → Contains (all_corners m) (corner (origin rows h) w v) × (origin rows (twin h) ≡ w)
+      → Contains (all_corners m) (corner (origin_of rows h) w v) × (origin_of rows (twin h) ≡ w)
   own-at h shown w v is =
       let e = next-side m rows local h shown ∙ is in
-      let at : origin rows (twin h) ≡ w = ap (λ (s : Side). s.0) e in (
+      let at : origin_of rows (twin h) ≡ w = ap (λ (s : Side). s.0) e in (
         subst (Contains (all_corners m))
-            (λ i. corner (origin rows h) (at i) (ap (λ (s : Side). s.1) e i))
+            (λ i. corner (origin_of rows h) (at i) (ap (λ (s : Side). s.1) e i))
             (local.corners h shown),
         at,
       )
@@ -41,12 +40,12 @@ module _ (m after : Map) (rows : Rows) (local : IsLocal m rows) (p a b : ℕ)
         it.stays (corner_of m rows local h) (local.corners h shown) before here behind;
     to_first = λ h shown is. let k =
         own-at h shown a p is in
-        subst (λ (w : ℕ). ComesAfter after (origin rows h, w) b) (sym k.1)
-        (it.to_first (origin rows h) k.0);
+        subst (λ (w : ℕ). ComesAfter after (origin_of rows h, w) b) (sym k.1)
+        (it.to_first (origin_of rows h) k.0);
     to_second = λ h shown is. let k =
         own-at h shown b p is in
-        subst (λ (w : ℕ). ComesAfter after (origin rows h, w) a) (sym k.1)
-        (it.to_second (origin rows h) k.0);
+        subst (λ (w : ℕ). ComesAfter after (origin_of rows h, w) a) (sym k.1)
+        (it.to_second (origin_of rows h) k.0);
     from_first =
         λ g shown is.
         it.from_first (beyond rows g)
@@ -61,7 +60,7 @@ module _ (m after : Map) (rows : Rows) (local : IsLocal m rows) (p a b : ℕ)
 
 -- ---- It comes
 
-module _ (m after : Map) (rows : Rows) (local : IsLocal after rows) (p a b : ℕ)
+module _ (m after : Map) (rows : HalfRows) (local : IsLocal after rows) (p a b : ℕ)
     (it : IsJoinedAt m after p a b) (rings : HasWholeRings m) (rings_after : HasWholeRings after)
     (look : AreNotJoined m a b) where
   abbrev own : Half → Corner
@@ -78,10 +77,10 @@ module _ (m after : Map) (rows : Rows) (local : IsLocal after rows) (p a b : ℕ
       by c.0 c.1 c.2 (nat_eq c.0.after p) refl
     where
       o : ℕ
-      o = origin rows h
+      o = origin_of rows h
 
       v : ℕ
-      v = origin rows (twin h)
+      v = origin_of rows (twin h)
 
       by : (c : Corner) → Contains (all_corners m) c → side_before c ≡ side_by rows h → (t : Bool)
           → nat_eq c.after p ≡ t

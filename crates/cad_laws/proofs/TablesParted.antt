@@ -9,27 +9,20 @@ use Rattle.cad_map.specs.Chain.{start_of, next_of, end_of, last_but_one, inner_o
 use Rattle.cad_map.specs.Map.{Map, all_corners}
 use Rattle.cad_map.specs.Rings.{HasWholeRings}
 use Rattle.cad_map.specs.Views.{ComesAfter}
-use Rattle.cad_map.proofs.ChainFacts.{in_parts}
-use Rattle.cad_map.proofs.Counted.{times, times-cons, times-append, counted-Contains}
-use Rattle.cad_map.proofs.ElementFacts.{map-Contains}
-use Rattle.cad_map.proofs.Elements.{Contains-cases, Contains-first, Contains-later, count-some}
-use Rattle.cad_map.proofs.JoinedRings.{corner-sides}
-use Rattle.cad_map.proofs.TrailsOfRings.{has_first}
-use Rattle.cad_map.proofs.Merged.{of_both_ways, in_both_ways}
-use Rattle.cad_map.proofs.Walks.{side_before, side_behind, sides-before, sides-behind, is_side-refl}
+use Rattle.cad_map.proofs.CallerLemmas.{in_parts, times, times-cons, times-append, counted-Contains, map-Contains, Contains-cases, Contains-first, Contains-later, count-some, corner-sides, has_first, of_both_ways, in_both_ways, side_before, side_behind, sides-before, sides-behind, is_side-refl}
 use Rattle.half_table.specs.declared.half.Half.{Half}
 use Rattle.half_table.specs.Half.{twin}
-use Rattle.half_table.specs.Rows.{Rows, next, origin}
+use Rattle.half_table.specs.Rows.{HalfRows, next, origin_of}
 use Rattle.cad_laws.specs.Parting.{IsParted, HasIsland}
 use Rattle.cad_laws.specs.Local.{IsShown, side_by, beyond, IsLocal}
 use Rattle.cad_laws.specs.Tables.{GoesOnParted, GoesOnWhole, GoesOnWith, GoesOnWithout}
 use Rattle.cad_laws.proofs.MapCorners.{behind-one, before-one}
 use Rattle.cad_laws.proofs.PartedCorners.{last-is}
 
-module _ (m : Map) (rows : Rows) (local : IsLocal m rows) where
+module _ (m : Map) (rows : HalfRows) (local : IsLocal m rows) where
   -- the corner of a half and its next
   abbrev pub corner_of : Half → Corner
-  corner_of h = corner (origin rows h) (origin rows (twin h)) (beyond rows h)
+  corner_of h = corner (origin_of rows h) (origin_of rows (twin h)) (beyond rows h)
 
   -- its second side is the next half's
   pub next-side : (h : Half) → IsShown m h → side_behind (corner_of h) ≡ side_by rows (next rows h)
@@ -37,7 +30,7 @@ module _ (m : Map) (rows : Rows) (local : IsLocal m rows) where
 
 -- ---- A chain comes
 
-module _ (whole parted : Map) (rows : Rows) (local : IsLocal whole rows)
+module _ (whole parted : Map) (rows : HalfRows) (local : IsLocal whole rows)
     (rings : HasWholeRings whole) (chain : List ℕ) (first last : Corner)
     (it : IsParted whole parted chain first last) where
   pub goes-on_parted : GoesOnParted whole parted rows chain first last
@@ -145,7 +138,7 @@ side-before_corner a (x ∷ y ∷ inner) b s h =
 
 -- ---- A chain goes
 
-module _ (whole parted : Map) (rows : Rows) (local : IsLocal parted rows)
+module _ (whole parted : Map) (rows : HalfRows) (local : IsLocal parted rows)
     (rings : HasWholeRings parted) (chain : List ℕ) (long : 2 ≤ length chain) (first last : Corner)
     (it : IsParted whole parted chain first last) where
   abbrev sides : List Side
@@ -253,7 +246,7 @@ module _ (whole parted : Map) (rows : Rows) (local : IsLocal parted rows)
 
 -- ---- An island comes or goes
 
-pub goes-on_with : (whole parted : Map) (rows : Rows) (ring : Ring) → IsLocal whole rows
+pub goes-on_with : (whole parted : Map) (rows : HalfRows) (ring : Ring) → IsLocal whole rows
     → HasIsland whole parted ring → GoesOnWith whole parted rows
 goes-on_with whole parted rows ring local it h shown =
     it.stays (corner_of whole rows local h) (local.corners h shown)
@@ -278,7 +271,7 @@ before-some ring two s h =
     map-Contains side_before (corners_of ring) s
     (subst (λ (l : List Side). Contains l s) (sym (sides-before ring two)) h)
 
-module _ (whole parted : Map) (rows : Rows) (local : IsLocal parted rows)
+module _ (whole parted : Map) (rows : HalfRows) (local : IsLocal parted rows)
     (rings : HasWholeRings parted) (ring : Ring) (two : 2 ≤ length ring)
     (it : HasIsland whole parted ring) where
   abbrev sides_round : List Side

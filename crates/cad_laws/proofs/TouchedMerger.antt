@@ -16,47 +16,35 @@ use Rattle.cad_map.specs.Boundaries.{is_face, bounding}
 use Rattle.cad_map.specs.Changes.{merge}
 use Rattle.cad_map.specs.Effects.{after}
 use Rattle.cad_map.specs.Map.{Map, has_face, is_end, side_of, rings_of}
-use Rattle.cad_map.specs.Merger.{Seam, shared_sides, is_shared, seams, is_taken_out, handed_over, boundaries_merged}
-use Rattle.cad_map.specs.Merger.Seam.{along, around}
+use Rattle.cad_map.specs.Merger.{ChainInRings, shared_sides, is_shared, shared_chains, is_taken_out, handed_over, boundaries_merged}
+use Rattle.cad_map.specs.Merger.ChainInRings.{along, around}
 use Rattle.cad_map.specs.Refusals.{first_refusal}
 use Rattle.cad_map.specs.Table.{row_with}
 use Rattle.cad_map.specs.Touched.{Touched, IsTouched}
 use Rattle.cad_map.specs.Valid.{IsValid}
-use Rattle.cad_map.proofs.Allowed.{allowed}
-use Rattle.cad_map.proofs.AllowedParcels.{can-merge, names-parcels}
-use Rattle.cad_map.proofs.Elements.{Contains-first, Contains-flat_map}
-use Rattle.cad_map.proofs.ElementFacts.{map-Contains}
-use Rattle.cad_map.proofs.FacesBeside.{has_side-Contains, is_face-same}
-use Rattle.cad_map.proofs.JoinedRings.{filter-append}
-use Rattle.cad_map.proofs.Meetings.{ends}
-use Rattle.cad_map.proofs.Merged.{shared-chain}
-use Rattle.cad_map.proofs.MergedRows.{CanMerge, faces-differ, seam-there, merge-is}
-use Rattle.cad_map.proofs.RowsLeft.{none-filter}
-use Rattle.cad_map.proofs.Seams.{along-found, around-found, along-passed}
+use Rattle.cad_map.proofs.CallerLemmas.{allowed, can-merge, names-parcels, Contains-first, Contains-flat_map, map-Contains, has_side-Contains, is_face-same, filter-append, ends, shared-chain, CanMerge, faces-differ, shared_chain-there, merge-is, none-filter, along-found, around-found, along-passed, IsFound, found}
 use Rattle.cad_laws.specs.Parting.{HasCorner, IsMergedBy}
-use Rattle.cad_laws.specs.Touching.{touching, points_of_seam, touched_by}
+use Rattle.cad_laws.specs.Touching.{touching, points_of_shared_chain, touched_by}
 use Rattle.cad_laws.proofs.CornersElsewhere.{chain-ends, ring-ends, corners-parted, corners-island}
 use Rattle.cad_laws.proofs.Elsewhere.{one-face, not-face, filter-none, filter-among, filter-changed, rings-elsewhere, none-without}
 use Rattle.cad_laws.proofs.MergedCorners.{merged-corners}
-use Rattle.cad_map.proofs.OneSeam.{IsFound, found}
-use Rattle.cad_map.proofs.OneSeam.IsFound.{by_round, by_chain}
 use Rattle.cad_laws.proofs.StandsElsewhere.{KeepsPoints, KeepsStrings, stands-elsewhere}
 
--- ---- The seam's points
+-- ---- The shared chain's points
 
 module _ (m : Map) (valid : IsValid m) (kept ended : Face) (two : kept ≢ ended) where
-  -- the ends of a shared side are points of the seam
-  seam-ends : (x : Seam) → IsFound m valid kept ended x → (s : Side)
+  -- the ends of a shared side are points of the shared chain
+  shared_chain-ends : (x : ChainInRings) → IsFound m valid kept ended x → (s : Side)
       → Contains (shared_sides m kept ended) s
-      → Contains (points_of_seam x) s.0 × Contains (points_of_seam x) s.1
+      → Contains (points_of_shared_chain x) s.0 × Contains (points_of_shared_chain x) s.1
   unfolding along-found around-found
-  seam-ends x (by_round k e k_there e_there is) s h =
+  shared_chain-ends x (IsFound.by_round k e k_there e_there is) s h =
       let it = around-found m kept ended k e k_there e_there is in
       let shared = shared_sides m kept ended in
       ring-ends k s
       (Contains-permutation shared it.chain s
       (IsPermutation-sym it.chain shared (shared-chain m kept ended valid two (around k e) it)) h)
-  seam-ends x (by_chain k i e j k_there e_there is) s h =
+  shared_chain-ends x (IsFound.by_chain k i e j k_there e_there is) s h =
       let it = along-found m kept ended k e k_there e_there i j is in
       let shared = shared_sides m kept ended in
       let n = length shared in
@@ -66,13 +54,13 @@ module _ (m : Map) (valid : IsValid m) (kept ended : Face) (two : kept ≢ ended
       (shared-chain m kept ended valid two (along n k i e j) it)) h)
 
   -- at another point the corners are the same
-  seam-corners : (x : Seam) → IsFound m valid kept ended x → (merged : Map)
-      → IsMergedBy x merged m → (q : ℕ) → (¬ Contains (points_of_seam x) q) → (c : Corner)
+  shared_chain-corners : (x : ChainInRings) → IsFound m valid kept ended x → (merged : Map)
+      → IsMergedBy x merged m → (q : ℕ) → (¬ Contains (points_of_shared_chain x) q) → (c : Corner)
       → c.at ≡ q → HasCorner merged c ↔ HasCorner m c
-  seam-corners x (by_round k e k_there e_there is) merged it q off c at =
+  shared_chain-corners x (IsFound.by_round k e k_there e_there is) merged it q off c at =
       let k = corners-island merged m k it q off c at in
       (k.1, k.0)
-  seam-corners x (by_chain k i e j k_there e_there is) merged it q off c at =
+  shared_chain-corners x (IsFound.by_chain k i e j k_there e_there is) merged it q off c at =
       let n = length (shared_sides m kept ended) in
       let passed = along-passed n (turned i k) (turned j e) is in
       let some = passed.some in
@@ -96,21 +84,21 @@ module _ (m : Map) (k e : ℕ) (valid : IsValid m) (can : CanMerge m k e) where
   made = merge m K E
 
   abbrev named : Touched
-  named = touching (flat_map points_of_seam (seams m K E)) [] (K ∷ [])
+  named = touching (flat_map points_of_shared_chain (shared_chains m K E)) [] (K ∷ [])
 
   abbrev Any : ℕ → Type 0
   Any q = Unit {0}
 
-  seam-in : Contains (seams m K E) can.seam
-  seam-in =
-      subst (λ (l : List Seam). Contains l can.seam) (sym can.found)
-      (Contains-first can.seam can.others)
+  shared_chain-in : Contains (shared_chains m K E) can.shared_chain
+  shared_chain-in =
+      subst (λ (l : List ChainInRings). Contains l can.shared_chain) (sym can.found)
+      (Contains-first can.shared_chain can.others)
 
-  in-named : (q : ℕ) → Contains (points_of_seam can.seam) q → Contains named.points q
-  in-named q h = Contains-flat_map points_of_seam (seams m K E) can.seam q seam-in h
+  in-named : (q : ℕ) → Contains (points_of_shared_chain can.shared_chain) q → Contains named.points q
+  in-named q h = Contains-flat_map points_of_shared_chain (shared_chains m K E) can.shared_chain q shared_chain-in h
 
-  it-found : IsFound m valid K E can.seam
-  it-found = found m valid K E can.seam seam-in
+  it-found : IsFound m valid K E can.shared_chain
+  it-found = found m valid K E can.shared_chain shared_chain-in
 
   on-points : KeepsPoints m made named valid.sound.v1 Any
   on-points = record {
@@ -135,23 +123,23 @@ module _ (m : Map) (k e : ℕ) (valid : IsValid m) (can : CanMerge m k e) where
           → has_side u shared ≡ true → (q : ℕ) → is_end s q ≡ true → Contains named.points q
       of-side s u which has q end =
           let k =
-          seam-ends m valid K E (faces-differ m k e valid can) can.seam it-found u
+          shared_chain-ends m valid K E (faces-differ m k e valid can) can.shared_chain it-found u
           (has_side-Contains u shared has) in
-          let from_to : Contains (points_of_seam can.seam) s.from
-          × Contains (points_of_seam can.seam) s.to = elim which [
+          let from_to : Contains (points_of_shared_chain can.shared_chain) s.from
+          × Contains (points_of_shared_chain can.shared_chain) s.to = elim which [
             | inl f ↦
                 subst (λ (v : Side).
-                Contains (points_of_seam can.seam) v.0 × Contains (points_of_seam can.seam) v.1) f k
+                Contains (points_of_shared_chain can.shared_chain) v.0 × Contains (points_of_shared_chain can.shared_chain) v.1) f k
             | inr f ↦
                 let back =
                 subst (λ (v : Side).
-                Contains (points_of_seam can.seam) v.0
-                × Contains (points_of_seam can.seam) v.1) f k in
+                Contains (points_of_shared_chain can.shared_chain) v.0
+                × Contains (points_of_shared_chain can.shared_chain) v.1) f k in
                 (back.1, back.0)
           ] in
           in-named q (elim (ends s q end) [
-            | inl f ↦ subst (Contains (points_of_seam can.seam)) f.0 from_to.0
-            | inr f ↦ subst (Contains (points_of_seam can.seam)) f.0 from_to.1
+            | inl f ↦ subst (Contains (points_of_shared_chain can.shared_chain)) f.0 from_to.0
+            | inr f ↦ subst (Contains (points_of_shared_chain can.shared_chain)) f.0 from_to.1
           ])
 
       went : (s : StringRow) → not (is_shared m K E s) ≡ false → (q : ℕ) → is_end s q ≡ true
@@ -189,15 +177,15 @@ module _ (m : Map) (k e : ℕ) (valid : IsValid m) (can : CanMerge m k e) where
           (none-without (λ (r : ParcelRow). r.number) e m.parcels)
 
   abbrev it_more : List Ring
-  it_more = (seam-there m k e valid can).more
+  it_more = (shared_chain-there m k e valid can).more
 
   abbrev taken : Boundary → Bool
-  taken b = is_taken_out K E (seam-there m k e valid can).k (seam-there m k e valid can).e b
+  taken b = is_taken_out K E (shared_chain-there m k e valid can).k (shared_chain-there m k e valid can).e b
 
   -- the rings of another face are among those that stay
   rings-merged : (f : Face) → f ≢ K → f ≢ E
-      → filter (λ b. is_face f b.face) (boundaries_merged m K E (seam-there m k e valid can).k
-      (seam-there m k e valid can).e it_more)
+      → filter (λ b. is_face f b.face) (boundaries_merged m K E (shared_chain-there m k e valid can).k
+      (shared_chain-there m k e valid can).e it_more)
       ≡ filter (λ b. is_face f b.face) m.boundaries
   rings-merged f not_k not_e =
       let own : Boundary → Bool = λ b. is_face f b.face in
@@ -238,11 +226,11 @@ module _ (m : Map) (k e : ℕ) (valid : IsValid m) (can : CanMerge m k e) where
           let other = not-face E b.face (λ e. not_e (same ∙ sym e)) in
           simp (one, other) refl
 
-  touched-merged : IsMergedBy can.seam made m → IsTouched m made named
-  touched-merged by_seam =
+  touched-merged : IsMergedBy can.shared_chain made m → IsTouched m made named
+  touched-merged by_shared_chain =
       stands-elsewhere m made named valid.sound.v1 Any on-points on-strings
       (λ q known off.
-      seam-corners m valid K E (faces-differ m k e valid can) can.seam it-found made by_seam q
+      shared_chain-corners m valid K E (faces-differ m k e valid can) can.shared_chain it-found made by_shared_chain q
       (λ h. off (in-named q h))) (λ f known. elim (one-face f K) [
         | inl same ↦ inl (subst (Contains named.faces) (sym same) (Contains-first K []))
         | inr not_k ↦
@@ -280,4 +268,4 @@ merged-touched m kept ended valid none =
     two-parcels k e at =
         let can = can-merge m k e (allowed m (Merge (Parcel k) (Parcel e)) at) in
         touched-merged m k e valid can
-        (merged-corners m (Parcel k) (Parcel e) can.seam valid at (seam-in m k e valid can))
+        (merged-corners m (Parcel k) (Parcel e) can.shared_chain valid at (shared_chain-in m k e valid can))

@@ -20,15 +20,7 @@ use Rattle.cad_map.specs.Map.{Map, has_face}
 use Rattle.cad_map.specs.Refusals.{first_refusal}
 use Rattle.cad_map.specs.Touched.{Touched, IsTouched}
 use Rattle.cad_map.specs.Valid.{IsValid}
-use Rattle.cad_map.proofs.Allowed.{allowed}
-use Rattle.cad_map.proofs.AllowedParcels.{can-divide, can-enclose}
-use Rattle.cad_map.proofs.Divided.{CanDivide, IsCutRing, cut_ring}
-use Rattle.cad_map.proofs.Enclosed.{CanEnclose}
-use Rattle.cad_map.proofs.Elements.{Contains-cases, Contains-first, Contains-later}
-use Rattle.cad_map.proofs.FacesBeside.{has_side-Contains, is_face-same, sides-once}
-use Rattle.cad_map.proofs.NextSides.{one_boundary}
-use Rattle.cad_map.proofs.PlacedRings.{face-hole_placed}
-use Rattle.cad_map.proofs.Walks.{once-from_pairs}
+use Rattle.cad_map.proofs.CallerLemmas.{allowed, can-divide, can-enclose, CanDivide, IsCutRing, cut_ring, CanEnclose, Contains-cases, Contains-first, Contains-later, has_side-Contains, is_face-same, sides-once, one_boundary, face-hole_placed, once-from_pairs}
 use Rattle.cad_laws.specs.Parting.{HasCorner}
 use Rattle.cad_laws.specs.Touching.{touching, touched_by}
 use Rattle.cad_laws.proofs.CornersElsewhere.{corners-parted, corners-island}

@@ -21,13 +21,8 @@ use Rattle.cad_map.specs.Refusals.{first_refusal}
 use Rattle.cad_map.specs.Table.{row_with, without_row}
 use Rattle.cad_map.specs.Touched.{Touched, neighbours, StringStands, IsTouched}
 use Rattle.cad_map.specs.Valid.{IsValid}
-use Rattle.cad_map.proofs.Allowed.{allowed, free-dropped}
-use Rattle.cad_map.proofs.Elements.{Contains-first, Contains-map, All-at_each, All-from_each}
-use Rattle.cad_map.proofs.ElementFacts.{map-Contains}
-use Rattle.cad_map.proofs.KeptRows.{is_nothing, no_end, differs}
-use Rattle.cad_map.proofs.KeptRows as kept
-use Rattle.cad_map.proofs.Lists.{found-number, found-with_row, map-with_row-same}
-use Rattle.cad_map.proofs.RowsLeft.{none-filter}
+use Rattle.cad_map.proofs.CallerLemmas.{allowed, free-dropped, Contains-first, Contains-map, All-at_each, All-from_each, map-Contains, is_nothing, no_end, differs, found-number, found-with_row, map-with_row-same, none-filter}
+use Rattle.cad_map.proofs.CallerLemmas as maps
 use Rattle.cad_laws.specs.Touching.{touching, touched_by}
 use Rattle.cad_laws.proofs.Elsewhere.{found-pushed, same-pushed, same-without, none-without, same-with_row, own-with_row}
 use Rattle.cad_laws.proofs.StandsElsewhere.{KeepsPoints, stands-elsewhere}
@@ -281,7 +276,7 @@ dropped-touched m p valid none =
     (no_end p m.strings (is_nothing (filter (λ s. is_end s p) m.strings) free)) h)
     (λ b h q has. All-at_each (λ q. q ≢ p) b.ring q
     (All-at_each (λ b. AllByRecursion (λ q. q ≢ p) b.ring) m.boundaries b
-    (kept.rings-elsewhere m p valid.sound.v5 free) h) has) (record {
+    (maps.rings-elsewhere m p valid.sound.v5 free) h) has) (record {
       position = λ q known off.
           ap (λ (o : Option PointRow). unwrap_or (option_map (λ r. r.position) o) origin)
           (same-without (λ (r : PointRow). r.number) q p m.points off);

@@ -31,28 +31,8 @@ use Rattle.cad_map.specs.Refusals.{first_refusal}
 use Rattle.cad_map.specs.Asked.{GivesInRange}
 use Rattle.cad_map.specs.Rings.{HasWholeRings}
 use Rattle.cad_map.specs.Valid.{EachPair, HasCompleteRings, IsSound, IsValid, FirstBroken, Keeps, each_pair, is_same_position}
-use Rattle.cad_map.proofs.AddedRows.{EachPair-join}
-use Rattle.cad_map.proofs.Allowed.{IsAllowed, allowed, not-when, there-one, free-point, free-split, free-dropped, position-in_range, room, two-joined}
-use Rattle.cad_map.proofs.AllowedParcels.{can-divide, can-enclose, can-merge, names-parcels}
-use Rattle.cad_map.proofs.ChainFacts.{HasNoOpposites, in_parts, pairs-from_distinct, no_opposites-along, sides-from_ends, sides-strings_along}
-use Rattle.cad_map.proofs.Counted.{times-append, permuted-from_times}
-use Rattle.cad_map.proofs.Divided.{CanDivide, divided-sound}
-use Rattle.cad_map.proofs.Divided as divided
-use Rattle.cad_map.proofs.Elements.{Contains-cases, Contains-map, Contains-flat_map, Contains-in_part, All-at_each, All-from_each}
-use Rattle.cad_map.proofs.ElementFacts.{filter-Contains, map-Contains, list_all-at, list_all-from, find-Contains}
-use Rattle.cad_map.proofs.Enclosed.{CanEnclose, enclosed-sound, is_division-enclosed}
-use Rattle.cad_map.proofs.Faced.{complete}
-use Rattle.cad_map.proofs.FacesBeside.{sides-once, in_all, string_side}
-use Rattle.cad_map.proofs.JoinedRings.{dropped}
-use Rattle.cad_map.proofs.JoinedStrings as joined
-use Rattle.cad_map.proofs.JoinedStrings.{both}
-use Rattle.cad_map.proofs.KeptJoin.{AreApartEnds, MeetAt, meet-at, kept-join, three-join, apart-join, ends-apart}
-use Rattle.cad_map.proofs.KeptRows.{kept-source, kept-point, kept-drop}
-use Rattle.cad_map.proofs.KeptChanges.{kept-move, kept-attach, kept-detach, kept-rename}
-use Rattle.cad_map.proofs.KeptSplit.{kept-split}
-use Rattle.cad_map.proofs.MergedRows.{merged-sound}
-use Rattle.cad_map.proofs.Parallel.{pairs-IsPermutation, is_side-is, string_sides-once}
-use Rattle.cad_map.proofs.TakenOut.{EachPair-append}
+use Rattle.cad_map.proofs.CallerLemmas.{EachPair-join, IsAllowed, allowed, not-when, there-one, free-point, free-split, free-dropped, position-in_range, room, two-joined, can-divide, can-enclose, can-merge, names-parcels, HasNoOpposites, in_parts, pairs-from_distinct, no_opposites-along, sides-from_ends, sides-strings_along, times-append, permuted-from_times, CanDivide, divided-sound, Contains-cases, Contains-map, Contains-flat_map, Contains-in_part, All-at_each, All-from_each, filter-Contains, map-Contains, list_all-at, list_all-from, find-Contains, CanEnclose, enclosed-sound, is_division-enclosed, complete, sides-once, in_all, string_side, dropped, both, AreApartEnds, MeetAt, meet-at, kept-join, three-join, apart-join, ends-apart, kept-source, kept-point, kept-drop, kept-move, kept-attach, kept-detach, kept-rename, kept-split, merged-sound, pairs-IsPermutation, is_side-is, string_sides-once, EachPair-append}
+use Rattle.cad_map.proofs.CallerLemmas as maps
 use Rattle.cad_laws.specs.Joining.{AreNotJoined, FarEndsAreApart}
 
 -- ---- Sides of which none stands twice
@@ -232,8 +212,8 @@ module _ (m : Map) (valid : IsValid m) where
       (sides-strings_along (source ∷ []) strings chain can.as_many)
       (subst Once (sym sides) (along-once _ _ _ (pairs-front (_ ∷ _) (_ ∷ []) each)))
       (subst HasNoOpposites (sym sides) (no_opposites-along _ _ _ each))
-      (divided.new-side m valid face chain strings parcel label source can)
-      (divided.new-side_back m valid face chain strings parcel label source can))
+      (maps.new-side m valid face chain strings parcel label source can)
+      (maps.new-side_back m valid face chain strings parcel label source can))
 
   whole-enclose : (face : Face) (points strings : List ℕ) (parcel : ℕ) (label : List ℕ)
       (source : ℕ) → CanEnclose m face points strings parcel label source
@@ -413,14 +393,14 @@ module _ (m : Map) (valid : IsValid m) where
         (sides_in rings) (λ u.
         times-append u (flat_map both left)
         ((far_end s p, far_end t p) ∷ (far_end t p, far_end s p) ∷ [])
-        ∙ sym (joined.once-join m valid p s t two.at u)))
+        ∙ sym (maps.once-join m valid p s t two.at u)))
 
     whole-join : AreNotJoined m (far_end s p) (far_end t p) → HasWholeRings (join m p new)
     whole-join look =
         let tested = kept-join m p new valid number free in
         let ends : AreApartEnds m valid p s t two.at =
         record { forth = look.forth; back = look.back } in
-        let differ = joined.differ m valid p s t two.at in
+        let differ = maps.differ m valid p s t two.at in
         let a = far_end s p in
         let b = far_end t p in
         let v5 : HasCompleteRings (with_boundaries rings rows) =

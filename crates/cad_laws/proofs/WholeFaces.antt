@@ -10,10 +10,7 @@ use Rattle.cad_map.specs.declared.boundary.Boundary.{Boundary}
 use Rattle.cad_map.specs.Map.{Map, side_of, face_at, left_face, right_face, rings_at, all_sides, string_sides}
 use Rattle.cad_map.specs.Rings.{HasWholeRings}
 use Rattle.cad_map.specs.Views.{HasSide}
-use Rattle.cad_map.proofs.Elements.{All-at_each, Contains-in_part}
-use Rattle.cad_map.proofs.FacesBeside.{IsSideOf, one_face, beside, has_side-Contains, string_side, both_sides}
-use Rattle.cad_map.proofs.Looks.{first_face-some}
-use Rattle.cad_map.proofs.Walks.{once-from_pairs}
+use Rattle.cad_map.proofs.CallerLemmas.{All-at_each, Contains-in_part, IsSideOf, one_face, beside, has_side-Contains, string_side, both_sides, first_face-some, once-from_pairs}
 
 module _ (m : Map) (whole : HasWholeRings m) where
   -- a side stands in one ring alone, whose face is found for it

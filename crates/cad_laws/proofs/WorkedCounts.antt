@@ -3,7 +3,7 @@ use Rattle.std.proofs.Common.{◌≡◌, refl, [], ◌∷◌}
 use Rattle.cad_rows.specs.declared.edits.Edit.TheVariants.{Join, Divide, Merge}
 use Rattle.cad_rows.specs.declared.names.Face.TheVariants.{Parcel}
 use Rattle.cad_map.specs.Effects.{after}
-use Rattle.cad_map.proofs.Plans.{square, island, label_c}
+use Rattle.cad_map.proofs.CallerLemmas.{square, island, label_c}
 use Rattle.cad_laws.specs.Counts.{rows_by, sources_by, sides_by, rings_by}
 
 -- a diagonal: a string and a parcel come, and a triangle is the new parcel's

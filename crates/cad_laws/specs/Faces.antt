@@ -6,13 +6,13 @@ use Rattle.cad_rows.specs.declared.names.Face.{Face}
 use Rattle.cad_rings.specs.Cycle.{Ring, Side, has_side, opposite, sides_of, Corner}
 use Rattle.cad_rings.specs.Surgery.{both_ways, left_ring, right_ring, sides_of_chain, chain_from, joined}
 use Rattle.cad_map.specs.declared.boundary.Boundary.{Boundary}
-use Rattle.cad_map.specs.Boundaries.{is_face, bounding, shown}
+use Rattle.cad_map.specs.Boundaries.{is_face, bounding, canonical_form}
 use Rattle.cad_map.specs.Map.{Map}
 use Rattle.cad_map.specs.Views.{HasSide}
 use Rattle.cad_map.specs.Chain.{inner_of, leaving}
 use Rattle.cad_map.specs.Division.{place_of, hole_placed}
-use Rattle.cad_map.specs.Merger.{Seam, handed_over}
-use Rattle.cad_map.specs.Merger.Seam.{along, around}
+use Rattle.cad_map.specs.Merger.{ChainInRings, handed_over}
+use Rattle.cad_map.specs.Merger.ChainInRings.{along, around}
 
 -- ---- A division and an enclosure
 
@@ -31,7 +31,7 @@ IsOfNew m face new left s = Contains (sides_of left) s ⊎ IsOfMoved m face new 
 -- the boundaries with the two new rings, and with the holes of the others where they go
 abbrev pub placed_with : Map → Face → Face → Ring → Ring → List Boundary → List Boundary
 placed_with m face new left right others =
-    shown (bounding new left) ∷ shown (bounding face right) ∷ map
+    canonical_form (bounding new left) ∷ canonical_form (bounding face right) ∷ map
     (hole_placed m face new left) others
 
 -- These rings of the face go, two come in their place, and the others stay, but for the holes that
@@ -51,13 +51,13 @@ pub record HasPlaced (m after : Map) (face new : Face) (gone : List Boundary) (l
       → HasSide after f s ⊎ ((f ≡ face) × IsOfNew m face new left s)
 
 -- the ring left of a chain from one corner of the ring to another
-abbrev pub left_of : List ℕ → Corner → Corner → Ring → Ring
-left_of chain first last ring =
+abbrev pub left_of_chain : List ℕ → Corner → Corner → Ring → Ring
+left_of_chain chain first last ring =
     left_ring (place_of (leaving first) ring) (place_of (leaving last) ring) (inner_of chain) ring
 
 -- and the ring right of it
-abbrev pub right_of : List ℕ → Corner → Corner → Ring → Ring
-right_of chain first last ring =
+abbrev pub right_of_chain : List ℕ → Corner → Corner → Ring → Ring
+right_of_chain chain first last ring =
     right_ring (place_of (leaving first) ring) (place_of (leaving last) ring) (inner_of chain) ring
 
 -- the boundaries that don't have the side that leaves the corner
@@ -76,13 +76,13 @@ pub record IsDividedIn (m after : Map) (face new : Face) (chain : List ℕ)
   -- the two rings share out the sides of the one, and have the chain's besides, the left one those
   -- along it
   pub hands : IsPermutation
-      (sides_of (left_of chain first last cut.ring) ++ sides_of
-      (right_of chain first last cut.ring))
+      (sides_of (left_of_chain chain first last cut.ring) ++ sides_of
+      (right_of_chain chain first last cut.ring))
       (both_ways (sides_of_chain chain) ++ sides_of cut.ring)
   pub along : (s : Side) → Contains (sides_of_chain chain) s
-      → Contains (sides_of (left_of chain first last cut.ring)) s
-  pub placed : HasPlaced m after face new (cut ∷ []) (left_of chain first last cut.ring)
-      (right_of chain first last cut.ring) (uncut m first)
+      → Contains (sides_of (left_of_chain chain first last cut.ring)) s
+  pub placed : HasPlaced m after face new (cut ∷ []) (left_of_chain chain first last cut.ring)
+      (right_of_chain chain first last cut.ring) (uncut m first)
 
 -- ---- A merger
 
@@ -94,7 +94,7 @@ over kept ended f = if is_face ended f then kept else f
 -- over
 abbrev pub merged_with : Face → Face → List Ring → List Boundary → List Boundary
 merged_with kept ended more others =
-    map (λ r. shown (bounding kept r)) more ++ map (handed_over kept ended) others
+    map (λ r. canonical_form (bounding kept r)) more ++ map (handed_over kept ended) others
 
 -- Of each of the two faces a ring goes, and the ended one's other rings are the kept one's.
 pub record HasMerged (m after : Map) (kept ended : Face) (chain : List Side) (k e : Ring)
@@ -109,7 +109,7 @@ pub record HasMerged (m after : Map) (kept ended : Face) (chain : List Side) (k 
   pub in_ended : (s : Side) → Contains chain s → HasSide m ended (opposite s)
 
 -- along a chain two rings become the one round both, and round an island two rings go
-abbrev pub IsMergedIn : Seam → Map → Map → Face → Face → Type 0
+abbrev pub IsMergedIn : ChainInRings → Map → Map → Face → Face → Type 0
 IsMergedIn (along n k i e j) m after kept ended = (others : List Boundary)
     × HasMerged m after kept ended (sides_of_chain (chain_from i n k)) k e
     (joined i j n k e ∷ []) others

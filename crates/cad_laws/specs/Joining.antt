@@ -8,7 +8,7 @@ use Rattle.cad_rows.specs.declared.names.Face.{Face}
 use Rattle.cad_rows.specs.declared.rows.StringRow.{StringRow}
 use Rattle.cad_rings.specs.Cycle.{Side, Corner}
 use Rattle.cad_rings.specs.Surgery.{corner, without}
-use Rattle.cad_map.specs.Boundaries.{bounding, shown}
+use Rattle.cad_map.specs.Boundaries.{bounding, canonical_form}
 use Rattle.cad_map.specs.Changes.{by_number}
 use Rattle.cad_map.specs.Map.{Map, far_end, strings_at, all_sides}
 use Rattle.cad_map.specs.Views.{HasSide}
@@ -53,7 +53,7 @@ pub record IsJoinedAt (m after : Map) (p a b : ℕ) : Type 0 where
   pub side_back : (f : Face) → HasSide m f (b, p) → HasSide after f (b, a)
   -- each ring is as it was, without the point
   pub boundaries : IsPermutation
-      (map (λ r. shown (bounding r.face (without p r.ring))) m.boundaries) after.boundaries
+      (map (λ r. canonical_form (bounding r.face (without p r.ring))) m.boundaries) after.boundaries
 
 -- Of a join it has been looked that no side leads from one of the far ends to the other.
 abbrev pub FarEndsAreApart : Map → Edit → Type 0

@@ -6,8 +6,8 @@ use Rattle.cad_rings.specs.Cycle.{Ring, Side, sides_of, Corner, corner_back, cor
 use Rattle.cad_rings.specs.Surgery.{corner, both_ways, sides_of_chain, corners_of_chain, chain_from}
 use Rattle.cad_map.specs.Chain.{start_of, next_of, end_of, last_but_one}
 use Rattle.cad_map.specs.Map.{Map, all_corners}
-use Rattle.cad_map.specs.Merger.{Seam}
-use Rattle.cad_map.specs.Merger.Seam.{along, around}
+use Rattle.cad_map.specs.Merger.{ChainInRings}
+use Rattle.cad_map.specs.Merger.ChainInRings.{along, around}
 
 -- a ring of the map has the corner
 abbrev pub HasCorner : Map → Corner → Type 0
@@ -49,9 +49,9 @@ pub record HasIsland (whole parted : Map) (ring : Ring) : Type 0 where
   pub joins : (c : Corner) → HasCorner parted c → ¬ IsOn (sides_of ring) c → HasCorner whole c
   pub free : (c : Corner) → HasCorner whole c → ¬ IsOn (sides_of ring) c
 
--- What a merger takes out, by the seam that is found: read from the map after it, the map before
+-- What a merger takes out, by the shared chain that is found: read from the map after it, the map before
 -- has the chain, or the island, more.
-abbrev pub IsMergedBy : Seam → Map → Map → Type 0
+abbrev pub IsMergedBy : ChainInRings → Map → Map → Type 0
 IsMergedBy (along n k i e j) merged m =
     (first : Corner) × (last : Corner) × IsParted merged m (chain_from i n k) first last
 IsMergedBy (around k e) merged m = HasIsland merged m k

@@ -8,12 +8,12 @@ use Rattle.cad_map.specs.Chain.{start_of, next_of, end_of, last_but_one, leaving
 use Rattle.cad_map.specs.Map.{Map, all_sides}
 use Rattle.cad_map.specs.Views.{ComesAfter}
 use Rattle.half_table.specs.declared.half.Half.{Half}
-use Rattle.half_table.specs.Rows.{Rows}
+use Rattle.half_table.specs.Rows.{HalfRows}
 use Rattle.cad_laws.specs.Local.{IsShown, side_by, next_side_by, beyond, LeadsAlong, GoesOnIn}
 
 -- A chain comes: a division done, or a merger undone. What the chain's own halves go on to is told
 -- by the chain.
-pub record GoesOnParted (whole parted : Map) (rows : Rows) (chain : List ℕ)
+pub record GoesOnParted (whole parted : Map) (rows : HalfRows) (chain : List ℕ)
     (first last : Corner) : Type 0 where
   pub stays : (h : Half) → IsShown whole h → next_side_by rows h ≢ leaving first
       → next_side_by rows h ≢ leaving last → GoesOnIn parted rows h
@@ -23,7 +23,7 @@ pub record GoesOnParted (whole parted : Map) (rows : Rows) (chain : List ℕ)
       → ComesAfter parted (side_by rows h) (last_but_one chain)
 
 -- A chain goes: a merger done, or a division undone.
-pub record GoesOnWhole (whole parted : Map) (rows : Rows) (chain : List ℕ)
+pub record GoesOnWhole (whole parted : Map) (rows : HalfRows) (chain : List ℕ)
     (first last : Corner) : Type 0 where
   pub stays : (h : Half) → IsShown parted h → ¬ LeadsAlong (sides_of_chain chain) (side_by rows h)
       → ¬ LeadsAlong (sides_of_chain chain) (next_side_by rows h) → GoesOnIn whole rows h
@@ -47,17 +47,17 @@ pub record GoesOnWhole (whole parted : Map) (rows : Rows) (chain : List ℕ)
       ⊎ (next_side_by rows h ≡ (end_of chain, last_but_one chain))
 
 -- An island comes: an enclosure done, or a merger round an island undone. Each half keeps its next.
-abbrev pub GoesOnWith : Map → Map → Rows → Type 0
+abbrev pub GoesOnWith : Map → Map → HalfRows → Type 0
 GoesOnWith whole parted rows = (h : Half) → IsShown whole h → GoesOnIn parted rows h
 
 -- An island goes: each half elsewhere keeps its next, which is elsewhere too.
-abbrev pub GoesOnWithout : Map → Map → Rows → Ring → Type 0
+abbrev pub GoesOnWithout : Map → Map → HalfRows → Ring → Type 0
 GoesOnWithout whole parted rows ring =
     (h : Half) → IsShown parted h → ¬ LeadsAlong (sides_of ring) (side_by rows h)
     → GoesOnIn whole rows h × (¬ LeadsAlong (sides_of ring) (next_side_by rows h))
 
 -- A point between a and b goes: a join done, or a split undone.
-pub record GoesOnJoined (m after : Map) (rows : Rows) (p a b : ℕ) : Type 0 where
+pub record GoesOnJoined (m after : Map) (rows : HalfRows) (p a b : ℕ) : Type 0 where
   pub stays : (h : Half) → IsShown m h → (side_by rows h).0 ≢ p → (side_by rows h).1 ≢ p
       → beyond rows h ≢ p → GoesOnIn after rows h
   pub to_first : (h : Half) → IsShown m h → next_side_by rows h ≡ (a, p)
@@ -70,7 +70,7 @@ pub record GoesOnJoined (m after : Map) (rows : Rows) (p a b : ℕ) : Type 0 whe
       → ComesAfter after (a, b) (beyond rows g)
 
 -- It comes: a split done, or a join undone. A half whose side was there keeps it.
-pub record GoesOnSplit (m after : Map) (rows : Rows) (p a b : ℕ) : Type 0 where
+pub record GoesOnSplit (m after : Map) (rows : HalfRows) (p a b : ℕ) : Type 0 where
   pub stays : (h : Half) → IsShown after h → Contains (all_sides m) (side_by rows h)
       → next_side_by rows h ≢ (a, b) → next_side_by rows h ≢ (b, a) → GoesOnIn m rows h
   pub to_first : (h : Half) → IsShown after h → Contains (all_sides m) (side_by rows h)

@@ -9,8 +9,8 @@ use Rattle.cad_rows.specs.declared.rows.StringRow.{StringRow}
 use Rattle.cad_rings.specs.Cycle.{Ring, has_side, opposite, sides_of}
 use Rattle.cad_rings.specs.Surgery.{chain_from}
 use Rattle.cad_map.specs.Map.{Map, string_of, side_of, strings_at}
-use Rattle.cad_map.specs.Merger.{Seam, seams}
-use Rattle.cad_map.specs.Merger.Seam.{along, around}
+use Rattle.cad_map.specs.Merger.{ChainInRings, shared_chains}
+use Rattle.cad_map.specs.Merger.ChainInRings.{along, around}
 use Rattle.cad_map.specs.Touched.{Touched, neighbours}
 
 abbrev pub touching : List ℕ → List ℕ → List Face → Touched
@@ -30,9 +30,9 @@ goes_along s ring =
     has_side (side_of s) (sides_of ring) || has_side (opposite (side_of s)) (sides_of ring)
 
 -- the points of the chain, or of the island, that a merger takes out
-abbrev pub points_of_seam : Seam → List ℕ
-points_of_seam (along n k i e j) = chain_from i n k
-points_of_seam (around k e) = k
+abbrev pub points_of_shared_chain : ChainInRings → List ℕ
+points_of_shared_chain (along n k i e j) = chain_from i n k
+points_of_shared_chain (around k e) = k
 
 -- the new point and the string's ends, the two new strings, and the faces beside the string
 abbrev pub touched_by_split : Map → ℕ → ℕ → ℕ → StringRow → Touched
@@ -49,7 +49,7 @@ touched_by m (Join p new) = touching (neighbours m p) (new ∷ []) (faces_where 
 touched_by m (Divide face chain strings parcel label source) =
     touching chain strings (face ∷ Parcel parcel ∷ [])
 touched_by m (Merge kept ended) =
-    touching (flat_map points_of_seam (seams m kept ended)) [] (kept ∷ [])
+    touching (flat_map points_of_shared_chain (shared_chains m kept ended)) [] (kept ∷ [])
 -- the point, its strings, and the faces whose rings pass it
 touched_by m (Move p x y) =
     touching (p ∷ []) (map (λ s. s.number) (strings_at m p)) (faces_where m (passes p))

@@ -14,12 +14,12 @@ ghost use Rattle.cad_map.specs.Changes.{by_number};
 ghost use Rattle.cad_map.specs.Costs.{rows_changed, rings_moved, sources_removed, sides_changed, weight_bound, work_bound};
 ghost use Rattle.cad_map.specs.Effects.{after};
 ghost use Rattle.cad_map.specs.Map.{Map, string_of, far_end, strings_at};
-ghost use Rattle.cad_map.specs.Merger.{Seam, seams, shared_sides, boundaries_by};
+ghost use Rattle.cad_map.specs.Merger.{ChainInRings, shared_chains, shared_sides, boundaries_by};
 ghost use Rattle.cad_map.specs.Rings.{HasWholeRings};
 ghost use Rattle.cad_map.specs.Touched.{IsTouched};
 ghost use Rattle.cad_map.specs.Valid.{HasTwoEnds, IsValid, FirstBroken};
 ghost use Rattle.half_table.specs.declared.half.Half.{Half};
-ghost use Rattle.half_table.specs.Rows.{Rows};
+ghost use Rattle.half_table.specs.Rows.{HalfRows};
 ghost use Rattle.cad_laws.specs.Tried.{IsTried, AreChosen};
 ghost use Rattle.cad_laws.specs.Parting.{IsParted, HasIsland, IsMergedBy};
 ghost use Rattle.cad_laws.specs.Faces.{HasPlaced, IsDividedIn, IsMergedIn};
@@ -61,14 +61,14 @@ pub fn enclosed()
 {}
 
 /// A merger that is tried takes out the corners of the chain, or of the island, both ways,
-/// whichever seam is found, and at each end of the chain it makes one corner of two: read from the
+/// whichever shared chain is found, and at each end of the chain it makes one corner of two: read from the
 /// map after it to the one before, it is a division or an enclosure. The kept face has all other
 /// rings of the ended one, and every other side keeps its face.
 pub fn merged()
-    ensures corners { (m : Map) (kept ended : Face) (x : Seam) → IsTried m (Merge kept ended)
-        → Contains (seams m kept ended) x → IsMergedBy x (after m (Merge kept ended)) m }
-    ensures faces { (m : Map) (kept ended : Face) (x : Seam) → IsTried m (Merge kept ended)
-        → Contains (seams m kept ended) x → IsMergedIn x m (after m (Merge kept ended)) kept ended }
+    ensures corners { (m : Map) (kept ended : Face) (x : ChainInRings) → IsTried m (Merge kept ended)
+        → Contains (shared_chains m kept ended) x → IsMergedBy x (after m (Merge kept ended)) m }
+    ensures faces { (m : Map) (kept ended : Face) (x : ChainInRings) → IsTried m (Merge kept ended)
+        → Contains (shared_chains m kept ended) x → IsMergedIn x m (after m (Merge kept ended)) kept ended }
 {}
 
 /// A join that is tried takes out the two corners at the point, and of the two strings' far ends
@@ -133,22 +133,22 @@ pub fn counts()
 /// store knows which halves it links anew, doing the edit and taking it back. And that a table
 /// whose halves begin at their strings' ends has no two halves with one side.
 pub fn tables()
-    ensures chain_comes { (whole parted : Map) (rows : Rows) (chain : List ℕ) (first last : Corner)
+    ensures chain_comes { (whole parted : Map) (rows : HalfRows) (chain : List ℕ) (first last : Corner)
         → IsLocal whole rows → HasWholeRings whole → IsParted whole parted chain first last
         → GoesOnParted whole parted rows chain first last }
-    ensures chain_goes { (whole parted : Map) (rows : Rows) (chain : List ℕ) (first last : Corner)
+    ensures chain_goes { (whole parted : Map) (rows : HalfRows) (chain : List ℕ) (first last : Corner)
         → IsLocal parted rows → HasWholeRings parted → 2 ≤ length chain
         → IsParted whole parted chain first last → GoesOnWhole whole parted rows chain first last }
-    ensures island_comes { (whole parted : Map) (rows : Rows) (ring : Ring) → IsLocal whole rows
+    ensures island_comes { (whole parted : Map) (rows : HalfRows) (ring : Ring) → IsLocal whole rows
         → HasIsland whole parted ring → GoesOnWith whole parted rows }
-    ensures island_goes { (whole parted : Map) (rows : Rows) (ring : Ring)
+    ensures island_goes { (whole parted : Map) (rows : HalfRows) (ring : Ring)
         → IsLocal parted rows → HasWholeRings parted → 2 ≤ length ring → HasIsland whole parted ring
         → GoesOnWithout whole parted rows ring }
-    ensures point_goes { (m after : Map) (rows : Rows) (p a b : ℕ) → IsLocal m rows
+    ensures point_goes { (m after : Map) (rows : HalfRows) (p a b : ℕ) → IsLocal m rows
         → IsJoinedAt m after p a b → GoesOnJoined m after rows p a b }
-    ensures point_comes { (m after : Map) (rows : Rows) (p a b : ℕ)
+    ensures point_comes { (m after : Map) (rows : HalfRows) (p a b : ℕ)
         → IsLocal after rows → IsJoinedAt m after p a b → HasWholeRings m → HasWholeRings after
         → AreNotJoined m a b → GoesOnSplit m after rows p a b }
-    ensures apart { (m : Map) (rows : Rows) → HasTwoEnds m → HasWholeRings m → BeginAtEnds m rows
+    ensures apart { (m : Map) (rows : HalfRows) → HasTwoEnds m → HasWholeRings m → BeginAtEnds m rows
         → (g h : Half) → IsShown m g → IsShown m h → side_by rows g ≡ side_by rows h → g ≡ h }
 {}

@@ -1,10 +1,10 @@
--- The rings of a map's faces, and the one order in which a map lists them.
+-- The rings of a map's faces, and their canonical order.
 use Rattle.std.specs.Prelude.{ℕ, suc, Bool, true, false, ◌==◌, List, [], ◌∷◌, if◌then◌else◌}
 use Rattle.std.specs.List.{flat_map}
 use Rattle.cad_rows.specs.declared.names.Face.{Face}
 use Rattle.cad_rows.specs.declared.names.Face.TheVariants.{Outside, Parcel}
 use Rattle.cad_rings.specs.Cycle.{Ring, Side, sides_of, Corner, corners_of}
-use Rattle.cad_rings.specs.Shown.{comes_first, least_rotation}
+use Rattle.cad_rings.specs.Canonical.{comes_first, least_rotation}
 use Rattle.cad_map.specs.declared.boundary.Boundary.{Boundary}
 
 abbrev pub is_face : Face → Face → Bool
@@ -25,7 +25,7 @@ sides_in bs = flat_map (λ b. sides_of b.ring) bs
 abbrev pub corners_in : List Boundary → List Corner
 corners_in bs = flat_map (λ b. corners_of b.ring) bs
 
--- ---- How boundaries are listed
+-- ---- The canonical order
 
 -- the outside comes first, and then parcels by their numbers
 abbrev pub face_place : Face → ℕ
@@ -33,19 +33,19 @@ face_place Outside = 0
 face_place (Parcel n) = suc n
 
 -- the ring as its least rotation
-abbrev pub shown : Boundary → Boundary
-shown b = bounding b.face (least_rotation b.ring)
+abbrev pub canonical_form : Boundary → Boundary
+canonical_form b = bounding b.face (least_rotation b.ring)
 
 -- by faces, and at one face by the rings
-abbrev pub is_listed_first : Boundary → Boundary → Bool
-is_listed_first a b = comes_first (face_place a.face ∷ a.ring) (face_place b.face ∷ b.ring)
+abbrev pub boundary_comes_first : Boundary → Boundary → Bool
+boundary_comes_first a b = comes_first (face_place a.face ∷ a.ring) (face_place b.face ∷ b.ring)
 
 -- put before the first that it comes before
-abbrev pub put_in_order : Boundary → List Boundary → List Boundary
-put_in_order a [] = a ∷ []
-put_in_order a (b ∷ bs) = if is_listed_first a b then a ∷ b ∷ bs else b ∷ put_in_order a bs
+abbrev pub put_in_canonical_order : Boundary → List Boundary → List Boundary
+put_in_canonical_order a [] = a ∷ []
+put_in_canonical_order a (b ∷ bs) = if boundary_comes_first a b then a ∷ b ∷ bs else b ∷ put_in_canonical_order a bs
 
--- each ring as its least rotation, in order: how a map lists its boundaries, however they are kept
-abbrev pub listed : List Boundary → List Boundary
-listed [] = []
-listed (b ∷ bs) = put_in_order (shown b) (listed bs)
+-- each ring as its least rotation, in order: how a map has its boundaries, however they are kept
+abbrev pub canonical_order : List Boundary → List Boundary
+canonical_order [] = []
+canonical_order (b ∷ bs) = put_in_canonical_order (canonical_form b) (canonical_order bs)

@@ -11,12 +11,12 @@ use Rattle.cad_rows.specs.declared.names.Item.TheVariants as item
 use Rattle.cad_rings.specs.Cycle.{Ring, Corner}
 use Rattle.cad_rings.specs.Surgery.{put_on, without}
 use Rattle.cad_map.specs.declared.boundary.Boundary.{Boundary}
-use Rattle.cad_map.specs.Boundaries.{bounding, listed}
+use Rattle.cad_map.specs.Boundaries.{bounding, canonical_order}
 use Rattle.cad_map.specs.Map.{Map, point_of, parcel_of, string_of, strings_at, far_end, is_end}
 use Rattle.cad_map.specs.Table.{with_row, without_row}
 use Rattle.cad_map.specs.Chain.{start_of, next_of, end_of, last_but_one, strings_along, chosen_corner}
 use Rattle.cad_map.specs.Division.{boundaries_divided, boundaries_enclosed}
-use Rattle.cad_map.specs.Merger.{Seam, seams, is_shared, boundaries_by}
+use Rattle.cad_map.specs.Merger.{ChainInRings, shared_chains, is_shared, boundaries_by}
 
 -- ---- One row
 
@@ -48,9 +48,9 @@ change_sources (item.Parcel n) change m = change_parcel n (λ r. record r { sour
 
 -- ---- Rings
 
--- these boundaries, listed as a map lists them
+-- these boundaries, in canonical order
 abbrev pub with_boundaries : List Boundary → Map → Map
-with_boundaries bs m = record m { boundaries = listed bs }
+with_boundaries bs m = record m { boundaries = canonical_order bs }
 
 -- each ring as change leaves it
 abbrev pub with_each_ring : (Ring → Ring) → Map → Map
@@ -118,14 +118,14 @@ enclose m face points strings parcel label source =
     with_boundaries (boundaries_enclosed m face (Parcel parcel) points)
     (with_new_parcel (strings_along (source ∷ []) strings (points ++ start_of points ∷ [])) parcel label source m)
 
-abbrev pub merge_at : Map → Face → Face → List Seam → List Boundary
-merge_at m kept ended (seam ∷ _) = boundaries_by m kept ended seam
+abbrev pub merge_at : Map → Face → Face → List ChainInRings → List Boundary
+merge_at m kept ended (shared_chain ∷ _) = boundaries_by m kept ended shared_chain
 merge_at m kept ended [] = m.boundaries
 
 -- the shared strings and the ended parcel go, and its number is retired
 abbrev pub merge : Map → Face → Face → Map
 merge m kept (Parcel n) =
-    with_boundaries (merge_at m kept (Parcel n) (seams m kept (Parcel n)))
+    with_boundaries (merge_at m kept (Parcel n) (shared_chains m kept (Parcel n)))
     (record m {
       parcels = without_row (λ r. r.number) n m.parcels;
       strings = filter (λ s. not (is_shared m kept (Parcel n) s)) m.strings;

@@ -13,7 +13,7 @@ pub record HasPlacedRows (m : Map) : Type 0 where
   pub v3 : IsTrue (has_distinct_positions m)
 
 -- the string leads from one point of the map to another
-pub record IsPlaced (m : Map) (s : StringRow) : Type 0 where
+pub record HasTwoPoints (m : Map) (s : StringRow) : Type 0 where
   pub from_in : IsTrue (has_point m s.from)
   pub to_in : IsTrue (has_point m s.to)
   pub two : s.from ≢ s.to

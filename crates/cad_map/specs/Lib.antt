@@ -17,7 +17,7 @@ pub mod Walk
 pub mod Crossings
 pub mod Rings
 pub mod Outline
-pub mod Trails
+pub mod Steps
 pub mod SharedChains
 pub mod Costs
 pub mod Touched

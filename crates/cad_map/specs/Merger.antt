@@ -5,7 +5,7 @@ use Rattle.std.specs.Str.{bytes_eq as is_same_list}
 use Rattle.cad_rows.specs.declared.rows.StringRow.{StringRow}
 use Rattle.cad_rows.specs.declared.names.Face.{Face}
 use Rattle.cad_rings.specs.Cycle.{Ring, Side, has_side, opposite, turned}
-use Rattle.cad_rings.specs.Shown.{least_rotation}
+use Rattle.cad_rings.specs.Canonical.{least_rotation}
 use Rattle.cad_rings.specs.Surgery.{joined}
 use Rattle.cad_map.specs.declared.boundary.Boundary.{Boundary}
 use Rattle.cad_map.specs.Boundaries.{is_face, bounding}
@@ -21,11 +21,11 @@ abbrev pub is_shared : Map → Face → Face → StringRow → Bool
 is_shared m kept ended s = has_side (side_of s) (shared_sides m kept ended) || has_side (opposite (side_of s)) (shared_sides m kept ended)
 
 -- Where the two have one chain in common, or one has the other as an island.
-pub data Seam : Type 0 where
+pub data ChainInRings : Type 0 where
   -- the kept ring from its place i on begins with the chain c0 .. cm, and the ended ring from its place j on with cm .. c0
-  along : (m : ℕ) (kept : Ring) (i : ℕ) (ended : Ring) (j : ℕ) → Seam
+  along : (m : ℕ) (kept : Ring) (i : ℕ) (ended : Ring) (j : ℕ) → ChainInRings
   -- the kept ring and the ended ring are each other's reverse
-  around : (kept ended : Ring) → Seam
+  around : (kept ended : Ring) → ChainInRings
 
 -- Of so many shared sides: they are the first of the two rings, written from those places on, their points differ, and each ring has another side.
 abbrev pub is_along : ℕ → Ring → Ring → Bool
@@ -41,15 +41,15 @@ abbrev pub places : ℕ → List ℕ → List ℕ
 places i [] = []
 places i (x ∷ xs) = i ∷ places (i + 1) xs
 
--- the seams of two rings, with so many shared sides: for each two places it is looked whether the rings written from them on begin with the chain
-abbrev pub seams_of_rings : ℕ → Ring → Ring → List Seam
-seams_of_rings m kept ended =
+-- the shared chains of two rings, with so many shared sides: for each two places it is looked whether the rings written from them on begin with the chain
+abbrev pub shared_chains_of_rings : ℕ → Ring → Ring → List ChainInRings
+shared_chains_of_rings m kept ended =
     (if is_around m kept ended then around kept ended ∷ [] else [])
     ++ flat_map (λ i. flat_map (λ j. if is_along m (turned i kept) (turned j ended) then along m kept i ended j ∷ [] else []) (places 0 ended)) (places 0 kept)
 
--- The seams of two parcels. In a valid map there is at most one: any two give the same boundaries, as the law `one_seam` says.
-abbrev pub seams : Map → Face → Face → List Seam
-seams m kept ended = flat_map (λ k. flat_map (λ e. seams_of_rings (length (shared_sides m kept ended)) k e) (rings_of m ended)) (rings_of m kept)
+-- The shared chains of two parcels. In a valid map there is at most one: any two give the same boundaries, as the law `one_shared_chain` says.
+abbrev pub shared_chains : Map → Face → Face → List ChainInRings
+shared_chains m kept ended = flat_map (λ k. flat_map (λ e. shared_chains_of_rings (length (shared_sides m kept ended)) k e) (rings_of m ended)) (rings_of m kept)
 
 -- one of the two rings that the merger takes out
 abbrev pub is_taken_out : Face → Face → Ring → Ring → Boundary → Bool
@@ -63,6 +63,6 @@ handed_over kept ended b = if is_face ended b.face then bounding kept b.ring els
 abbrev pub boundaries_merged : Map → Face → Face → Ring → Ring → List Ring → List Boundary
 boundaries_merged m kept ended k e more = map (bounding kept) more ++ map (handed_over kept ended) (filter (λ b. not (is_taken_out kept ended k e b)) m.boundaries)
 
-abbrev pub boundaries_by : Map → Face → Face → Seam → List Boundary
+abbrev pub boundaries_by : Map → Face → Face → ChainInRings → List Boundary
 boundaries_by m kept ended (along n k i e j) = boundaries_merged m kept ended k e (joined i j n k e ∷ [])
 boundaries_by m kept ended (around k e) = boundaries_merged m kept ended k e []

@@ -8,6 +8,6 @@ use Rattle.cad_map.specs.Map.{Map, rings_of, is_positive}
 abbrev pub is_outer : Map → Bool → Ring → Bool
 is_outer m outer ring = if outer then is_positive m ring else not (is_positive m ring)
 
--- the rings of positive doubled area, and then the others, each as the map lists them
+-- the rings of positive doubled area, and then the others, each in canonical order
 abbrev pub outline_of : Map → Face → List Ring
 outline_of m face = filter (is_positive m) (rings_of m face) ++ filter (λ r. not (is_positive m r)) (rings_of m face)

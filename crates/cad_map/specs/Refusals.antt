@@ -19,7 +19,7 @@ use Rattle.cad_map.specs.Valid.{is_same_position}
 use Rattle.cad_rings.specs.Cycle.{Corner, has_side, sides_of}
 use Rattle.cad_map.specs.Boundaries.{is_face}
 use Rattle.cad_map.specs.Chain.{start_of, next_of, end_of, last_but_one, inner_of, are_distinct, chosen_corner, leaving}
-use Rattle.cad_map.specs.Merger.{shared_sides, seams}
+use Rattle.cad_map.specs.Merger.{shared_sides, shared_chains}
 use Rattle.cad_map.specs.Changes.{by_number, joined_sources}
 
 -- the refusal, where the test passes
@@ -140,14 +140,14 @@ bad_chain (Enclose face points strings parcel label source) = when (is_bad_chain
 bad_chain _ = None
 
 -- ---- 10, the chain does not leave its first point, or does not reach its last, inside the face
-abbrev pub missing : Option Corner → ℕ → Option Refusal
-missing None p = Some (told.NotInParcel p)
-missing (Some c) p = None
+abbrev pub corner_missing : Option Corner → ℕ → Option Refusal
+corner_missing None p = Some (told.NotInParcel p)
+corner_missing (Some c) p = None
 
 abbrev pub not_in_parcel : Map → Edit → Option Refusal
 not_in_parcel m (Divide face chain strings parcel label source) =
-    first_of (missing (chosen_corner m face (start_of chain) (next_of chain)) (start_of chain)
-    ∷ missing (chosen_corner m face (end_of chain) (last_but_one chain)) (end_of chain) ∷ [])
+    first_of (corner_missing (chosen_corner m face (start_of chain) (next_of chain)) (start_of chain)
+    ∷ corner_missing (chosen_corner m face (end_of chain) (last_but_one chain)) (end_of chain) ∷ [])
 not_in_parcel m _ = None
 
 -- ---- 11, the two corners lie in different rings
@@ -170,7 +170,7 @@ not_neighbours m (Merge kept ended) = when (length (shared_sides m kept ended) =
 not_neighbours m _ = None
 
 abbrev pub not_one_chain : Map → Edit → Option Refusal
-not_one_chain m (Merge kept ended) = when (length (seams m kept ended) == 0) told.NotOneChain
+not_one_chain m (Merge kept ended) = when (length (shared_chains m kept ended) == 0) told.NotOneChain
 not_one_chain m _ = None
 
 -- ---- 15 and 16, whether the item has the source

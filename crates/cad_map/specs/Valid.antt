@@ -13,7 +13,7 @@ use Rattle.cad_rows.specs.declared.names.Face.TheVariants.{Outside, Parcel}
 use Rattle.cad_rows.specs.declared.refusals.Rule.{Rule}
 use Rattle.cad_rows.specs.declared.refusals.Rule.TheVariants.{V3, V4, V6, V7, V8}
 use Rattle.cad_rings.specs.Cycle.{Ring, Corner, anchor_of}
-use Rattle.cad_map.specs.Boundaries.{listed}
+use Rattle.cad_map.specs.Boundaries.{canonical_order}
 use Rattle.cad_map.specs.Map.{Map, has_point, has_parcel, has_face, position_of, far_end, strings_at, string_sides, rings_of, all_sides, all_corners, left_face, right_face, is_positive, is_negative, is_in_ring}
 use Rattle.cad_map.specs.Table.{row_with}
 
@@ -56,7 +56,7 @@ pub record HasSoundRows (m : Map) : Type 0 where
   pub few_parcels : length m.parcels ≤ row_limit
   pub few_strings : length m.strings ≤ string_limit
   pub few_retired : length m.retired ≤ row_limit
-  pub in_order : listed m.boundaries ≡ m.boundaries
+  pub canonical : canonical_order m.boundaries ≡ m.boundaries
 
 -- ---- V2
 

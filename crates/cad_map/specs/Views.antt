@@ -30,6 +30,6 @@ pub record HasFaces (m : Map) (number : ℕ) (left right : Face) : Type 0 where
 abbrev pub HasNoFaces : Map → ℕ → Type 0
 HasNoFaces m number = (left right : Face) → ¬ HasFaces m number left right
 
--- the faces that the sides of a string are listed with first
+-- the faces that the sides of a string stand with first
 abbrev pub faces_beside : Map → ℕ → Option (Face × Face)
 faces_beside m number = option_and_then (λ s. option_and_then (λ l. option_map (λ r. (l, r)) (right_face m s)) (left_face m s)) (string_of m number)

@@ -1,6 +1,6 @@
 //! Whole maps copied from any view.
 ghost use Rattle.std.specs.Prelude.{◌≡◌, ◌++◌, [], map as map_of, IfOk, OnOk, IsTrue};
-ghost use Rattle.cad_map.specs.Boundaries.{bounding, listed};
+ghost use Rattle.cad_map.specs.Boundaries.{bounding, canonical_order};
 ghost use Rattle.cad_map.specs.Map.{has_face};
 ghost use Rattle.cad_map.specs.Outline.{outline_of};
 ghost use Rattle.cad_map.specs.Valid.{IsValid};
@@ -96,7 +96,7 @@ fn copy_retired<M: MapView>(made: &mut PlainMap, view: &M) -> Result<(), Memory>
 // The rings of all faces, face by face.
 fn all_rings<M: MapView>(alloc: Global, view: &M) -> Result<Vec<Boundary>, Memory>
     requires { IsValid (M.map view.now) }
-    ensures { IfOk result (λ boundaries. listed boundaries.items ≡ (M.map view.now).boundaries) }
+    ensures { IfOk result (λ boundaries. canonical_order boundaries.items ≡ (M.map view.now).boundaries) }
 {
     let mut boundaries = Vec::new(alloc);
     append_outline(&mut boundaries, view, Face::Outside)?;

@@ -37,7 +37,7 @@ impl Model for Corner {
 
 /// The corner of a face at a point whose sector has another point; of several, the one whose following point has the
 /// least number. `None` where no corner at the point has the other in its sector. Takes no memory.
-#[tactic(auto, using(crate::proofs::RingsOfMap::whole_valid))]
+#[tactic(auto, using(crate::proofs::Boundaries::RingsOfMap::whole_valid))]
 pub fn chosen_corner<M: MapView>(
     map: &M,
     face: &Face,

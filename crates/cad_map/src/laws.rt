@@ -9,12 +9,12 @@ ghost use Rattle.cad_rows.specs.declared.refusals.Refusal.{Refusal};
 ghost use Rattle.cad_rows.specs.declared.refusals.Rule.{Rule};
 ghost use Rattle.cad_map.specs.Map.{Map};
 ghost use Rattle.cad_map.specs.declared.boundary.Boundary.{Boundary};
-ghost use Rattle.cad_map.specs.Boundaries.{shown, listed, sides_in, corners_in};
+ghost use Rattle.cad_map.specs.Boundaries.{canonical_form, canonical_order, sides_in, corners_in};
 ghost use Rattle.cad_map.specs.Sums.{IsBalanced, IsSharedOut, IsTakenIn};
 ghost use Rattle.cad_map.specs.Valid.{IsValid, FirstBroken};
 ghost use Rattle.cad_map.specs.Asked.{GivesInRange};
 ghost use Rattle.cad_map.specs.Outcome.{LeadsTo, IsRefused};
-ghost use Rattle.cad_map.specs.Merger.{Seam, seams, boundaries_by};
+ghost use Rattle.cad_map.specs.Merger.{ChainInRings, shared_chains, boundaries_by};
 ghost use Rattle.cad_map.specs.Changes.{merge_at};
 
 /// An edit leads to one map at most, is refused in one way at most, and never both; and a map breaks one rule first
@@ -43,22 +43,22 @@ pub fn parcels_add_up()
     ensures merged { (f : Measure) → IsOdd f → (m new : Map) (kept ended : Face) → IsValid m → LeadsTo m (Merge kept ended) new → IsTakenIn f m kept ended new }
 {}
 
-/// Boundaries have one list, however they are kept: the list is listed as itself, and boundaries in another order are
-/// listed the same.
+/// Boundaries have one list, however they are kept: that list is its own, and boundaries in another order have
+/// the same.
 pub fn one_list()
-    ensures listed_again { (bs : List Boundary) → listed (listed bs) ≡ listed bs }
-    ensures any_order { (bs cs : List Boundary) → IsPermutation (map shown bs) (map shown cs) → listed bs ≡ listed cs }
-    ensures sides { (bs : List Boundary) → IsPermutation (sides_in bs) (sides_in (listed bs)) }
-    ensures corners { (bs : List Boundary) → IsPermutation (corners_in bs) (corners_in (listed bs)) }
+    ensures canonical_again { (bs : List Boundary) → canonical_order (canonical_order bs) ≡ canonical_order bs }
+    ensures any_order { (bs cs : List Boundary) → IsPermutation (map canonical_form bs) (map canonical_form cs) → canonical_order bs ≡ canonical_order cs }
+    ensures sides { (bs : List Boundary) → IsPermutation (sides_in bs) (sides_in (canonical_order bs)) }
+    ensures corners { (bs : List Boundary) → IsPermutation (corners_in bs) (corners_in (canonical_order bs)) }
 {}
 
-/// Two parcels of a valid map have one seam at most: any two give the same boundaries, and by whichever is found they
-/// are those of the merger.
-pub fn one_seam()
-    ensures same { (m : Map) (kept ended : Face) (x y : Seam) → IsValid m → kept ≢ ended
-        → Contains (seams m kept ended) x → Contains (seams m kept ended) y
+/// Two parcels of a valid map have one shared chain at most: any two give the same boundaries, and by whichever is found
+/// they are those of the merger.
+pub fn one_shared_chain()
+    ensures same { (m : Map) (kept ended : Face) (x y : ChainInRings) → IsValid m → kept ≢ ended
+        → Contains (shared_chains m kept ended) x → Contains (shared_chains m kept ended) y
         → boundaries_by m kept ended x ≡ boundaries_by m kept ended y }
-    ensures merged { (m : Map) (kept ended : Face) (x : Seam) → IsValid m → kept ≢ ended
-        → Contains (seams m kept ended) x
-        → merge_at m kept ended (seams m kept ended) ≡ boundaries_by m kept ended x }
+    ensures merged { (m : Map) (kept ended : Face) (x : ChainInRings) → IsValid m → kept ≢ ended
+        → Contains (shared_chains m kept ended) x
+        → merge_at m kept ended (shared_chains m kept ended) ≡ boundaries_by m kept ended x }
 {}

@@ -2,16 +2,16 @@
 #![tactic(auto)]
 
 mod boundary;
+mod canonical;
 mod copying;
 mod corner;
 mod laws;
-mod listing;
 mod look;
 mod outlines;
 mod plain;
 mod retired;
 mod rings;
-mod seam;
+mod shared_chain;
 mod stars;
 mod store;
 mod sums;
@@ -20,12 +20,12 @@ mod walk;
 
 pub use boundary::Boundary;
 pub use corner::{Corner, are_in_one_ring, chosen_corner};
-pub use laws::{faces_balance, one_list, one_outcome, one_seam, parcels_add_up};
+pub use laws::{faces_balance, one_list, one_outcome, one_shared_chain, parcels_add_up};
 pub use look::{far_end, is_end, is_face};
 pub use outlines::outline;
 pub use plain::PlainMap;
 pub use rings::{position, ring_count, ring_sum};
-pub use seam::{SharedChain, find_shared_chain, has_seam, is_shared, shared_count};
+pub use shared_chain::{SharedChain, find_shared_chain, has_shared_chain, is_shared, shared_count};
 pub use stars::{Spoke, Stars};
 pub use store::{Counts, MapStore, MapView};
 pub use sums::sum_of;

@@ -3,11 +3,11 @@ ghost use Rattle.std.specs.Prelude.{◌≡◌, ◌≤◌, option_map, find, leng
 ghost use Rattle.std.specs.Prelude.{slice_get, slice_range, if◌then◌else◌};
 ghost use Rattle.std.specs.Option.{option_copied};
 ghost use Rattle.cad_rings.specs.Cycle.{has_side as has_side_of, sides_of};
-ghost use Rattle.cad_map.specs.Boundaries.{is_face as is_face_of, listed};
+ghost use Rattle.cad_map.specs.Boundaries.{is_face as is_face_of, canonical_order};
 ghost use Rattle.cad_map.specs.Map.{is_end as is_end_of, far_end as far_end_of, point_after as point_after_in, rings_at};
 
 use crate::boundary::Boundary;
-use crate::listing::face_place;
+use crate::canonical::face_place;
 use crate::table::Table;
 use cad_rings::Ring;
 use cad_rows::{Face, PointNo, StringRow};
@@ -81,10 +81,10 @@ pub fn is_face(a: &Face, b: &Face) -> bool
     face_place(a) == face_place(b)
 }
 
-/// The boundaries of a face, among boundaries in the order in which a map lists them: they stand
+/// The boundaries of a face, among boundaries in canonical order: they stand
 /// together there.
 pub(crate) fn run_of<'a>(boundaries: &'a [Boundary], face: &Face) -> &'a [Boundary]
-    requires { listed boundaries.now ≡ boundaries.now }
+    requires { canonical_order boundaries.now ≡ boundaries.now }
     ensures { map (λ b. b.ring) result.now ≡ rings_at face.now boundaries.now }
 {
     let (first, end) = places_of(boundaries, face);
@@ -93,7 +93,7 @@ pub(crate) fn run_of<'a>(boundaries: &'a [Boundary], face: &Face) -> &'a [Bounda
 
 /// The ring at a place among those that have the face to their left.
 pub(crate) fn ring_at(boundaries: &[Boundary], face: Face, place: usize) -> Option<&Ring>
-    requires { listed boundaries.now ≡ boundaries.now }
+    requires { canonical_order boundaries.now ≡ boundaries.now }
     ensures { option_copied result ≡ slice_get (rings_at face boundaries.now) place }
 {
     let boundary = run_of(boundaries, &face).get(place)?;
@@ -102,7 +102,7 @@ pub(crate) fn ring_at(boundaries: &[Boundary], face: Face, place: usize) -> Opti
 
 /// Where the boundaries of a face begin and where they end, by halving.
 fn places_of(boundaries: &[Boundary], face: &Face) -> (usize, usize)
-    requires { listed boundaries.now ≡ boundaries.now }
+    requires { canonical_order boundaries.now ≡ boundaries.now }
     ensures rise { result.0 ≤ result.1 }
     ensures within { result.1 ≤ length boundaries.now }
     ensures rings { map (λ b. b.ring) (slice_range boundaries.now result.0 result.1)

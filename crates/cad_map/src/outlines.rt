@@ -1,13 +1,13 @@
 //! The outlines of a map's faces.
 ghost use Rattle.std.specs.Prelude.{◌≡◌, ◌<◌, ◌++◌, true, length, filter, map as map_of, is_some, IfSome, IfOk, OnOk};
-ghost use Rattle.cad_map.specs.Boundaries.{bounding, listed};
+ghost use Rattle.cad_map.specs.Boundaries.{bounding, canonical_order};
 ghost use Rattle.cad_map.specs.Map.{rings_at, rings_of, has_face as has_face_of};
 ghost use Rattle.cad_map.specs.Outline.{is_outer as is_outer_of, outline_of};
 ghost use Rattle.cad_map.specs.Rings.{HasWholeRings, ring_at as ring_at_of};
 ghost use Rattle.cad_map.specs.Valid.{IsValid};
 
 use crate::boundary::Boundary;
-use crate::listing::in_order;
+use crate::canonical::in_canonical_order;
 use crate::rings::{has_face, ring_count, ring_sum};
 use crate::store::MapView;
 use crate::walk::Walk;
@@ -17,9 +17,9 @@ use geo_exact::DoubledArea;
 use std::alloc::Global;
 
 /// The rings of a face: that of positive doubled area first, which runs around it, and then the others, around its
-/// holes, as a map lists them. Each is written from the point on from which it comes before its other rotations. `None`
+/// holes, in canonical order. Each is written from the point on from which it comes before its other rotations. `None`
 /// for an unknown parcel. An error where memory runs out.
-#[tactic(auto, using(crate::proofs::RingsOfMap::whole_valid))]
+#[tactic(auto, using(crate::proofs::Boundaries::RingsOfMap::whole_valid))]
 pub fn outline<M: MapView>(alloc: Global, map: &M, face: Face) -> Result<Option<Vec<Ring>>, Memory>
     requires { IsValid (M.map map.now) }
     ensures some { IfOk result (λ told. IfSome told (λ rings. rings.items ≡ outline_of (M.map map.now) face)) }
@@ -29,13 +29,13 @@ pub fn outline<M: MapView>(alloc: Global, map: &M, face: Face) -> Result<Option<
         return Ok(None);
     }
     let mut rings = Vec::new(alloc);
-    append_listed(&mut rings, map, &face, true)?;
-    append_listed(&mut rings, map, &face, false)?;
+    append_canonical(&mut rings, map, &face, true)?;
+    append_canonical(&mut rings, map, &face, false)?;
     Ok(Some(rings))
 }
 
-/// Appends those rings of a face that have positive doubled area, or all its others, as a map lists them.
-fn append_listed<M: MapView>(
+/// Appends those rings of a face that have positive doubled area, or all its others, in canonical order.
+fn append_canonical<M: MapView>(
     rings: &mut Vec<Ring>,
     map: &M,
     face: &Face,
@@ -45,7 +45,7 @@ fn append_listed<M: MapView>(
     ensures { OnOk result (rings.new.items ≡ rings.old.items ++ filter (is_outer_of (M.map map.now) outer) (rings_of (M.map map.now) face.now)) }
 {
     let boundaries = collect(*rings.allocator(), map, face, outer)?;
-    for boundary in in_order(boundaries) {
+    for boundary in in_canonical_order(boundaries) {
         rings.push(boundary.ring)?;
     }
     Ok(())
@@ -61,7 +61,7 @@ fn collect<M: MapView>(
     requires { HasWholeRings (M.map map.now) }
     ensures kept { IfOk result (λ boundaries. boundaries.items
         ≡ map_of (bounding face.now) (filter (is_outer_of (M.map map.now) outer) (rings_at face.now (M.rings map.now)))) }
-    ensures listed { listed (M.rings map.now) ≡ (M.map map.now).boundaries }
+    ensures canonical_order { canonical_order (M.rings map.now) ≡ (M.map map.now).boundaries }
 {
     let mut boundaries = Vec::new(alloc);
     for place in 0..ring_count(map, face) {

@@ -1,13 +1,13 @@
-//! A map kept as rows in order of entry, and its rings in the order in which a map lists them.
+//! A map kept as rows in order of entry, and its rings in canonical order.
 ghost use Rattle.std.specs.Prelude.{◌≡◌, ◌≤◌, ◌++◌, ◌∷◌, [], None, length, map, IsSome, IfOk, OnOk, OnErr};
 ghost use Rattle.std.specs.List.{AllByRecursion};
-ghost use Rattle.cad_map.specs.Boundaries.{listed};
+ghost use Rattle.cad_map.specs.Boundaries.{canonical_order};
 ghost use Rattle.cad_map.specs.Map.{empty_map, rings_at, source_of, point_of, parcel_of, string_of};
 ghost use Rattle.cad_map.specs.Table.{without_row, with_row};
 ghost use Rattle.cad_map.specs.Valid.{IsValid};
 
 use crate::boundary::Boundary;
-use crate::listing::in_order;
+use crate::canonical::in_canonical_order;
 use crate::look;
 use crate::retired::Retired;
 use crate::store::{Counts, MapView};
@@ -80,7 +80,7 @@ pub struct PlainMap {
 impl Model for PlainMap {
     ghost use Rattle.std.specs.Prelude.{◌≡◌, ◌≤◌, length};
     ghost use Rattle.std.specs.List.{AllByRecursion};
-    ghost use Rattle.cad_map.specs.Boundaries.{listed};
+    ghost use Rattle.cad_map.specs.Boundaries.{canonical_order};
     ghost use Rattle.cad_map.specs.Map.{Map};
 
     ghost Value = { Map };
@@ -94,7 +94,7 @@ impl Model for PlainMap {
       boundaries = a.boundaries.items;
     } };
 
-    ghost invariant = { λ a. (listed a.boundaries.items ≡ a.boundaries.items) × AllByRecursion (λ b. 2 ≤ length b.ring) a.boundaries.items };
+    ghost invariant = { λ a. (canonical_order a.boundaries.items ≡ a.boundaries.items) × AllByRecursion (λ b. 2 ≤ length b.ring) a.boundaries.items };
 }
 
 impl PlainMap {
@@ -242,9 +242,9 @@ impl PlainMap {
 
     /// Puts these rings in the place of all rings, in whatever order and rotation they are given. Takes no memory.
     pub fn set_boundaries(&mut self, boundaries: Vec<Boundary>)
-        ensures { self.new ≡ record self.old { boundaries = listed boundaries.items } }
+        ensures { self.new ≡ record self.old { boundaries = canonical_order boundaries.items } }
     {
-        self.boundaries = in_order(boundaries);
+        self.boundaries = in_canonical_order(boundaries);
     }
 }
 
@@ -256,11 +256,11 @@ impl MapView for PlainMap {
 
     ghost rings = { λ m. m.boundaries };
 
-    ghost told_face = { λ m s. face_at m s };
+    ghost view_face = { λ m s. face_at m s };
 
-    ghost told_after = { λ m s. point_after s m.boundaries };
+    ghost view_next = { λ m s. point_after s m.boundaries };
 
-    ghost told_faces = { λ m n. faces_beside m n };
+    ghost view_faces = { λ m n. faces_beside m n };
 
     fn counts(&self) -> Counts {
         Counts {

@@ -1,6 +1,6 @@
 //! The rings of a face of any map, each walked along its sides.
 ghost use Rattle.std.specs.Prelude.{◌≡◌, ◌<◌, length, IsTrue};
-ghost use Rattle.cad_map.specs.Boundaries.{listed};
+ghost use Rattle.cad_map.specs.Boundaries.{canonical_order};
 ghost use Rattle.cad_map.specs.Map.{rings_at, position_of, has_point, has_face as has_face_of, sum_of_ring};
 ghost use Rattle.cad_map.specs.Rings.{HasWholeRings, ring_at};
 
@@ -31,7 +31,7 @@ pub(crate) fn has_face<M: MapView>(map: &M, face: &Face) -> bool
 pub fn ring_count<M: MapView>(map: &M, face: &Face) -> usize
     requires { HasWholeRings (M.map map.now) }
     ensures count { result ≡ length (rings_at face.now (M.rings map.now)) }
-    ensures listed { listed (M.rings map.now) ≡ (M.map map.now).boundaries }
+    ensures canonical_order { canonical_order (M.rings map.now) ≡ (M.map map.now).boundaries }
 {
     let mut count = 0;
     while map.ring_side(*face, count).is_some() {

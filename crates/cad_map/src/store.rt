@@ -5,7 +5,7 @@ ghost use Rattle.std.specs.List.{AllByRecursion};
 ghost use Rattle.cad_rows.specs.declared.names.Face.{Face as FaceOf};
 ghost use Rattle.cad_rings.specs.Cycle.{Side};
 ghost use Rattle.cad_map.specs.declared.boundary.Boundary.{Boundary};
-ghost use Rattle.cad_map.specs.Boundaries.{listed};
+ghost use Rattle.cad_map.specs.Boundaries.{canonical_order};
 ghost use Rattle.cad_map.specs.Map.{Map, source_of, point_of, parcel_of, string_of, is_retired as is_retired_in, degree as degree_of, rings_at};
 ghost use Rattle.cad_map.specs.Valid.{IsValid};
 ghost use Rattle.cad_map.specs.Views.{HasSide, IsNoSide, ComesAfter, HasFaces, HasNoFaces};
@@ -39,13 +39,13 @@ pub trait MapView {
     ghost rings: { Self → List Boundary };
 
     /// The face that it tells of a side.
-    ghost told_face: { Self → Side → Option FaceOf };
+    ghost view_face: { Self → Side → Option FaceOf };
 
     /// The point that it tells to come after a side.
-    ghost told_after: { Self → Side → Option ℕ };
+    ghost view_next: { Self → Side → Option ℕ };
 
     /// The faces that it tells to be on the left and on the right of the string with a number.
-    ghost told_faces: { Self → ℕ → Option (FaceOf × FaceOf) };
+    ghost view_faces: { Self → ℕ → Option (FaceOf × FaceOf) };
 
     /// How many rows of each kind it has.
     fn counts(&self) -> Counts
@@ -104,19 +104,19 @@ pub trait MapView {
     /// The faces on the left and on the right of the string with a number, and `None` where there is no such string or
     /// no ring has one of its sides.
     fn left_right(&self, no: StringNo) -> Option<(Face, Face)>
-        ensures same { result ≡ told_faces self.now no }
+        ensures same { result ≡ view_faces self.now no }
         ensures some { IfSome result (λ faces. HasFaces (map self.now) no faces.0 faces.1) }
         ensures none { IfNone result (HasNoFaces (map self.now) no) };
 
     /// The face that has the side from one point to another, and `None` where none has it.
     fn face_of(&self, from: PointNo, to: PointNo) -> Option<Face>
-        ensures same { result ≡ told_face self.now (from, to) }
+        ensures same { result ≡ view_face self.now (from, to) }
         ensures some { IfSome result (λ face. HasSide (map self.now) face (from, to)) }
         ensures none { IfNone result (IsNoSide (map self.now) (from, to)) };
 
     /// The point that comes after the side from one point to another in its ring, and `None` where no ring has it.
     fn after(&self, from: PointNo, to: PointNo) -> Option<PointNo>
-        ensures same { result ≡ told_after self.now (from, to) }
+        ensures same { result ≡ view_next self.now (from, to) }
         ensures some { IfSome result (λ w. ComesAfter (map self.now) (from, to) w) }
         ensures none { IfNone result (IsNoSide (map self.now) (from, to)) };
 
@@ -125,7 +125,7 @@ pub trait MapView {
     fn ring_side(&self, face: Face, place: usize) -> Option<(PointNo, PointNo)>
         ensures side { result ≡ option_and_then first_side (slice_get (rings_at face (rings self.now)) place) }
         // The rings are those of the map, and each is of two points or more.
-        ensures listed { listed (rings self.now) ≡ (map self.now).boundaries }
+        ensures canonical_order { canonical_order (rings self.now) ≡ (map self.now).boundaries }
         ensures two { AllByRecursion (λ b. 2 ≤ length b.ring) (rings self.now) };
 }
 

@@ -13,7 +13,7 @@ use geo_exact::SideMeasure;
 
 /// The measures of all sides of a face, added up, and `None` for an unknown parcel. By `DoubledArea` it is the area of
 /// the face in doubled square millimetres. It is within 8·10²⁵ either way. Takes no memory.
-#[tactic(auto, using(crate::proofs::RingsOfMap::whole_valid))]
+#[tactic(auto, using(crate::proofs::Boundaries::RingsOfMap::whole_valid))]
 pub fn sum_of<M: MapView, F: SideMeasure>(map: &M, face: Face, measure: &F) -> Option<i128>
     requires { IsValid (M.map map.now) }
     ensures some { IfSome result (λ sum. sum ≡ sum_of_face (F.measure measure.now) (M.map map.now) face) }

@@ -24,8 +24,8 @@ fn side_after<M: MapView>(
     from: PointNo,
     to: PointNo,
 ) -> Option<(PointNo, PointNo)>
-    ensures next { result ≡ side_after_of first (from, to) (M.told_after map.now (from, to)) }
-    ensures told { IsTold (M.map map.now) (M.told_after map.now) (from, to) }
+    ensures next { result ≡ side_after_of first (from, to) (M.view_next map.now (from, to)) }
+    ensures told { IsTold (M.map map.now) (M.view_next map.now) (from, to) }
 {
     let after = map.after(from, to)?;
     if first.0.get() == to.get() && first.1.get() == after.get() {
@@ -38,9 +38,9 @@ fn side_after<M: MapView>(
 impl<'a, M: MapView> Walk<'a, M> {
     /// The walk from the side between two points on.
     pub fn from(map: &'a M, from: PointNo, to: PointNo) -> Walk<'a, M>
-        ensures { walking M.map M.told_after result ≡ record {
+        ensures { walking M.map M.view_next result ≡ record {
           map = M.map map.now;
-          follower = M.told_after map.now;
+          follower = M.view_next map.now;
           first = (from, to);
           most = 2 * length (M.map map.now).strings;
           at = Some (from, to);
@@ -58,9 +58,9 @@ impl<'a, M: MapView> Walk<'a, M> {
 impl<M: MapView> Iterator for Walk<'_, M> {
     type Item = (PointNo, PointNo);
 
-    ghost next_gives = { λ s r t. GivesNext (walking M.map M.told_after s) r (walking M.map M.told_after t) };
+    ghost next_gives = { λ s r t. GivesNext (walking M.map M.view_next s) r (walking M.map M.view_next t) };
 
-    ghost remaining = { item_count (λ s. sides_ahead (walking M.map M.told_after s)) };
+    ghost remaining = { item_count (λ s. sides_ahead (walking M.map M.view_next s)) };
 
     fn next(&mut self) -> Option<(PointNo, PointNo)> {
         if self.most == 0 {

@@ -5,7 +5,7 @@ use Rattle.std.proofs.lemmas.Bool.{cases_lt}
 use Rattle.std.specs.Prelude.{fold, Contains}
 use Rattle.std.specs.List.{AllByRecursion}
 use Rattle.cad_rings.specs.Cycle.{Ring, IsSameRing, anchor_of}
-use Rattle.cad_rings.specs.Shown.{least_rotation}
+use Rattle.cad_rings.specs.Canonical.{least_rotation}
 use Rattle.cad_rings.specs.Surgery.{reversed}
 use Rattle.cad_rings.proofs.OneForm.{IsSameRing-least_rotation}
 

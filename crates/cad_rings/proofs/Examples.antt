@@ -5,7 +5,7 @@ use Rattle.geo_exact.specs.Position.{Position}
 use Rattle.geo_exact.specs.Measure.{doubled_area}
 use Rattle.cad_rings.specs.Cycle.{Ring, sides_of, has_side, times_along, times_through, corners_of, anchor_of, ring_sum}
 use Rattle.cad_rings.specs.Positions.{position_in}
-use Rattle.cad_rings.specs.Shown.{comes_first, rotations, least_rotation}
+use Rattle.cad_rings.specs.Canonical.{comes_first, rotations, least_rotation}
 use Rattle.cad_rings.specs.Surgery.{reversed, sides_of_chain, both_ways, stretch, chain_across, AreSamePlaces, left_ring, right_ring, chain_from, HaveChainInCommon, joined, put_on, without}
 
 -- the square 1 2 3 4 with sides of a metre, with a point 5 on its diagonal's other side
@@ -49,10 +49,10 @@ has_no_opposite = refl
 of_two : sides_of (1 ∷ 2 ∷ []) ≡ (1, 2) ∷ (2, 1) ∷ []
 of_two = refl
 
--- ---- How rings are shown
+-- ---- The canonical form of rings
 
-shown : least_rotation (3 ∷ 1 ∷ 2 ∷ []) ≡ 1 ∷ 2 ∷ 3 ∷ []
-shown = refl
+canonical_form : least_rotation (3 ∷ 1 ∷ 2 ∷ []) ≡ 1 ∷ 2 ∷ 3 ∷ []
+canonical_form = refl
 
 -- the ring of an island in the parcel round it
 island : least_rotation (8 ∷ 7 ∷ 6 ∷ []) ≡ 6 ∷ 8 ∷ 7 ∷ []

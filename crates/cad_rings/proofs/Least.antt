@@ -3,7 +3,7 @@ use Rattle.std.proofs.Common.{◌≡◌, ℕ, refl, sym, ◌∙◌, ap, List, []
 use Rattle.std.proofs.lemmas.List.{append-nil}
 use Rattle.std.specs.Prelude.{if◌then◌else◌}
 use Rattle.cad_rings.specs.Cycle.{Ring}
-use Rattle.cad_rings.specs.Shown.{comes_first, rotations_from, rotations, least, least_rotation}
+use Rattle.cad_rings.specs.Canonical.{comes_first, rotations_from, rotations, least, least_rotation}
 use Rattle.cad_rings.proofs.Order.{comes_first-total, comes_first-antisym, comes_first-trans}
 
 -- the one of two that comes first

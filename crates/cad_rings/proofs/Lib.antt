@@ -17,6 +17,6 @@ pub mod Without
 pub mod PointCorners
 pub mod Placed
 pub mod CallerLemmas
-mod ShownSteps
+mod CanonicalSteps
 pub mod InMemory
 mod Examples

@@ -4,7 +4,7 @@ use Rattle.std.proofs.lemmas.List.{append-nil, take-append-drop}
 use Rattle.std.specs.Prelude.{if◌then◌else◌}
 use Rattle.std.specs.List.{AllByRecursion}
 use Rattle.cad_rings.specs.Cycle.{Ring, turned, IsSameRing}
-use Rattle.cad_rings.specs.Shown.{comes_first, rotations_from, rotations, least, least_rotation}
+use Rattle.cad_rings.specs.Canonical.{comes_first, rotations_from, rotations, least, least_rotation}
 use Rattle.cad_rings.proofs.Order.{comes_first-refl, comes_first-total, comes_first-trans}
 use Rattle.cad_rings.proofs.Least.{least_rotation-moved}
 use Rattle.cad_rings.proofs.Turned.{IsSameRing-append, IsSameRing-refl, IsSameRing-sym, IsSameRing-trans, IsSameRing-turned}

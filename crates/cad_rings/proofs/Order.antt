@@ -2,7 +2,7 @@
 use Rattle.std.proofs.Common.{◌≡◌, ℕ, ◌<◌, refl, sym, ◌∙◌, List, [], ◌∷◌, Bool, true, false, ◌⊎◌, inl, inr, arith}
 use Rattle.std.specs.Prelude.{nat_lt, ◌==◌, ◌||◌, ◌&&◌}
 use Rattle.std.proofs.lemmas.Bool.Decides.{nat_tests}
-use Rattle.cad_rings.specs.Shown.{comes_first}
+use Rattle.cad_rings.specs.Canonical.{comes_first}
 
 first_step : (x y : ℕ) (r : Bool) → (nat_lt x y || (x == y && r)) ≡ true → (x < y) ⊎ ((x ≡ y) × (r ≡ true))
 first_step x y r h = grind (arith, nat_tests)

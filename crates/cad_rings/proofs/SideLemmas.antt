@@ -7,7 +7,7 @@ use Rattle.std.specs.Prelude.{IsPermutation}
 use Rattle.geo_exact.specs.Position.{Position}
 use Rattle.geo_exact.specs.Measure.{Measure, IsOdd}
 use Rattle.cad_rings.specs.Cycle.{Ring, Side, opposite, sides_along, sides_of, turned, IsSameRing, ring_sum}
-use Rattle.cad_rings.specs.Shown.{least_rotation}
+use Rattle.cad_rings.specs.Canonical.{least_rotation}
 use Rattle.cad_rings.specs.Surgery.{reversed, sides_of_chain}
 use Rattle.cad_rings.proofs.Permuted.{permuted_as, sum-permuted, sum-opposite}
 use Rattle.cad_rings.proofs.Turned.{round_at, round_past, round_permuted, IsSameRing-append}

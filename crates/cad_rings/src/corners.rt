@@ -2,7 +2,7 @@
 ghost use Rattle.std.specs.Prelude.{◌≡◌, ◌≤◌, length, position};
 ghost use Rattle.cad_rings.specs.Cycle.{sides_of, is_side as is_side_of, has_side as has_side_of, after_side as after_side_of};
 
-use crate::shown::turned_at;
+use crate::canonical::turned_at;
 use crate::sides::side_at;
 use cad_rows::PointNo;
 

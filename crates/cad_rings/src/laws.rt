@@ -5,7 +5,7 @@ ghost use Rattle.std.specs.List.{AllByRecursion};
 ghost use Rattle.geo_exact.specs.Position.{Position};
 ghost use Rattle.geo_exact.specs.Measure.{Measure, IsOdd};
 ghost use Rattle.cad_rings.specs.Cycle.{Ring, Side, opposite, sides_of, times_along, times_through, Corner, corner_back, corners_of, turned, corner_at, IsSameRing, anchor_of, ring_sum};
-ghost use Rattle.cad_rings.specs.Shown.{comes_first, least_rotation};
+ghost use Rattle.cad_rings.specs.Canonical.{comes_first, least_rotation};
 ghost use Rattle.cad_rings.specs.Surgery.{reversed, sides_of_chain, both_ways, corners_of_chain, corners_both_ways, parted_by, chain_across, AreTwoPlaces, AreSamePlaces, left_ring, right_ring, chain_from, HaveChainInCommon, joined, put_on, halves_by, without, StandsBetween};
 
 /// To be the same ring is an equivalence, and each turn of a ring is the same ring.
@@ -24,14 +24,14 @@ pub fn one_order()
     ensures total { (xs ys : List ℕ) → comes_first xs ys ≡ false → comes_first ys xs ≡ true }
 {}
 
-/// A ring is shown in one form: the rotation that comes before all others. Two lists are the same ring exactly where it
+/// A ring has one canonical form: the rotation that comes before all others. Two lists are the same ring exactly where it
 /// is the same.
 pub fn one_form()
     ensures is_a_rotation { (ring : Ring) → IsSameRing ring (least_rotation ring) }
     ensures before_all { (ring : Ring) (place : ℕ) → comes_first (least_rotation ring) (turned place ring) ≡ true }
     ensures same { (r s : Ring) → IsSameRing r s → least_rotation r ≡ least_rotation s }
     ensures told_apart { (r s : Ring) → least_rotation r ≡ least_rotation s → IsSameRing r s }
-    ensures shown_again { (ring : Ring) → least_rotation (least_rotation ring) ≡ least_rotation ring }
+    ensures canonical_again { (ring : Ring) → least_rotation (least_rotation ring) ≡ least_rotation ring }
 {}
 
 /// A ring written from another place on has its sides and corners from that place on.

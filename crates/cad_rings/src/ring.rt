@@ -1,14 +1,14 @@
 //! Rings in memory.
 ghost use Rattle.std.specs.Prelude.{◌≡◌, ◌≤◌, ◌<◌, length, position, slice_index, IfOk};
 ghost use Rattle.cad_rings.specs.Cycle.{sides_of, is_side, has_side as has_side_of, after_side as after_side_of, anchor_of, turned};
-ghost use Rattle.cad_rings.specs.Shown.{least_rotation};
+ghost use Rattle.cad_rings.specs.Canonical.{least_rotation};
 ghost use Rattle.cad_rings.specs.SidesLeft.{sides_left};
 
 mod sum;
 mod surgery;
 
+use crate::canonical::{least_place, turned_at};
 use crate::corners::{after_side, has_side, place_of};
-use crate::shown::{least_place, turned_at};
 use crate::sides::Sides;
 use cad_rows::{Memory, PointNo};
 use std::alloc::Global;
@@ -76,8 +76,8 @@ impl Ring {
 
     /// Writes the ring from the point on from which it comes before all its other rotations, by point numbers. Takes no
     /// memory.
-    pub fn show(&mut self)
-        ensures shown { self.new ≡ least_rotation self.old }
+    pub fn make_canonical(&mut self)
+        ensures canonical_form { self.new ≡ least_rotation self.old }
         ensures at_least_two { 2 ≤ length self.new }
     {
         let place = least_place(self.points.as_slice());

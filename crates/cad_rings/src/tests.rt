@@ -135,11 +135,11 @@ fn cuts_and_joins(rt: HostRuntime) -> Result<(), Fail> {
 }
 
 #[test]
-fn is_shown_from_its_least_rotation(rt: HostRuntime) -> Result<(), Fail> {
+fn is_made_canonical_by_its_least_rotation(rt: HostRuntime) -> Result<(), Fail> {
     let mut ring = Ring::from_points(rt.alloc(), &[point(3)?, point(1)?, point(2)?])?;
-    ring.show();
+    ring.make_canonical();
     assert!(rt; is_written(&ring, &[1, 2, 3]));
-    // Point 1 is passed twice: the rotation that goes on to the lesser point is shown.
+    // Point 1 is passed twice: the rotation that goes on to the lesser point is canonical.
     let mut twice = Ring::from_points(
         rt.alloc(),
         &[
@@ -151,7 +151,7 @@ fn is_shown_from_its_least_rotation(rt: HostRuntime) -> Result<(), Fail> {
             point(3)?,
         ],
     )?;
-    twice.show();
+    twice.make_canonical();
     assert!(rt; is_written(&twice, &[1, 2, 3, 1, 5, 4]));
     assert!(rt; comes_first(ring.points(), twice.points()));
     assert!(rt; !comes_first(twice.points(), ring.points()));

@@ -8,7 +8,7 @@ use Rattle.geo_exact.specs.SignTest.{overlaps}
 use Rattle.geo_exact.proofs.CallerLemmas.{boxes_overlap-HaveCommonLocation, overlaps-shared}
 use Rattle.sweep.specs.Extents.{Overlap}
 use Rattle.cad_valid.specs.declared.placed.Placed.{Placed}
-use Rattle.cad_valid.specs.Boxes.{counted, box_of}
+use Rattle.cad_valid.specs.Boxes.{from_least, box_of}
 
 -- both ends are on the map
 pub record IsOnMap (f : Placed) : Type 0 where
@@ -17,7 +17,7 @@ pub record IsOnMap (f : Placed) : Type 0 where
 
 -- two stretches that overlap do so as counted
 counted_overlap : (a b c d : ℤ) → InRange a → InRange b → InRange c → InRange d → overlaps a b c d ≡ true
-    → (min (counted a) (counted b) ≤ max (counted c) (counted d)) × (min (counted c) (counted d) ≤ max (counted a) (counted b))
+    → (min (from_least a) (from_least b) ≤ max (from_least c) (from_least d)) × (min (from_least c) (from_least d) ≤ max (from_least a) (from_least b))
 counted_overlap a b c d in_a in_b in_c in_d met =
     let shared = overlaps-shared a b c d met in
     let m = shared.0 in

@@ -9,12 +9,9 @@ use Rattle.cad_map.specs.Map.{Map, side_of, is_end, all_sides, all_corners, stri
 use Rattle.cad_valid.specs.Corners.{corner_after}
 use Rattle.cad_map.specs.Valid.{is_empty_corner, has_empty_corners}
 use Rattle.cad_map.specs.Views.{IsNoSide}
-use Rattle.cad_map.proofs.ListedRings.{list_all-filter}
-use Rattle.cad_map.proofs.Elements.{list_all-same, list_all-IsPermutation, find-none}
-use Rattle.cad_map.proofs.Walks.{side_before, sides_in-before, corner-found}
+use Rattle.cad_map.proofs.CallerLemmas.{list_all-filter, list_all-same, list_all-IsPermutation, find-none, side_before, sides_in-before, corner-found, two-each, distinct-whole}
 use Rattle.cad_map.specs.Rings.{HasWholeRings}
 use Rattle.cad_valid.specs.Corners.{is_clear_of, is_empty_after, are_empty_beside}
-use Rattle.cad_map.proofs.FirstCorners.{two-each, distinct-whole}
 
 -- ---- Corners of a map
 

@@ -1,4 +1,4 @@
--- The rules of a face's rings answer the same of the rings as they are kept and as the map lists them.
+-- The rules of a face's rings answer the same of the rings as they are kept and in canonical order.
 use Rattle.std.proofs.Common.{◌≡◌, ℕ, ◌%◌, refl, sym, ap, subst, ◌∙◌, List, filter, Bool, true, false, not, cond, nat_eq, ℤ, pos}
 use Rattle.std.proofs.lemmas.List.Sorted.{IsPermutation-map, sum_by-IsPermutation}
 use Rattle.std.specs.Prelude.{◌&&◌, ◌||◌, count_by, int_lt}
@@ -10,11 +10,10 @@ use Rattle.cad_rows.specs.declared.names.Face.{Face}
 use Rattle.cad_rings.specs.Cycle.{Ring, Side, sides_of, placed, anchor_of}
 use Rattle.cad_rings.proofs.CallerLemmas.{sides_of-same, ring_sum-same_ring, anchor_of-same}
 use Rattle.cad_map.specs.declared.boundary.Boundary.{Boundary}
-use Rattle.cad_map.specs.Boundaries.{listed}
+use Rattle.cad_map.specs.Boundaries.{canonical_order}
 use Rattle.cad_map.specs.Map.{Map, position_of, rings_at, rings_of, is_positive, is_negative, is_in_ring}
 use Rattle.cad_map.specs.Valid.{each_pair, has_outlines, are_holes_inside, are_holes_apart}
-use Rattle.cad_map.proofs.Elements.{list_all-same}
-use Rattle.cad_map.proofs.ListedRings.{IsOfRing, IsOfTwoRings, TestAlike, rings_at-listed, list_all-filter, list_all-none, each_pair-filter}
+use Rattle.cad_map.proofs.CallerLemmas.{list_all-same, IsOfRing, IsOfTwoRings, TestAlike, rings_at-canonical_order, list_all-filter, list_all-none, each_pair-filter}
 use Rattle.cad_valid.specs.Outlines.{is_either}
 use Rattle.cad_valid.specs.Holes.{has_inside_if_outline, is_inside_if_hole, are_apart, is_apart_if_hole, is_apart_from_holes, are_apart_if_holes}
 
@@ -86,24 +85,24 @@ module _ (m : Map) where
   pub outlines-counted : (n k : ℕ) (rings : List Ring) → count_by (is_positive m) rings ≡ k → list_all (is_either m) rings ≡ true → has_outlines n m rings ≡ nat_eq k n
   outlines-counted n k rings count all = (λ i. nat_eq (count i) n && all i) ∙ and_exchanged (nat_eq k n) true
 
-  -- ---- As the rings are kept, and as the map lists them
+  -- ---- As the rings are kept, and in canonical order
 
-  module _ (f : Face) (bs : List Boundary) (is : listed bs ≡ m.boundaries) where
+  module _ (f : Face) (bs : List Boundary) (is : canonical_order bs ≡ m.boundaries) where
     alike : TestAlike (rings_at f bs) (rings_of m f)
-    alike = subst (λ (l : List Boundary). TestAlike (rings_at f bs) (rings_at f l)) is (rings_at-listed f bs)
+    alike = subst (λ (l : List Boundary). TestAlike (rings_at f bs) (rings_at f l)) is (rings_at-canonical_order f bs)
 
-    pub outlines-listed : (n : ℕ) → has_outlines n m (rings_at f bs) ≡ has_outlines n m (rings_of m f)
-    outlines-listed n =
+    pub outlines-canonical_order : (n : ℕ) → has_outlines n m (rings_at f bs) ≡ has_outlines n m (rings_of m f)
+    outlines-canonical_order n =
         λ i. nat_eq (alike.count (is_positive m) positive-of_ring i) n && alike.all (λ r. is_positive m r || is_negative m r) (λ r s same. λ j. positive-of_ring r s same j || negative-of_ring r s same j) i
 
-    pub inside-listed : are_holes_inside m (rings_at f bs) ≡ are_holes_inside m (rings_of m f)
-    inside-listed =
+    pub inside-canonical_order : are_holes_inside m (rings_at f bs) ≡ are_holes_inside m (rings_of m f)
+    inside-canonical_order =
         let kept = rings_at f bs in
-        let shown = rings_of m f in
+        let canonical_form = rings_of m f in
         inside-by_rings kept
-        ∙ list_all-same (is_inside_if_hole m kept) (is_inside_if_hole m shown) kept
-        (λ hole _. ap (λ (b : Bool). not (is_negative m hole) || b) (outlines-by_rings (anchor_of hole) kept ∙ alike.all (has_inside_if_outline m (anchor_of hole)) (outline-of_ring (anchor_of hole)) ∙ sym (outlines-by_rings (anchor_of hole) shown)))
-        ∙ alike.all (is_inside_if_hole m shown) (hole-of_ring shown) ∙ sym (inside-by_rings shown)
+        ∙ list_all-same (is_inside_if_hole m kept) (is_inside_if_hole m canonical_form) kept
+        (λ hole _. ap (λ (b : Bool). not (is_negative m hole) || b) (outlines-by_rings (anchor_of hole) kept ∙ alike.all (has_inside_if_outline m (anchor_of hole)) (outline-of_ring (anchor_of hole)) ∙ sym (outlines-by_rings (anchor_of hole) canonical_form)))
+        ∙ alike.all (is_inside_if_hole m canonical_form) (hole-of_ring canonical_form) ∙ sym (inside-by_rings canonical_form)
 
-    pub apart-listed : are_holes_apart m (rings_at f bs) ≡ are_holes_apart m (rings_of m f)
-    apart-listed = apart-by_rings (rings_at f bs) ∙ alike.pairs (are_apart_if_holes m) apart-of_rings ∙ sym (apart-by_rings (rings_of m f))
+    pub apart-canonical_order : are_holes_apart m (rings_at f bs) ≡ are_holes_apart m (rings_of m f)
+    apart-canonical_order = apart-by_rings (rings_at f bs) ∙ alike.pairs (are_apart_if_holes m) apart-of_rings ∙ sym (apart-by_rings (rings_of m f))

@@ -8,7 +8,7 @@ use Rattle.geo_exact.specs.Measure.{doubled_area}
 use Rattle.cad_rings.specs.Cycle.{Ring}
 use Rattle.cad_map.specs.Map.{Map, sum_of_ring}
 use Rattle.cad_map.specs.Valid.{has_outlines}
-use Rattle.cad_map.proofs.Elements.{count-map}
+use Rattle.cad_map.proofs.CallerLemmas.{count-map}
 use Rattle.cad_valid.specs.declared.outlines.OutlineCount.{OutlineCount}
 use Rattle.cad_valid.specs.Outlines.{outlines_among}
 

@@ -9,9 +9,8 @@ use Rattle.cad_rows.specs.declared.rows.PointRow.{PointRow}
 use Rattle.cad_rows.specs.declared.rows.StringRow.{StringRow}
 use Rattle.cad_map.specs.Map.{Map, position_of, is_end, far_end}
 use Rattle.cad_map.specs.Valid.{MeetAtEnds, LiesOnlyAsEnd}
-use Rattle.cad_map.specs.Crossings.{HasPlacedRows, IsPlaced, IsEndOfBoth, HaveOnlyStart}
-use Rattle.cad_map.proofs.SharedEnds.{only_start-is}
-use Rattle.cad_map.proofs.Meetings.{ends, is_end-from, is_end-of, far_end-away, meet-at_end, meet-no_end}
+use Rattle.cad_map.specs.Crossings.{HasPlacedRows, HasTwoPoints, IsEndOfBoth, HaveOnlyStart}
+use Rattle.cad_map.proofs.CallerLemmas.{only_start-is, ends, is_end-from, is_end-of, far_end-away, meet-at_end, meet-no_end}
 use Rattle.cad_valid.specs.declared.placed.Placed.{Placed}
 use Rattle.cad_valid.specs.Placed.{placed_string, placed_point, near_position, far_position, have_common, meets_only_at, meets_at_ends, is_only_end}
 use Rattle.cad_valid.proofs.Decisions.{not-iff, iff-trans}
@@ -64,7 +63,7 @@ module _ (m : Map) (s : StringRow) (p : ℕ) where
       by true = refl
       by false = refl
 
-module _ (m : Map) (rows : HasPlacedRows m) (s t : StringRow) (s_placed : IsPlaced m s) (t_placed : IsPlaced m t) where
+module _ (m : Map) (rows : HasPlacedRows m) (s t : StringRow) (s_placed : HasTwoPoints m s) (t_placed : HasTwoPoints m t) where
   at_shared : (p : ℕ) → IsEndOfBoth s t p → IsTrue (meets_only_at (placed_string m s) (placed_string m t) p) ↔ MeetAtEnds m s t
   at_shared p both =
       let s_away = far_end-away m rows s s_placed p both.of_first in

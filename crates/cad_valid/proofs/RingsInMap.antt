@@ -11,15 +11,13 @@ use Rattle.cad_map.specs.declared.boundary.Boundary.{Boundary}
 use Rattle.cad_map.specs.Boundaries.{is_face}
 use Rattle.cad_map.specs.Map.{Map, has_point, rings_of}
 use Rattle.cad_map.specs.Rings.{HasWholeRings}
-use Rattle.cad_map.proofs.Lists.{All-Contains, All-follows, All-filter, All-map}
-use Rattle.cad_map.proofs.Elements.{All-from_each}
-use Rattle.cad_map.proofs.RingsOfMap.{ring-sides-few}
+use Rattle.cad_map.proofs.CallerLemmas.{All-Contains, All-follows, All-filter, All-map, All-from_each, ring-sides-few}
 use Rattle.cad_valid.specs.Rings.{IsRingOf}
 
 module _ (m : Map) (whole : HasWholeRings m) where
   ring-of_map : (b : Boundary) → Contains m.boundaries b → IsRingOf m b.ring
   ring-of_map b there =
-      let sides = ring-sides-few m m.boundaries whole whole.v1.in_order (All-follows (λ c. 3 ≤ length c.ring) (λ c. 2 ≤ length c.ring) (λ c k. omega arith) m.boundaries whole.v5.three) b there in
+      let sides = ring-sides-few m m.boundaries whole whole.v1.canonical (All-follows (λ c. 3 ≤ length c.ring) (λ c. 2 ≤ length c.ring) (λ c k. omega arith) m.boundaries whole.v5.three) b there in
       let most = whole.v1.few_strings in
       let long = length-sides_of b.ring in
       record {

@@ -14,12 +14,12 @@ use Rattle.geo_exact.specs.Measure.{doubled_area}
 use Rattle.cad_rings.specs.Cycle.{Ring, anchor_of}
 use Rattle.cad_map.specs.Map.{Map, position_of, sum_of_ring, is_positive, is_negative}
 use Rattle.cad_map.specs.Valid.{each_pair, are_holes_inside, are_holes_apart, has_sound_holes}
-use Rattle.cad_map.proofs.Elements.{list_all-same}
+use Rattle.cad_map.proofs.CallerLemmas.{list_all-same}
 use Rattle.std.proofs.lemmas.List.Folds.{list_all-map}
 use Rattle.sweep.specs.declared.extent.Extent.{Extent}
 use Rattle.sweep.specs.Extents.{Overlap, AllThatOverlapPass, SomePairFails}
 use Rattle.cad_valid.specs.Extents.{IsWithin}
-use Rattle.cad_valid.specs.Shapes.{Shape, shape_of, AreShapes, are_apart, are_apart_at, Encloses, AreEnclosed}
+use Rattle.cad_valid.specs.Shapes.{Shape, shape_of, AreShapes, are_shapes_apart, are_apart_at, Encloses, AreEnclosed}
 use Rattle.cad_valid.proofs.InsideBox.{inside-within}
 
 -- ---- Each pair of a list
@@ -118,7 +118,7 @@ with_one e f q w v =
     record { a_left = omega (arith, ints); b_left = omega (arith, ints); a_bottom = omega (arith, ints); b_bottom = omega (arith, ints) }
 
 -- rings of which one has the other's anchor inside have boxes that overlap
-not_apart-overlap : (e f : Extent) (a b : Shape) → Encloses e a → Encloses f b → IsBounded a → IsBounded b → are_apart a b ≡ false → Overlap e f
+not_apart-overlap : (e f : Extent) (a b : Shape) → Encloses e a → Encloses f b → IsBounded a → IsBounded b → are_shapes_apart a b ≡ false → Overlap e f
 not_apart-overlap e f a b in_e in_f ba bb fails = by (is_inside a.sides b.anchor) (is_inside b.sides a.anchor) refl refl fails
   where
     by : (s t : Bool) → is_inside a.sides b.anchor ≡ s → is_inside b.sides a.anchor ≡ t → (not s && not t) ≡ false → Overlap e f
@@ -126,7 +126,7 @@ not_apart-overlap e f a b in_e in_f ba bb fails = by (is_inside a.sides b.anchor
     by false true hs ht h = with_one e f a.anchor in_e.anchor (bb f a.anchor in_f ht)
     by false false hs ht h = absurd (true≢false h)
 
-apart-either_way : (a b : Shape) → are_apart a b ≡ are_apart b a
+apart-either_way : (a b : Shape) → are_shapes_apart a b ≡ are_shapes_apart b a
 apart-either_way a b = exchanged (not (is_inside a.sides b.anchor)) (not (is_inside b.sides a.anchor))
   where
     exchanged : (s t : Bool) → (s && t) ≡ (t && s)
@@ -135,14 +135,14 @@ apart-either_way a b = exchanged (not (is_inside a.sides b.anchor)) (not (is_ins
     exchanged false true = refl
     exchanged false false = refl
 
-apart_at-is : (shapes : List Shape) (i j : ℕ) (d : Shape) → i < length shapes → j < length shapes → are_apart_at shapes i j ≡ are_apart (get_or shapes i d) (get_or shapes j d)
+apart_at-is : (shapes : List Shape) (i j : ℕ) (d : Shape) → i < length shapes → j < length shapes → are_apart_at shapes i j ≡ are_shapes_apart (get_or shapes i d) (get_or shapes j d)
 apart_at-is shapes i j d in_i in_j = rw (slice_get-get_or shapes i d in_i, slice_get-get_or shapes j d in_j) refl
 
 module _ (shapes : List Shape) (extents : List Extent) (are : AreShapes shapes) (boxes : AreEnclosed extents shapes) where
-  all-apart : AllThatOverlapPass (are_apart_at shapes) extents → each_pair are_apart shapes ≡ true
-  all-apart pass = pairs-true are_apart shapes (λ i j d lt within. one i j d lt within (are_apart (get_or shapes i d) (get_or shapes j d)) refl)
+  all-apart : AllThatOverlapPass (are_apart_at shapes) extents → each_pair are_shapes_apart shapes ≡ true
+  all-apart pass = pairs-true are_shapes_apart shapes (λ i j d lt within. one i j d lt within (are_shapes_apart (get_or shapes i d) (get_or shapes j d)) refl)
     where
-      one : (i j : ℕ) (d : Shape) → i < j → j < length shapes → (b : Bool) → are_apart (get_or shapes i d) (get_or shapes j d) ≡ b → are_apart (get_or shapes i d) (get_or shapes j d) ≡ true
+      one : (i j : ℕ) (d : Shape) → i < j → j < length shapes → (b : Bool) → are_shapes_apart (get_or shapes i d) (get_or shapes j d) ≡ b → are_shapes_apart (get_or shapes i d) (get_or shapes j d) ≡ true
       one i j d lt within true is = is
       one i j d lt within false is =
           let none : Extent = record { left = 0; right = 0; bottom = 0; top = 0 } in
@@ -155,17 +155,17 @@ module _ (shapes : List Shape) (extents : List Extent) (are : AreShapes shapes) 
             | inr passed ↦ apart-either_way (get_or shapes i d) (get_or shapes j d) ∙ sym (apart_at-is shapes j i d within in_i) ∙ passed
           ]
 
-  some-not_apart : SomePairFails (are_apart_at shapes) (length extents) → each_pair are_apart shapes ≡ false
+  some-not_apart : SomePairFails (are_apart_at shapes) (length extents) → each_pair are_shapes_apart shapes ≡ false
   some-not_apart fails =
       let many = enclosed-many extents shapes boxes in
       let none : Shape = record { sides = []; anchor = record { x = pos 0; y = pos 0 } } in
       let low = fails.4 in let high = fails.5 in
       let in_i : fails.0 < length shapes = omega arith in
       let in_j : fails.1 < length shapes = omega arith in
-      pairs-false are_apart apart-either_way shapes fails.0 fails.1 none fails.2 in_i in_j (sym (apart_at-is shapes fails.0 fails.1 none in_i in_j) ∙ fails.3)
+      pairs-false are_shapes_apart apart-either_way shapes fails.0 fails.1 none fails.2 in_i in_j (sym (apart_at-is shapes fails.0 fails.1 none in_i in_j) ∙ fails.3)
 
   -- so what the boxes that overlap answer is the answer
-  pub apart-answered : (b : Bool) → OnTrue b (AllThatOverlapPass (are_apart_at shapes) extents) → OnFalse b (SomePairFails (are_apart_at shapes) (length extents)) → b ≡ each_pair are_apart shapes
+  pub apart-answered : (b : Bool) → OnTrue b (AllThatOverlapPass (are_apart_at shapes) extents) → OnFalse b (SomePairFails (are_apart_at shapes) (length extents)) → b ≡ each_pair are_shapes_apart shapes
   apart-answered true passed failed = sym (all-apart (OnTrue_at refl passed))
   apart-answered false passed failed = sym (some-not_apart (OnFalse_at refl failed))
 
@@ -234,5 +234,5 @@ module _ (m : Map) (rings : List Ring) where
       ∙ list_all-same _ _ (filter (is_negative m) rings)
       (λ hole _. list_all-map (λ (outline : Shape). is_inside outline.sides (position_of m (anchor_of hole))) (shape_of (position_of m)) (filter (is_positive m) rings))
 
-  pub apart-by_shapes : (holes : List Shape) → holes ≡ shapes_where (is_negative m) → each_pair are_apart holes ≡ are_holes_apart m rings
-  apart-by_shapes holes are_holes = ap (each_pair are_apart) are_holes ∙ pairs-map (shape_of (position_of m)) are_apart (filter (is_negative m) rings)
+  pub apart-by_shapes : (holes : List Shape) → holes ≡ shapes_where (is_negative m) → each_pair are_shapes_apart holes ≡ are_holes_apart m rings
+  apart-by_shapes holes are_holes = ap (each_pair are_shapes_apart) are_holes ∙ pairs-map (shape_of (position_of m)) are_shapes_apart (filter (is_negative m) rings)

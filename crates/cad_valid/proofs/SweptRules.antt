@@ -15,9 +15,7 @@ use Rattle.cad_rows.specs.declared.rows.StringRow.{StringRow}
 use Rattle.cad_map.specs.Map.{Map}
 use Rattle.cad_map.specs.Valid.{is_same_position, each_pair, HaveCommon, MeetAtEnds, LiesOnlyAsEnd, HasNoCrossing}
 use Rattle.cad_map.specs.Crossings.{HasPlacedRows}
-use Rattle.cad_map.proofs.ElementFacts.{EachPair-from_test}
-use Rattle.cad_map.proofs.Meetings.{placed-at}
-use Rattle.cad_map.proofs.Walked.{position-on_map}
+use Rattle.cad_map.proofs.CallerLemmas.{EachPair-from_test, placed-at, position-on_map}
 use Rattle.cad_valid.specs.declared.placed.Placed.{Placed}
 use Rattle.cad_valid.specs.Boxes.{box_of}
 use Rattle.cad_valid.specs.Placed.{placed_string, placed_point, meets_at_ends, is_only_end}

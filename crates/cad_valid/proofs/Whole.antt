@@ -4,7 +4,7 @@ use Rattle.cad_map.specs.Valid.{CanBeTested, HasNoCrossing, has_distinct_positio
 use Rattle.std.specs.Prelude.{IsTrue}
 use Rattle.cad_map.specs.Crossings.{HasPlacedRows}
 use Rattle.cad_map.specs.Rings.{HasWholeRings}
-use Rattle.cad_map.proofs.Parallel.{all_sides-once}
+use Rattle.cad_map.proofs.CallerLemmas.{all_sides-once}
 
 pub placed : (m : Map) → CanBeTested m → IsTrue (has_distinct_positions m) → HasPlacedRows m
 placed m tested v3 = record { v1 = tested.v1; v2 = tested.v2; v3 = v3 }

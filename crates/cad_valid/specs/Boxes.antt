@@ -5,15 +5,15 @@ use Rattle.sweep.specs.declared.extent.Extent.{Extent}
 use Rattle.cad_valid.specs.declared.placed.Placed.{Placed}
 
 -- a coordinate, counted from the least that there can be
-abbrev pub counted : ℤ → ℕ
-counted z = unsigned_abs (z +ℤ coordinate_limit)
+abbrev pub from_least : ℤ → ℕ
+from_least z = unsigned_abs (z +ℤ coordinate_limit)
 
 -- the least box that has both ends
 abbrev pub box_of : Placed → Extent
 box_of f =
     record {
-      left = min (counted f.a.x) (counted f.b.x);
-      right = max (counted f.a.x) (counted f.b.x);
-      bottom = min (counted f.a.y) (counted f.b.y);
-      top = max (counted f.a.y) (counted f.b.y);
+      left = min (from_least f.a.x) (from_least f.b.x);
+      right = max (from_least f.a.x) (from_least f.b.x);
+      bottom = min (from_least f.a.y) (from_least f.b.y);
+      top = max (from_least f.a.y) (from_least f.b.y);
     }

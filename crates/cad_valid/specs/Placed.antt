@@ -16,8 +16,8 @@ placed_string m s =
 abbrev pub placed_point : PointRow → Placed
 placed_point p = record { from = p.number; to = p.number; a = p.position; b = p.position }
 
-abbrev pub is_end : Placed → ℕ → Bool
-is_end f p = (f.from == p) || (f.to == p)
+abbrev pub is_placed_end : Placed → ℕ → Bool
+is_placed_end f p = (f.from == p) || (f.to == p)
 
 -- the position of the string's end p
 abbrev pub near_position : Placed → ℕ → Position
@@ -42,9 +42,9 @@ meets_only_at f g p =
 -- two strings have no common location but a shared end
 abbrev pub meets_at_ends : Placed → Placed → Bool
 meets_at_ends f g =
-    if is_end g f.from then meets_only_at f g f.from
-    else (if is_end g f.to then meets_only_at f g f.to else not (have_common f.a f.b g.a g.b))
+    if is_placed_end g f.from then meets_only_at f g f.from
+    else (if is_placed_end g f.to then meets_only_at f g f.to else not (have_common f.a f.b g.a g.b))
 
 -- a point doesn't lie on a string, or is one of its ends
 abbrev pub is_only_end : Placed → Placed → Bool
-is_only_end p f = is_end f p.from || not (have_common f.a f.b p.a p.a)
+is_only_end p f = is_placed_end f p.from || not (have_common f.a f.b p.a p.a)

@@ -23,13 +23,13 @@ pub record AreShapes (shapes : List Shape) : Type 0 where
   pub are : shapes ≡ map (shape_of position) rings
 
 -- neither has the other's anchor inside
-abbrev pub are_apart : Shape → Shape → Bool
-are_apart a b = not (is_inside a.sides b.anchor) && not (is_inside b.sides a.anchor)
+abbrev pub are_shapes_apart : Shape → Shape → Bool
+are_shapes_apart a b = not (is_inside a.sides b.anchor) && not (is_inside b.sides a.anchor)
 
 -- the same of those at two places; where there is none, nothing stands in the way
 abbrev pub are_apart_at : List Shape → ℕ → ℕ → Bool
 are_apart_at shapes i j =
-    unwrap_or (option_and_then (λ a. option_map (λ b. are_apart a b) (slice_get shapes j)) (slice_get shapes i)) true
+    unwrap_or (option_and_then (λ a. option_map (λ b. are_shapes_apart a b) (slice_get shapes j)) (slice_get shapes i)) true
 
 -- the box has the ring and its anchor in it
 pub record Encloses (e : Extent) (shape : Shape) : Type 0 where

@@ -2,7 +2,7 @@
 ghost use Rattle.std.specs.Prelude.{◌≡◌, ℤ, pos, ◌+ℤ◌, map, IfOk};
 ghost use Rattle.geo_exact.specs.Position.{InRange, coordinate_limit};
 ghost use Rattle.sweep.specs.Extents.{IsExtent, HasExtents};
-ghost use Rattle.cad_valid.specs.Boxes.{counted as counted_of, box_of as box_in};
+ghost use Rattle.cad_valid.specs.Boxes.{from_least as counted_of, box_of as box_in};
 
 use crate::placed::Placed;
 use cad_rows::Memory;

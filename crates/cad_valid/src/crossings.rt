@@ -3,7 +3,7 @@ ghost use Rattle.std.specs.Prelude.{◌↔◌, drop, IsTrue};
 ghost use Rattle.std.specs.Bool.{OnTrue, OnFalse};
 ghost use Rattle.std.specs.List.{AllByRecursion};
 ghost use Rattle.cad_map.specs.Valid.{HasNoCrossing, EachPair, MeetAtEnds, LiesOnlyAsEnd};
-ghost use Rattle.cad_map.specs.Crossings.{HasPlacedRows, IsPlaced};
+ghost use Rattle.cad_map.specs.Crossings.{HasPlacedRows, HasTwoPoints};
 
 use crate::placed::{lies_only_as_end, meet_at_ends, placed_point, placed_string};
 use cad_map::MapView;
@@ -36,7 +36,7 @@ fn all_strings_meet_at_ends<M: MapView>(map: &M) -> bool
 /// Whether a string has no common location but a shared end with any string from a place on.
 fn meets_later_at_ends<M: MapView>(map: &M, string: &StringRow, from: usize) -> bool
     requires rows { HasPlacedRows (M.map map.now) }
-    requires placed { IsPlaced (M.map map.now) string.now }
+    requires placed { HasTwoPoints (M.map map.now) string.now }
     ensures { IsTrue result ↔ AllByRecursion (MeetAtEnds (M.map map.now) string.now) (drop from (M.map map.now).strings) }
 {
     let first = placed_string(map, string);

@@ -11,7 +11,7 @@ ghost use Rattle.cad_map.specs.Rings.{HasWholeRings};
 ghost use Rattle.sweep.specs.Extents.{HasExtents};
 ghost use Rattle.cad_valid.specs.Rings.{IsRingOf};
 ghost use Rattle.cad_valid.specs.Shapes.{AreShapes, AreEnclosed, shape_of};
-ghost use Rattle.cad_valid.specs.Shapes.{are_apart as are_apart_of, are_apart_at};
+ghost use Rattle.cad_valid.specs.Shapes.{are_shapes_apart as are_apart_of, are_apart_at};
 
 use crate::outlines_by_runs::doubled_area_of;
 use crate::shapes::{Enclosing, PlacedRing, are_apart};

@@ -1,10 +1,10 @@
 //! Strings with the positions of their ends, and where two of them may meet.
 ghost use Rattle.std.specs.Prelude.{◌≡◌};
 ghost use Rattle.geo_exact.specs.Position.{Position};
-ghost use Rattle.cad_map.specs.Crossings.{IsPlaced};
+ghost use Rattle.cad_map.specs.Crossings.{HasTwoPoints};
 ghost use Rattle.cad_valid.specs.Placed.{placed_string as placed_string_of};
 ghost use Rattle.cad_valid.specs.Placed.{placed_point as placed_point_of};
-ghost use Rattle.cad_valid.specs.Placed.{is_end as is_end_of, near_position as near_position_of};
+ghost use Rattle.cad_valid.specs.Placed.{is_placed_end as is_end_of, near_position as near_position_of};
 ghost use Rattle.cad_valid.specs.Placed.{far_position as far_position_of, meets_only_at};
 ghost use Rattle.cad_valid.specs.Placed.{meets_at_ends, is_only_end};
 
@@ -49,7 +49,7 @@ impl Placed {
 
 /// A string of the map.
 pub(crate) fn placed_string<M: MapView>(map: &M, string: &StringRow) -> Placed
-    requires { IsPlaced (M.map map.now) string.now }
+    requires { HasTwoPoints (M.map map.now) string.now }
     ensures { result ≡ placed_string_of (M.map map.now) string.now }
 {
     Placed {

@@ -4,7 +4,7 @@ ghost use Rattle.geo_exact.specs.Inside.{is_inside};
 ghost use Rattle.cad_map.specs.Map.{position_of};
 ghost use Rattle.sweep.specs.Extents.{IsExtent};
 ghost use Rattle.cad_valid.specs.Rings.{IsRingOf};
-ghost use Rattle.cad_valid.specs.Shapes.{Shape, shape_of, are_apart as are_apart_of, Encloses};
+ghost use Rattle.cad_valid.specs.Shapes.{Shape, shape_of, are_shapes_apart as are_apart_of, Encloses};
 
 use crate::extents::{extent_at, grown};
 use cad_map::{PlainMap, position};

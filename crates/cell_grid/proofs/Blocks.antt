@@ -2,7 +2,7 @@
 use Rattle.std.proofs.Common.{◌≡◌, ℕ, ◌+◌, ◌*◌, ◌/◌, ◌%◌, ◌-◌, ◌<◌, arith, mul_comm, sym, subst, ◌∙◌}
 use Rattle.std.proofs.lemmas.Nat.{div-add-mod', div-mul-add, div_below, mod-mul-add, mul-add-lt}
 use Rattle.cell_grid.specs.declared.block.Block.{Block}
-use Rattle.cell_grid.specs.Cells.{row_width, IsBlock, IsCellOf, width, cell_count, cell_at}
+use Rattle.cell_grid.specs.Cells.{cells_in_row, IsBlock, IsCellOf, width, cell_count, cell_at}
 
 module _ (b : Block) (h : IsBlock b) where
   some : 0 < width b
@@ -49,7 +49,7 @@ module _ (b : Block) (h : IsBlock b) where
       (k, within, at (k / width b) (k % width b) div rest)
     where
       at : (q r : ℕ) → q ≡ c.y - b.bottom → r ≡ c.x - b.left
-          → (b.bottom + q) * row_width + b.left + r ≡ cell
+          → (b.bottom + q) * cells_in_row + b.left + r ≡ cell
       at q r hq hr = let l = c.left in let m = c.bottom in let e = c.is in omega arith
 
   pub cell-once : (j k : ℕ) → j < cell_count b → k < cell_count b → cell_at b j ≡ cell_at b k
@@ -65,11 +65,11 @@ module _ (b : Block) (h : IsBlock b) where
       ∙ div-add-mod' k (width b)
     where
       apart : (q r p t : ℕ) → r < width b → t < width b
-          → (b.bottom + q) * row_width + b.left + r ≡ (b.bottom + p) * row_width + b.left + t
+          → (b.bottom + q) * cells_in_row + b.left + r ≡ (b.bottom + p) * cells_in_row + b.left + t
           → r ≡ t
       apart q r p t hr ht e = let across = h.across in let right = h.right in omega arith
 
       rows_same : (q r p t : ℕ) → r < width b → t < width b
-          → (b.bottom + q) * row_width + b.left + r ≡ (b.bottom + p) * row_width + b.left + t
+          → (b.bottom + q) * cells_in_row + b.left + r ≡ (b.bottom + p) * cells_in_row + b.left + t
           → q ≡ p
       rows_same q r p t hr ht e = let across = h.across in let right = h.right in omega arith

@@ -12,7 +12,7 @@ use Rattle.geo_exact.proofs.CallerLemmas.{boxes_overlap-HaveCommonLocation}
 use Rattle.cell_grid.specs.declared.entry.Entry.{Entry}
 use Rattle.cell_grid.specs.declared.near.Query.{Query}
 use Rattle.cell_grid.specs.Cells.{IsSide, IsCellOf, cell_count, cell_at}
-use Rattle.cell_grid.specs.Held.{Held, items_at, list_at as list_of}
+use Rattle.cell_grid.specs.Held.{HeldEntries, entries_at, cell_list as list_of}
 use Rattle.cell_grid.specs.Spread.{IsSpread, Holds}
 use Rattle.cell_grid.specs.Near.{is_near, IsQuery, list_in_turn, searched_count, searched_list, lists_from, numbers_of}
 use Rattle.cell_grid.proofs.Placed.{one_cell}
@@ -99,7 +99,7 @@ of_two : (b : Bool) (xs ys : List Entry) (e : Entry) → Contains (if b then xs 
 of_two true xs ys e h = inl h
 of_two false xs ys e h = inr h
 
-record HasKey (es : Held) (cell : ℕ) : Type 0 where
+record HasKey (es : HeldEntries) (cell : ℕ) : Type 0 where
   k : ℕ
   within : k < length es
   key : ℕ
@@ -107,7 +107,7 @@ record HasKey (es : Held) (cell : ℕ) : Type 0 where
   there : slice_get es k ≡ Some (key, list)
   is : key ≡ cell
 
-at_key : (es : Held) (cell : ℕ) (l : Vec Entry) → lookup (nat_eq cell) es ≡ Some l
+at_key : (es : HeldEntries) (cell : ℕ) (l : Vec Entry) → lookup (nat_eq cell) es ≡ Some l
     → HasKey es cell
 at_key [] cell l is = cc
 at_key (p ∷ es) cell l is = by (nat_eq cell p.0) refl (at_key es cell l)
@@ -134,12 +134,12 @@ at_key (p ∷ es) cell l is = by (nat_eq cell p.0) refl (at_key es cell l)
           is = f.is;
         }
 
-module _ (lists : Held) (long_ones : List Entry) (q : Query) where
+module _ (lists : HeldEntries) (long_ones : List Entry) (q : Query) where
   turn-held : (k : ℕ) (e : Entry) → Contains (list_in_turn lists k) e → Holds lists long_ones e
   turn-held k e h = by (slice_get lists k) refl
     where
       shown : Option (ℕ × Vec Entry) → List Entry
-      shown o = unwrap_or (option_map (λ (p : ℕ × Vec Entry). items_at lists p.0) o) []
+      shown o = unwrap_or (option_map (λ (p : ℕ × Vec Entry). entries_at lists p.0) o) []
 
       by : (o : Option (ℕ × Vec Entry)) → slice_get lists k ≡ o → Holds lists long_ones e
       by None is = let none : Contains (shown None) e = subst (λ o. Contains (shown o) e) is h in
@@ -150,11 +150,11 @@ module _ (lists : Held) (long_ones : List Entry) (q : Query) where
       → Holds lists long_ones e
   list-held k e h =
       elim (of_two q.all (if nat_lt k (length lists) then list_in_turn lists k else long_ones)
-      (if nat_lt k (cell_count q.block) then items_at lists (cell_at q.block k) else long_ones) e
+      (if nat_lt k (cell_count q.block) then entries_at lists (cell_at q.block k) else long_ones) e
       h) [
         | inl a ↦ elim (of_two (nat_lt k (length lists)) (list_in_turn lists k) long_ones e a)
             [ inl t ↦ turn-held k e t | inr l ↦ inr l ]
-        | inr c ↦ elim (of_two (nat_lt k (cell_count q.block)) (items_at lists (cell_at q.block k))
+        | inr c ↦ elim (of_two (nat_lt k (cell_count q.block)) (entries_at lists (cell_at q.block k))
             long_ones e c) [ inl t ↦ inl (cell_at q.block k, t) | inr l ↦ inr l ]
       ]
 
@@ -167,7 +167,7 @@ module _ (lists : Held) (long_ones : List Entry) (q : Query) where
       (f.entry, list-held j.0 f.entry j.1, f.near, f.number)
 
   -- the list that has an entry that stands in a cell
-  turn-of : (cell : ℕ) (e : Entry) → Contains (items_at lists cell) e
+  turn-of : (cell : ℕ) (e : Entry) → Contains (entries_at lists cell) e
       → (k : ℕ) × (k < length lists) × Contains (list_in_turn lists k) e
   turn-of cell e h = by (list_of lists cell) refl
     where
@@ -176,9 +176,9 @@ module _ (lists : Held) (long_ones : List Entry) (q : Query) where
       by None is = let none = rw is at h in absurd (omega (arith, none.1))
       by (Some l) is =
           let f = at_key lists cell l is in
-          let same : list_in_turn lists f.k ≡ items_at lists cell =
-          ap (λ o. unwrap_or (option_map (λ (p : ℕ × Vec Entry). items_at lists p.0) o) [])
-          f.there ∙ ap (items_at lists) f.is in
+          let same : list_in_turn lists f.k ≡ entries_at lists cell =
+          ap (λ o. unwrap_or (option_map (λ (p : ℕ × Vec Entry). entries_at lists p.0) o) [])
+          f.there ∙ ap (entries_at lists) f.is in
           (f.k, f.within, subst (λ (l : List Entry). Contains l e) (sym same) h)
 
   pick : (k n : ℕ) (xs ys : List Entry) (e : Entry) → k < n → Contains xs e
@@ -201,7 +201,7 @@ module _ (lists : Held) (long_ones : List Entry) (q : Query) where
             → (k : ℕ) × (k < (if b then length lists else cell_count q.block) + 1)
             × Contains
             (if b then (if nat_lt k (length lists) then list_in_turn lists k else long_ones) else
-            (if nat_lt k (cell_count q.block) then items_at lists (cell_at q.block k) else
+            (if nat_lt k (cell_count q.block) then entries_at lists (cell_at q.block k) else
             long_ones)) e
         found true (inl t) = let f = turn-of t.0 e t.1 in (
           f.0,
@@ -220,18 +220,18 @@ module _ (lists : Held) (long_ones : List Entry) (q : Query) where
             (boxes_overlap-HaveCommonLocation q.from q.to e.from e.to meet) in
             let f = cell-found q.block is.is_block one.0
             (subst (λ b. IsCellOf b one.0) (sym is.block) one.1) in
-            let there : Contains (items_at lists (cell_at q.block f.0)) e =
-            subst (λ c. Contains (items_at lists c) e) (sym f.2)
+            let there : Contains (entries_at lists (cell_at q.block f.0)) e =
+            subst (λ c. Contains (entries_at lists c) e) (sym f.2)
             (s.everywhere t.0 one.0 e t.1 one.2) in (
               f.0,
               omega (arith, f.1),
-              pick f.0 (cell_count q.block) (items_at lists (cell_at q.block f.0)) long_ones e f.1
+              pick f.0 (cell_count q.block) (entries_at lists (cell_at q.block f.0)) long_ones e f.1
                   there,
             )
         found false (inr t) = (
           cell_count q.block,
           omega arith,
-          pick_last (cell_count q.block) (items_at lists (cell_at q.block (cell_count q.block)))
+          pick_last (cell_count q.block) (entries_at lists (cell_at q.block (cell_count q.block)))
               long_ones e t,
         )
 

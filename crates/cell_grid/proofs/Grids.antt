@@ -6,7 +6,7 @@ use Rattle.std.specs.List.{Contains, AllByRecursion}
 use Rattle.geo_exact.specs.Position.{Position}
 use Rattle.cad_rows.specs.Limits.{IsNumber}
 use Rattle.cell_grid.specs.declared.entry.Entry.{Entry}
-use Rattle.cell_grid.specs.Held.{Held}
+use Rattle.cell_grid.specs.Held.{HeldEntries}
 use Rattle.cell_grid.specs.Spread.{IsSpread, Holds}
 use Rattle.cell_grid.specs.Grid.{entry_of}
 
@@ -18,7 +18,7 @@ all_from P (x ∷ xs) each = (
 )
 
 -- numbers that were given near a segment
-module _ (side : ℕ) (lists : Held) (long_ones : List Entry) (s : IsSpread side lists long_ones)
+module _ (side : ℕ) (lists : HeldEntries) (long_ones : List Entry) (s : IsSpread side lists long_ones)
     (a b : Position) (xs : List ℕ) (held : (n : ℕ) → Contains xs n → (e : Entry)
     × Holds lists long_ones e × IsTrue (boxes_overlap a b e.from e.to) × (e.number ≡ n)) where
   pub numbers_given : AllByRecursion IsNumber xs

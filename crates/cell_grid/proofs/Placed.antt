@@ -7,7 +7,7 @@ use Rattle.geo_exact.specs.Position.{Position, InRange, OnTheMap}
 use Rattle.geo_exact.specs.SignTest.{overlaps, boxes_overlap}
 use Rattle.geo_exact.proofs.CallerLemmas.{overlaps-shared}
 use Rattle.geo_exact.proofs.SignTestLemmas.{and_left, and_right}
-use Rattle.cell_grid.specs.Cells.{IsSide, row_width, shift, place_along, IsBlock, block_of, IsCellOf}
+use Rattle.cell_grid.specs.Cells.{IsSide, cells_in_row, shift, place_along, IsBlock, block_of, IsCellOf}
 
 -- the shift is past the coordinate limit, and by a side at most
 shift-past : (side : ℕ) → IsSide side → 10000000000 ≤ shift side
@@ -41,14 +41,14 @@ divided h a b some le =
     let whole = div-add-mod' a h in
     le-div (a / h) b h some (omega (arith, whole))
 
-pub place-within : (side : ℕ) → IsSide side → (z : ℤ) → InRange z → place_along side z < row_width
+pub place-within : (side : ℕ) → IsSide side → (z : ℤ) → InRange z → place_along side z < cells_in_row
 place-within side h z within =
     let f = from_zero side h z within in
     let k = h.least in
     let some : 0 < side = omega arith in
-    let small : f.n < row_width * side = omega (arith, f.within) in
-    subst (λ (x : ℤ). unsigned_abs x / side < row_width) (sym f.is)
-    (div_below f.n side row_width some small)
+    let small : f.n < cells_in_row * side = omega (arith, f.within) in
+    subst (λ (x : ℤ). unsigned_abs x / side < cells_in_row) (sym f.is)
+    (div_below f.n side cells_in_row some small)
 
 -- what lies farther east or north has no earlier column or row
 pub place-keeps : (side : ℕ) → IsSide side → (y z : ℤ) → InRange y → InRange z → y ≤ℤ z
@@ -122,7 +122,7 @@ one_cell side a b c d h on_a on_b on_c on_d meet =
     on_d.x_in_range (and_left _ _ meet) in
     let y = one_column side h a.y b.y c.y d.y on_a.y_in_range on_b.y_in_range on_c.y_in_range
     on_d.y_in_range (and_right _ _ meet) in (
-      y.at * row_width + x.at,
+      y.at * cells_in_row + x.at,
       record {
         x = x.at;
         y = y.at;

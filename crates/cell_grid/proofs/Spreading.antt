@@ -9,17 +9,17 @@ use Rattle.std.specs.Global.{Vec}
 use Rattle.cell_grid.specs.declared.block.Block.{Block}
 use Rattle.cell_grid.specs.declared.entry.Entry.{Entry}
 use Rattle.cell_grid.specs.Cells.{IsBlock, cell_count, cell_at}
-use Rattle.cell_grid.specs.Held.{Held, items_at, HasRoomAt, KeepsOthers}
+use Rattle.cell_grid.specs.Held.{HeldEntries, entries_at, HasRoomInCell, KeepsOtherCells}
 use Rattle.cell_grid.specs.Spread.{HasRoomIn, IsPutIn, IsTakenOut}
 use Rattle.cell_grid.proofs.Blocks.{cell-once}
 
-pub items-kept : (c : ℕ) (old new : Held) → KeepsOthers c old new → (b : ℕ) → ¬ (c ≡ b)
-    → items_at new b ≡ items_at old b
+pub items-kept : (c : ℕ) (old new : HeldEntries) → KeepsOtherCells c old new → (b : ℕ) → ¬ (c ≡ b)
+    → entries_at new b ≡ entries_at old b
 items-kept c old new keeps b other =
     ap (λ o. unwrap_or (option_map (λ (l : Vec Entry). l.items) o) []) (keeps b other)
 
-pub room-kept : (c : ℕ) (old new : Held) → KeepsOthers c old new → (b : ℕ) → ¬ (c ≡ b)
-    → HasRoomAt old b 1 → HasRoomAt new b 1
+pub room-kept : (c : ℕ) (old new : HeldEntries) → KeepsOtherCells c old new → (b : ℕ) → ¬ (c ≡ b)
+    → HasRoomInCell old b 1 → HasRoomInCell new b 1
 room-kept c old new keeps b other room = (room.0, keeps b other ∙ room.1, room.2)
 
 -- a number below the next one is it, or below this one
@@ -35,28 +35,28 @@ module _ (b : Block) (h : IsBlock b) (i : ℕ) (within : i < cell_count b) where
   earlier j hj same =
       other_cell j (omega arith) (λ e. absurd (omega arith)) (sym same)
 
-  pub room-more : (old new : Held) → KeepsOthers (cell_at b i) old new
-      → ((k : ℕ) → k < i → HasRoomAt old (cell_at b k) 1) → HasRoomAt new (cell_at b i) 1
-      → (k : ℕ) → k < i + 1 → HasRoomAt new (cell_at b k) 1
+  pub room-more : (old new : HeldEntries) → KeepsOtherCells (cell_at b i) old new
+      → ((k : ℕ) → k < i → HasRoomInCell old (cell_at b k) 1) → HasRoomInCell new (cell_at b i) 1
+      → (k : ℕ) → k < i + 1 → HasRoomInCell new (cell_at b k) 1
   room-more old new keeps before here k hk = elim (below_next k i hk) [
-    | inl same ↦ subst (λ (n : ℕ). HasRoomAt new (cell_at b n) 1) (sym same) here
+    | inl same ↦ subst (λ (n : ℕ). HasRoomInCell new (cell_at b n) 1) (sym same) here
     | inr lt ↦ room-kept (cell_at b i) old new keeps (cell_at b k)
         (other_cell k (omega arith) (λ e. absurd (omega arith))) (before k lt)
   ]
 
-  pub room-less : (old new : Held) → KeepsOthers (cell_at b i) old new → HasRoomIn old b i
+  pub room-less : (old new : HeldEntries) → KeepsOtherCells (cell_at b i) old new → HasRoomIn old b i
       → HasRoomIn new b (i + 1)
   room-less old new keeps room k from hk =
       room-kept (cell_at b i) old new keeps (cell_at b k)
       (other_cell k hk (λ e. absurd (omega arith))) (room k (omega arith) hk)
 
-  pub put-more : (start old new : Held) (e : Entry) → IsPutIn start b e i old
-      → items_at new (cell_at b i) ≡ items_at old (cell_at b i) ++ e ∷ []
-      → KeepsOthers (cell_at b i) old new → IsPutIn start b e (i + 1) new
+  pub put-more : (start old new : HeldEntries) (e : Entry) → IsPutIn start b e i old
+      → entries_at new (cell_at b i) ≡ entries_at old (cell_at b i) ++ e ∷ []
+      → KeepsOtherCells (cell_at b i) old new → IsPutIn start b e (i + 1) new
   put-more start old new e put here keeps = record {
     there = λ k hk. elim (below_next k i hk) [
       | inl same ↦
-          subst (λ (n : ℕ). items_at new (cell_at b n) ≡ items_at start (cell_at b n) ++ e ∷ [])
+          subst (λ (n : ℕ). entries_at new (cell_at b n) ≡ entries_at start (cell_at b n) ++ e ∷ [])
           (sym same) (here ∙ ap (λ (l : List Entry). l ++ e ∷ [])
           (put.others (cell_at b i) earlier))
       | inr lt ↦ items-kept (cell_at b i) old new keeps (cell_at b k)
@@ -66,29 +66,29 @@ module _ (b : Block) (h : IsBlock b) (i : ℕ) (within : i < cell_count b) where
         ∙ put.others cell (λ j hj. none j (omega arith));
   }
 
-  pub take-more : (start old new : Held) (e x : Entry) (place : ℕ) → IsTakenOut start b e i old
-      → place < length (items_at old (cell_at b i))
-      → get_or (items_at old (cell_at b i)) place e ≡ e
-      → x ≡ get_or (items_at old (cell_at b i)) place x
-      → items_at new (cell_at b i) ≡ swap_remove (items_at old (cell_at b i)) place x
-      → KeepsOthers (cell_at b i) old new → IsTakenOut start b e (i + 1) new
+  pub take-more : (start old new : HeldEntries) (e x : Entry) (place : ℕ) → IsTakenOut start b e i old
+      → place < length (entries_at old (cell_at b i))
+      → get_or (entries_at old (cell_at b i)) place e ≡ e
+      → x ≡ get_or (entries_at old (cell_at b i)) place x
+      → entries_at new (cell_at b i) ≡ swap_remove (entries_at old (cell_at b i)) place x
+      → KeepsOtherCells (cell_at b i) old new → IsTakenOut start b e (i + 1) new
   take-more start old new e x place taken inside is_e is_x here keeps =
-      let xs = items_at old (cell_at b i) in
+      let xs = entries_at old (cell_at b i) in
       let same : x ≡ e = is_x ∙ get_or_default xs place x e inside ∙ is_e in
-      let before : items_at old (cell_at b i) ≡ items_at start (cell_at b i) =
+      let before : entries_at old (cell_at b i) ≡ entries_at start (cell_at b i) =
       taken.others (cell_at b i) earlier in
-      let out : IsPermutation xs (x ∷ items_at new (cell_at b i)) =
+      let out : IsPermutation xs (x ∷ entries_at new (cell_at b i)) =
       subst (λ (l : List Entry). IsPermutation xs (x ∷ l)) (sym here)
       (IsPermutation-swap_remove xs place x inside is_x) in
       record {
         there = λ k hk. elim (below_next k i hk) [
-          | inl eq ↦ subst (λ (n : ℕ). IsPermutation (items_at start (cell_at b n))
-              (e ∷ items_at new (cell_at b n))) (sym eq)
-              (subst (λ (y : Entry). IsPermutation (items_at start (cell_at b i))
-              (y ∷ items_at new (cell_at b i))) same
-              (subst (λ (l : List Entry). IsPermutation l (x ∷ items_at new (cell_at b i))) before
+          | inl eq ↦ subst (λ (n : ℕ). IsPermutation (entries_at start (cell_at b n))
+              (e ∷ entries_at new (cell_at b n))) (sym eq)
+              (subst (λ (y : Entry). IsPermutation (entries_at start (cell_at b i))
+              (y ∷ entries_at new (cell_at b i))) same
+              (subst (λ (l : List Entry). IsPermutation l (x ∷ entries_at new (cell_at b i))) before
               out))
-          | inr lt ↦ subst (λ (l : List Entry). IsPermutation (items_at start (cell_at b k))
+          | inr lt ↦ subst (λ (l : List Entry). IsPermutation (entries_at start (cell_at b k))
               (e ∷ l)) (sym (items-kept (cell_at b i) old new keeps (cell_at b k)
               (other_cell k (omega arith) (λ y. absurd (omega arith))))) (taken.there k lt)
         ];
@@ -97,8 +97,8 @@ module _ (b : Block) (h : IsBlock b) (i : ℕ) (within : i < cell_count b) where
       }
 
   -- the cell that comes next has what it had at the start
-  pub taken-there : (start old : Held) (e : Entry) → IsTakenOut start b e i old
-      → Contains (items_at start (cell_at b i)) e → Contains (items_at old (cell_at b i)) e
+  pub taken-there : (start old : HeldEntries) (e : Entry) → IsTakenOut start b e i old
+      → Contains (entries_at start (cell_at b i)) e → Contains (entries_at old (cell_at b i)) e
   taken-there start old e taken there =
       subst (λ (l : List Entry). Contains l e)
       (sym (taken.others (cell_at b i) earlier)) there

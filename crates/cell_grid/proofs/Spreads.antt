@@ -12,7 +12,7 @@ use Rattle.cell_grid.specs.declared.block.Block.{Block}
 use Rattle.cell_grid.specs.declared.entry.Entry.{Entry}
 use Rattle.cell_grid.specs.Entries.{is_same_entry}
 use Rattle.cell_grid.specs.Cells.{IsBlock, IsCellOf, cell_count, cell_at}
-use Rattle.cell_grid.specs.Held.{Held, items_at, IsSame}
+use Rattle.cell_grid.specs.Held.{HeldEntries, entries_at, HasSameEntries}
 use Rattle.cell_grid.specs.Spread.{IsSpread, IsSoundEntry, Holds, is_long, block_at, IsPutIn, IsTakenOut}
 use Rattle.cell_grid.proofs.Blocks.{cell-of, cell-found}
 use Rattle.cell_grid.proofs.Same.{same_entry, is_itself, one_from_Contains, Contains_from_one, count_more}
@@ -20,13 +20,13 @@ use Rattle.cell_grid.proofs.Same.{same_entry, is_itself, one_from_Contains, Cont
 -- ---- Cells that were only given room
 
 -- the same entries are held as before
-module _ (side : ℕ) (old new : Held) (long_ones : List Entry) (same : IsSame old new) where
-  into_same : (cell : ℕ) (e : Entry) → Contains (items_at old cell) e
-      → Contains (items_at new cell) e
+module _ (side : ℕ) (old new : HeldEntries) (long_ones : List Entry) (same : HasSameEntries old new) where
+  into_same : (cell : ℕ) (e : Entry) → Contains (entries_at old cell) e
+      → Contains (entries_at new cell) e
   into_same cell e h = subst (λ (l : List Entry). Contains l e) (sym (same cell)) h
 
-  from_same : (cell : ℕ) (e : Entry) → Contains (items_at new cell) e
-      → Contains (items_at old cell) e
+  from_same : (cell : ℕ) (e : Entry) → Contains (entries_at new cell) e
+      → Contains (entries_at old cell) e
   from_same cell e h = subst (λ (l : List Entry). Contains l e) (same cell) h
 
   pub holds-same : (e : Entry) → Holds new long_ones e ↔ Holds old long_ones e
@@ -143,25 +143,25 @@ module _ (old new : List Entry) (e : Entry) (out : IsPermutation old (e ∷ new)
 
 -- ---- Into the cells of a box, and out of them
 
-record IsIn (b : Block) (e : Entry) (old new : Held) (cell : ℕ) : Type 0 where
+record IsIn (b : Block) (e : Entry) (old new : HeldEntries) (cell : ℕ) : Type 0 where
   of_block : IsCellOf b cell
-  items : items_at new cell ≡ items_at old cell ++ e ∷ []
+  items : entries_at new cell ≡ entries_at old cell ++ e ∷ []
 
-record IsOut (b : Block) (e : Entry) (old new : Held) (cell : ℕ) : Type 0 where
+record IsOut (b : Block) (e : Entry) (old new : HeldEntries) (cell : ℕ) : Type 0 where
   of_block : IsCellOf b cell
-  items : IsPermutation (items_at old cell) (e ∷ items_at new cell)
+  items : IsPermutation (entries_at old cell) (e ∷ entries_at new cell)
 
-record IsAway (b : Block) (old new : Held) (cell : ℕ) : Type 0 where
+record IsAway (b : Block) (old new : HeldEntries) (cell : ℕ) : Type 0 where
   other : ¬ IsCellOf b cell
-  items : items_at new cell ≡ items_at old cell
+  items : entries_at new cell ≡ entries_at old cell
 
-away : (b : Block) (h : IsBlock b) (old new : Held) (cell : ℕ)
+away : (b : Block) (h : IsBlock b) (old new : HeldEntries) (cell : ℕ)
     → ((k : ℕ) → k < cell_count b → ¬ (cell_at b k ≡ cell))
-    → items_at new cell ≡ items_at old cell → IsAway b old new cell
+    → entries_at new cell ≡ entries_at old cell → IsAway b old new cell
 away b h old new cell none same =
     record { other = λ c. let f = cell-found b h cell c in none f.0 f.1 f.2; items = same }
 
-put_cases : (b : Block) (h : IsBlock b) (e : Entry) (old new : Held)
+put_cases : (b : Block) (h : IsBlock b) (e : Entry) (old new : HeldEntries)
     → IsPutIn old b e (cell_count b) new → (cell : ℕ)
     → IsIn b e old new cell ⊎ IsAway b old new cell
 put_cases b h e old new put cell = elim (some_below (cell_at b) cell (cell_count b)) [
@@ -173,7 +173,7 @@ put_cases b h e old new put cell = elim (some_below (cell_at b) cell (cell_count
   | inr none ↦ inr (away b h old new cell none (put.others cell none))
 ]
 
-take_cases : (b : Block) (h : IsBlock b) (e : Entry) (old new : Held)
+take_cases : (b : Block) (h : IsBlock b) (e : Entry) (old new : HeldEntries)
     → IsTakenOut old b e (cell_count b) new → (cell : ℕ)
     → IsOut b e old new cell ⊎ IsAway b old new cell
 take_cases b h e old new out cell = elim (some_below (cell_at b) cell (cell_count b)) [
@@ -186,44 +186,44 @@ take_cases b h e old new out cell = elim (some_below (cell_at b) cell (cell_coun
 ]
 
 -- after a put into each cell of its box
-module _ (side : ℕ) (e : Entry) (h : IsBlock (block_at side e)) (old new : Held)
+module _ (side : ℕ) (e : Entry) (h : IsBlock (block_at side e)) (old new : HeldEntries)
     (long_ones : List Entry) (s : IsSpread side old long_ones)
     (few : cell_count (block_at side e) ≤ 64) (number : IsSoundEntry e)
     (absent : ¬ Holds old long_ones e)
     (put : IsPutIn old (block_at side e) e (cell_count (block_at side e)) new) where
-  came : (cell : ℕ) (x : Entry) → Contains (items_at new cell) x
-      → Contains (items_at old cell) x ⊎ ((x ≡ e) × IsCellOf (block_at side e) cell)
+  came : (cell : ℕ) (x : Entry) → Contains (entries_at new cell) x
+      → Contains (entries_at old cell) x ⊎ ((x ≡ e) × IsCellOf (block_at side e) cell)
   came cell x there = elim (put_cases (block_at side e) h e old new put cell) [
-    | inl i ↦ elim (Contains-push_cases (items_at old cell) e x
+    | inl i ↦ elim (Contains-push_cases (entries_at old cell) e x
         (subst (λ (l : List Entry). Contains l x) i.items there))
         [ inl stood ↦ inl stood | inr same ↦ inr (sym same, i.of_block) ]
     | inr a ↦ inl (subst (λ (l : List Entry). Contains l x) a.items there)
   ]
 
-  stays : (cell : ℕ) (x : Entry) → Contains (items_at old cell) x → Contains (items_at new cell) x
+  stays : (cell : ℕ) (x : Entry) → Contains (entries_at old cell) x → Contains (entries_at new cell) x
   stays cell x there = elim (put_cases (block_at side e) h e old new put cell) [
     | inl i ↦ subst (λ (l : List Entry). Contains l x) (sym i.items)
-        (Contains-append_left (items_at old cell) (e ∷ []) x there)
+        (Contains-append_left (entries_at old cell) (e ∷ []) x there)
     | inr a ↦ subst (λ (l : List Entry). Contains l x) (sym a.items) there
   ]
 
-  arrives : (cell : ℕ) → IsCellOf (block_at side e) cell → Contains (items_at new cell) e
+  arrives : (cell : ℕ) → IsCellOf (block_at side e) cell → Contains (entries_at new cell) e
   arrives cell c = elim (put_cases (block_at side e) h e old new put cell) [
     | inl i ↦ subst (λ (l : List Entry). Contains l e) (sym i.items)
-        (Contains-push (items_at old cell) e)
+        (Contains-push (entries_at old cell) e)
     | inr a ↦ absurd (a.other c)
   ]
 
-  few_each : (cell : ℕ) (x : Entry) → count_by (is_same_entry x) (items_at new cell) ≤ 1
+  few_each : (cell : ℕ) (x : Entry) → count_by (is_same_entry x) (entries_at new cell) ≤ 1
   few_each cell x = elim (put_cases (block_at side e) h e old new put cell) [
     | inl i ↦ subst (λ (l : List Entry). count_by (is_same_entry x) l ≤ 1) (sym i.items)
-        (count_pushed (items_at old cell) e x (λ there. absent (inl (cell, there)))
+        (count_pushed (entries_at old cell) e x (λ there. absent (inl (cell, there)))
         (s.once cell x))
     | inr a ↦ subst (λ (l : List Entry). count_by (is_same_entry x) l ≤ 1) (sym a.items)
         (s.once cell x)
   ]
 
-  short_of : (cell : ℕ) (x : Entry) → Contains (items_at new cell) x → is_long side x ≡ false
+  short_of : (cell : ℕ) (x : Entry) → Contains (entries_at new cell) x → is_long side x ≡ false
   short_of cell x there =
       elim (came cell x there) [
         | inl stood ↦ s.short cell x stood
@@ -231,7 +231,7 @@ module _ (side : ℕ) (e : Entry) (h : IsBlock (block_at side e)) (old new : Hel
             (short_is side e few)
       ]
 
-  in_box_of : (cell : ℕ) (x : Entry) → Contains (items_at new cell) x
+  in_box_of : (cell : ℕ) (x : Entry) → Contains (entries_at new cell) x
       → IsCellOf (block_at side x) cell
   in_box_of cell x there =
       elim (came cell x there) [
@@ -239,11 +239,11 @@ module _ (side : ℕ) (e : Entry) (h : IsBlock (block_at side e)) (old new : Hel
         | inr p ↦ subst (λ (y : Entry). IsCellOf (block_at side y) cell) (sym p.0) p.1
       ]
 
-  everywhere_of : (from cell : ℕ) (x : Entry) → Contains (items_at new from) x
-      → IsCellOf (block_at side x) cell → Contains (items_at new cell) x
+  everywhere_of : (from cell : ℕ) (x : Entry) → Contains (entries_at new from) x
+      → IsCellOf (block_at side x) cell → Contains (entries_at new cell) x
   everywhere_of from cell x there c = elim (came from x there) [
     | inl stood ↦ stays cell x (s.everywhere from cell x stood c)
-    | inr p ↦ subst (λ (y : Entry). Contains (items_at new cell) y) (sym p.0)
+    | inr p ↦ subst (λ (y : Entry). Contains (entries_at new cell) y) (sym p.0)
         (arrives cell (subst (λ (y : Entry). IsCellOf (block_at side y) cell) p.0 c))
   ]
 
@@ -265,7 +265,7 @@ module _ (side : ℕ) (e : Entry) (h : IsBlock (block_at side e)) (old new : Hel
           let first = cell_at (block_at side e) 0 in
           inl (
             first,
-            subst (λ (y : Entry). Contains (items_at new first) y) (sym same)
+            subst (λ (y : Entry). Contains (entries_at new first) y) (sym same)
                 (arrives first (cell-of (block_at side e) h 0 some_cell)),
           )
 
@@ -284,38 +284,38 @@ module _ (side : ℕ) (e : Entry) (h : IsBlock (block_at side e)) (old new : Hel
   }
 
 -- after a take out of each cell of its box
-module _ (side : ℕ) (e : Entry) (h : IsBlock (block_at side e)) (old new : Held)
+module _ (side : ℕ) (e : Entry) (h : IsBlock (block_at side e)) (old new : HeldEntries)
     (long_ones : List Entry) (s : IsSpread side old long_ones)
     (few : cell_count (block_at side e) ≤ 64)
     (out : IsTakenOut old (block_at side e) e (cell_count (block_at side e)) new) where
-  was : (cell : ℕ) (x : Entry) → Contains (items_at new cell) x
-      → Contains (items_at old cell) x × ¬ (x ≡ e)
+  was : (cell : ℕ) (x : Entry) → Contains (entries_at new cell) x
+      → Contains (entries_at old cell) x × ¬ (x ≡ e)
   was cell x there = elim (take_cases (block_at side e) h e old new out cell) [
     | inl o ↦ (
-      stood (items_at old cell) (items_at new cell) e o.items x there,
-      (λ same. gone (items_at old cell) (items_at new cell) e o.items (s.once cell e)
-          (subst (λ (y : Entry). Contains (items_at new cell) y) same there)),
+      stood (entries_at old cell) (entries_at new cell) e o.items x there,
+      (λ same. gone (entries_at old cell) (entries_at new cell) e o.items (s.once cell e)
+          (subst (λ (y : Entry). Contains (entries_at new cell) y) same there)),
     )
     | inr a ↦
-        let before : Contains (items_at old cell) x =
+        let before : Contains (entries_at old cell) x =
         subst (λ (l : List Entry). Contains l x) a.items there in (
           before,
           (λ same.
-              a.other (s.in_box cell e (subst (λ (y : Entry). Contains (items_at old cell) y) same
+              a.other (s.in_box cell e (subst (λ (y : Entry). Contains (entries_at old cell) y) same
               before))),
         )
   ]
 
-  remains : (cell : ℕ) (x : Entry) → Contains (items_at old cell) x → ¬ (x ≡ e)
-      → Contains (items_at new cell) x
+  remains : (cell : ℕ) (x : Entry) → Contains (entries_at old cell) x → ¬ (x ≡ e)
+      → Contains (entries_at new cell) x
   remains cell x there other = elim (take_cases (block_at side e) h e old new out cell) [
-    | inl o ↦ keeps (items_at old cell) (items_at new cell) e o.items x there other
+    | inl o ↦ keeps (entries_at old cell) (entries_at new cell) e o.items x there other
     | inr a ↦ subst (λ (l : List Entry). Contains l x) (sym a.items) there
   ]
 
-  few_left : (cell : ℕ) (x : Entry) → count_by (is_same_entry x) (items_at new cell) ≤ 1
+  few_left : (cell : ℕ) (x : Entry) → count_by (is_same_entry x) (entries_at new cell) ≤ 1
   few_left cell x = elim (take_cases (block_at side e) h e old new out cell) [
-    | inl o ↦ few_out (items_at old cell) (items_at new cell) e o.items x (s.once cell x)
+    | inl o ↦ few_out (entries_at old cell) (entries_at new cell) e o.items x (s.once cell x)
     | inr a ↦ subst (λ (l : List Entry). count_by (is_same_entry x) l ≤ 1) (sym a.items)
         (s.once cell x)
   ]
@@ -349,9 +349,9 @@ module _ (side : ℕ) (e : Entry) (h : IsBlock (block_at side e)) (old new : Hel
 
 -- ---- Among the long ones
 
-module _ (side : ℕ) (e : Entry) (lists : Held) (long_ones : List Entry)
+module _ (side : ℕ) (e : Entry) (lists : HeldEntries) (long_ones : List Entry)
     (s : IsSpread side lists long_ones) (many : 64 < cell_count (block_at side e)) where
-  apart_from_lists : (cell : ℕ) (x : Entry) → Contains (items_at lists cell) x → ¬ (x ≡ e)
+  apart_from_lists : (cell : ℕ) (x : Entry) → Contains (entries_at lists cell) x → ¬ (x ≡ e)
   apart_from_lists cell x t same =
       not_both side e (long_is side e many) (subst (λ (y : Entry). is_long side y ≡ false) same
       (s.short cell x t))
@@ -428,11 +428,11 @@ module _ (side : ℕ) (e : Entry) (lists : Held) (long_ones : List Entry)
     }
 
 -- an entry that is held and isn't long stands in each cell of its box
-pub short-there : (side : ℕ) (e : Entry) (h : IsBlock (block_at side e)) (lists : Held)
+pub short-there : (side : ℕ) (e : Entry) (h : IsBlock (block_at side e)) (lists : HeldEntries)
     (long_ones : List Entry) → IsSpread side lists long_ones → cell_count (block_at side e) ≤ 64
     → Holds lists long_ones e
     → (k : ℕ) → k < cell_count (block_at side e)
-    → Contains (items_at lists (cell_at (block_at side e) k)) e
+    → Contains (entries_at lists (cell_at (block_at side e) k)) e
 short-there side e h lists long_ones s few (inl t) k hk =
     s.everywhere t.0 (cell_at (block_at side e) k) e t.1 (cell-of (block_at side e) h k hk)
 short-there side e h lists long_ones s few (inr t) k hk =
@@ -449,7 +449,7 @@ taken_out xs i e x left within is_e is_x is =
     (IsPermutation-swap_remove xs i x within is_x))
 
 -- a put after lists were given room
-pub holds_through : (old roomy new : Held) (long_ones : List Entry) (e : Entry)
+pub holds_through : (old roomy new : HeldEntries) (long_ones : List Entry) (e : Entry)
     → ((x : Entry) → Holds roomy long_ones x ↔ Holds old long_ones x)
     → ((x : Entry) → Holds new long_ones x ↔ (Holds roomy long_ones x ⊎ (x ≡ e)))
     → (x : Entry) → Holds new long_ones x ↔ (Holds old long_ones x ⊎ (x ≡ e))

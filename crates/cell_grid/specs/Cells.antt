@@ -9,8 +9,8 @@ pub record IsSide (side : ℕ) : Type 0 where
   pub greatest : side ≤ 1000000000
 
 -- how many numbers a row of cells takes: more than the cells that a row can have
-abbrev pub row_width : ℕ
-row_width = 33554432
+abbrev pub cells_in_row : ℕ
+cells_in_row = 33554432
 
 -- a multiple of the side that takes every coordinate above zero
 abbrev pub shift : ℕ → ℕ
@@ -25,8 +25,8 @@ place_along side z = unsigned_abs (z +ℤ pos (shift side)) / side
 pub record IsBlock (b : Block) : Type 0 where
   pub across : b.left ≤ b.right
   pub up : b.bottom ≤ b.top
-  pub right : b.right < row_width
-  pub top : b.top < row_width
+  pub right : b.right < cells_in_row
+  pub top : b.top < cells_in_row
 
 -- the cells that the box of a segment touches
 abbrev pub block_of : ℕ → Position → Position → Block
@@ -47,7 +47,7 @@ cell_count b = width b * (b.top - b.bottom + 1)
 
 -- the cells of a block, row by row
 abbrev pub cell_at : Block → ℕ → ℕ
-cell_at b k = (b.bottom + k / width b) * row_width + b.left + k % width b
+cell_at b k = (b.bottom + k / width b) * cells_in_row + b.left + k % width b
 
 -- the cell is one of the block's
 pub record IsCellOf (b : Block) (cell : ℕ) : Type 0 where
@@ -57,4 +57,4 @@ pub record IsCellOf (b : Block) (cell : ℕ) : Type 0 where
   pub right : x ≤ b.right
   pub bottom : b.bottom ≤ y
   pub top : y ≤ b.top
-  pub is : cell ≡ y * row_width + x
+  pub is : cell ≡ y * cells_in_row + x

@@ -5,26 +5,26 @@ use Rattle.std.specs.Global.{Vec}
 use Rattle.cell_grid.specs.declared.entry.Entry.{Entry}
 
 -- the lists that are held, each under the number of its cell
-abbrev pub Held : Type 0
-Held = List (ℕ × Vec Entry)
+abbrev pub HeldEntries : Type 0
+HeldEntries = List (ℕ × Vec Entry)
 
 -- the list of a cell, if the cell was ever given room
-abbrev pub list_at : Held → ℕ → Option (Vec Entry)
-list_at v c = lookup (nat_eq c) v
+abbrev pub cell_list : HeldEntries → ℕ → Option (Vec Entry)
+cell_list v c = lookup (nat_eq c) v
 
 -- the entries in a cell
-abbrev pub items_at : Held → ℕ → List Entry
-items_at v c = unwrap_or (option_map (λ l. l.items) (list_at v c)) []
+abbrev pub entries_at : HeldEntries → ℕ → List Entry
+entries_at v c = unwrap_or (option_map (λ l. l.items) (cell_list v c)) []
 
 -- so many entries more fit into the cell without memory
-abbrev pub HasRoomAt : Held → ℕ → ℕ → Type 0
-HasRoomAt v c n =
-    (l : Vec Entry) × (list_at v c ≡ Some l) × (vec_len l + n ≤ vec_capacity l)
+abbrev pub HasRoomInCell : HeldEntries → ℕ → ℕ → Type 0
+HasRoomInCell v c n =
+    (l : Vec Entry) × (cell_list v c ≡ Some l) × (vec_len l + n ≤ vec_capacity l)
 
 -- the other cells are as they were
-abbrev pub KeepsOthers : ℕ → Held → Held → Type 0
-KeepsOthers c old new = (b : ℕ) → ¬ (c ≡ b) → list_at new b ≡ list_at old b
+abbrev pub KeepsOtherCells : ℕ → HeldEntries → HeldEntries → Type 0
+KeepsOtherCells c old new = (b : ℕ) → ¬ (c ≡ b) → cell_list new b ≡ cell_list old b
 
 -- every cell has the same entries
-abbrev pub IsSame : Held → Held → Type 0
-IsSame old new = (c : ℕ) → items_at new c ≡ items_at old c
+abbrev pub HasSameEntries : HeldEntries → HeldEntries → Type 0
+HasSameEntries old new = (c : ℕ) → entries_at new c ≡ entries_at old c

@@ -2,12 +2,12 @@
 use Rattle.std.specs.Prelude.{◌≡◌, List, ◌⊎◌, ◌↔◌}
 use Rattle.cell_grid.specs.declared.entry.Entry.{Entry}
 use Rattle.cell_grid.specs.declared.segments.Segments.{Segments}
-use Rattle.cell_grid.specs.Held.{Held}
+use Rattle.cell_grid.specs.Held.{HeldEntries}
 use Rattle.cell_grid.specs.Spread.{IsSpread, Holds}
 
 -- what stands in cells, and the long ones
 pub record Kept : Type 0 where
-  pub lists : Held
+  pub lists : HeldEntries
   pub long : List Entry
 
 -- what is kept of these segments

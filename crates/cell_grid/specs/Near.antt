@@ -4,7 +4,7 @@ use Rattle.geo_exact.specs.SignTest.{boxes_overlap}
 use Rattle.cell_grid.specs.declared.entry.Entry.{Entry}
 use Rattle.cell_grid.specs.declared.near.Query.{Query}
 use Rattle.cell_grid.specs.Cells.{IsBlock, block_of, cell_count, cell_at}
-use Rattle.cell_grid.specs.Held.{Held, items_at}
+use Rattle.cell_grid.specs.Held.{HeldEntries, entries_at}
 
 -- the boxes of the segment that is asked about and of an entry have a location in common
 abbrev pub is_near : Query → Entry → Bool
@@ -16,37 +16,37 @@ pub record IsQuery (side : ℕ) (q : Query) : Type 0 where
   pub is_block : IsBlock q.block
 
 -- the entries in the cell that was the k-th to be given room
-abbrev pub list_in_turn : Held → ℕ → List Entry
-list_in_turn lists k = unwrap_or (option_map (λ p. items_at lists p.0) (slice_get lists k)) []
+abbrev pub list_in_turn : HeldEntries → ℕ → List Entry
+list_in_turn lists k = unwrap_or (option_map (λ p. entries_at lists p.0) (slice_get lists k)) []
 
 -- how many lists are looked at: one for each cell, and the one of the long entries
-abbrev pub searched_count : Held → Query → ℕ
+abbrev pub searched_count : HeldEntries → Query → ℕ
 searched_count lists q = (if q.all then length lists else cell_count q.block) + 1
 
 -- the k-th of them: of a cell of the box, or of any cell where the box has too many; then the
 -- long ones
-abbrev pub searched_list : Held → List Entry → Query → ℕ → List Entry
+abbrev pub searched_list : HeldEntries → List Entry → Query → ℕ → List Entry
 searched_list lists long_ones q k =
     if q.all
     then (if nat_lt k (length lists) then list_in_turn lists k else long_ones)
-    else (if nat_lt k (cell_count q.block) then items_at lists (cell_at q.block k) else long_ones)
+    else (if nat_lt k (cell_count q.block) then entries_at lists (cell_at q.block k) else long_ones)
 
 -- n lists from a place on, one after another
-abbrev pub joined : (ℕ → List Entry) → ℕ → ℕ → List Entry
-joined list k zero = []
-joined list k (suc n) = list k ++ joined list (k + 1) n
+abbrev pub lists_in_turn : (ℕ → List Entry) → ℕ → ℕ → List Entry
+lists_in_turn list k zero = []
+lists_in_turn list k (suc n) = list k ++ lists_in_turn list (k + 1) n
 
 -- the lists from a place on
-abbrev pub lists_from : Held → List Entry → Query → ℕ → List Entry
+abbrev pub lists_from : HeldEntries → List Entry → Query → ℕ → List Entry
 lists_from lists long_ones q k =
-    joined (searched_list lists long_ones q) k (searched_count lists q - k)
+    lists_in_turn (searched_list lists long_ones q) k (searched_count lists q - k)
 
 -- the numbers of the entries that are near
 abbrev pub numbers_of : Query → List Entry → List ℕ
 numbers_of q xs = map (λ e. e.number) (filter (is_near q) xs)
 
 -- of the lists from one on, the first near entry stands in the k-th, at this place
-abbrev pub FoundAt : Held → List Entry → Query → ℕ → ℕ → ℕ → Type 0
+abbrev pub FoundAt : HeldEntries → List Entry → Query → ℕ → ℕ → ℕ → Type 0
 FoundAt lists long_ones q from k place =
     (d : Entry)
     → filter (is_near q) (lists_from lists long_ones q from)

@@ -1,7 +1,7 @@
 //! Blocks of cells, and the cells that the box of a segment touches.
 ghost use Rattle.std.specs.Prelude.{◌≡◌, ◌<◌, ◌≤◌, ◌+◌, ◌-◌, ◌*◌, min, max};
 ghost use Rattle.geo_exact.specs.Position.{InRange};
-ghost use Rattle.cell_grid.specs.Cells.{place_along as place_along_of, IsSide, IsBlock, row_width, block_of as block_of_box, width as width_of, cell_count as cell_count_of, cell_at as cell_at_of};
+ghost use Rattle.cell_grid.specs.Cells.{place_along as place_along_of, IsSide, IsBlock, cells_in_row, block_of as block_of_box, width as width_of, cell_count as cell_count_of, cell_at as cell_at_of};
 
 use geo_exact::{COORDINATE_LIMIT, Pt};
 
@@ -69,7 +69,7 @@ impl Block {
         requires { IsBlock self.now }
         ensures value { result ≡ width_of self.now }
         ensures some { 0 < result }
-        ensures within { result ≤ row_width }
+        ensures within { result ≤ cells_in_row }
     {
         self.right - self.left + 1
     }

@@ -1,6 +1,6 @@
 //! Lists of entries under cells.
 ghost use Rattle.std.specs.Prelude.{◌≡◌, ℕ, ◌<◌, ◌^◌, ◌++◌, ◌∷◌, [], length, OnOk, OnErr, swap_remove, slice_index_or};
-ghost use Rattle.cell_grid.specs.Held.{items_at, list_at, HasRoomAt, KeepsOthers, IsSame};
+ghost use Rattle.cell_grid.specs.Held.{entries_at, cell_list, HasRoomInCell, KeepsOtherCells, HasSameEntries};
 ghost use Rattle.cell_grid.specs.Near.{list_in_turn};
 
 use crate::entry::Entry;
@@ -18,9 +18,9 @@ pub(crate) struct CellLists {
 }
 
 impl Model for CellLists {
-    ghost use Rattle.cell_grid.specs.Held.{Held};
+    ghost use Rattle.cell_grid.specs.Held.{HeldEntries};
 
-    ghost Value = { Held };
+    ghost Value = { HeldEntries };
 
     ghost view = { λ a. a.lists.entries };
 }
@@ -37,7 +37,7 @@ impl CellLists {
 
     /// The entries in a cell.
     pub(crate) fn at(&self, cell: u64) -> &[Entry]
-        ensures { result.now ≡ items_at self.now cell }
+        ensures { result.now ≡ entries_at self.now cell }
     {
         match self.lists.get(&cell) {
             Some(list) => list.as_slice(),
@@ -65,9 +65,9 @@ impl CellLists {
     /// Gives a cell room for one entry more. The entries stay as they are, also where memory runs
     /// out.
     pub(crate) fn reserve(&mut self, cell: u64) -> Result<(), AllocError>
-        ensures room { OnOk result (HasRoomAt self.new cell 1) }
-        ensures same { IsSame self.old self.new }
-        ensures others { KeepsOthers cell self.old self.new }
+        ensures room { OnOk result (HasRoomInCell self.new cell 1) }
+        ensures same { HasSameEntries self.old self.new }
+        ensures others { KeepsOtherCells cell self.old self.new }
     {
         if let Some(list) = self.lists.get_mut(&cell) {
             list.reserve(1)?;
@@ -81,9 +81,9 @@ impl CellLists {
 
     /// Puts an entry last into a cell that has room for it. It takes no memory.
     pub(crate) fn put(&mut self, cell: u64, entry: Entry)
-        requires { HasRoomAt self.old cell 1 }
-        ensures items { items_at self.new cell ≡ items_at self.old cell ++ entry ∷ [] }
-        ensures others { KeepsOthers cell self.old self.new }
+        requires { HasRoomInCell self.old cell 1 }
+        ensures items { entries_at self.new cell ≡ entries_at self.old cell ++ entry ∷ [] }
+        ensures others { KeepsOtherCells cell self.old self.new }
     {
         if let Some(list) = self.lists.get_mut(&cell) {
             list.push_reserved(entry);
@@ -92,10 +92,10 @@ impl CellLists {
 
     /// Takes the entry at a place out and gives it; the last one in the cell takes its place.
     pub(crate) fn take(&mut self, cell: u64, place: usize) -> Entry
-        requires { place < length (items_at self.old cell) }
-        ensures items { items_at self.new cell ≡ swap_remove (items_at self.old cell) place result }
-        ensures value { result ≡ slice_index_or (items_at self.old cell) place result }
-        ensures others { KeepsOthers cell self.old self.new }
+        requires { place < length (entries_at self.old cell) }
+        ensures items { entries_at self.new cell ≡ swap_remove (entries_at self.old cell) place result }
+        ensures value { result ≡ slice_index_or (entries_at self.old cell) place result }
+        ensures others { KeepsOtherCells cell self.old self.new }
     {
         let list = self.lists.get_mut(&cell).unwrap();
         let _length = list.len();

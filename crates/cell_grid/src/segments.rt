@@ -2,7 +2,7 @@
 ghost use Rattle.std.specs.Prelude.{◌≡◌, ℕ, ◌<◌, length, OnOk, OnErr, slice_index_or};
 ghost use Rattle.std.specs.List.{Contains};
 ghost use Rattle.cell_grid.specs.Cells.{IsSide, IsBlock, cell_count, cell_at};
-ghost use Rattle.cell_grid.specs.Held.{items_at, IsSame};
+ghost use Rattle.cell_grid.specs.Held.{entries_at, HasSameEntries};
 ghost use Rattle.cell_grid.specs.Spread.{IsSoundEntry, HasRoomIn, IsPutIn, IsTakenOut};
 ghost use Rattle.cell_grid.specs.Kept.{kept, AreSpread, IsHeld, HoldsNone, HoldsSame, HoldsOneMore, HoldsOneLess};
 
@@ -30,7 +30,7 @@ pub(crate) struct Segments {
 fn reserve_each(lists: &mut CellLists, block: &Block) -> Result<(), Memory>
     requires { IsBlock block.now }
     ensures room { OnOk result (HasRoomIn lists.new block.now 0) }
-    ensures same { IsSame lists.old lists.new }
+    ensures same { HasSameEntries lists.old lists.new }
 {
     for place in 0..block.cell_count() {
         lists.reserve(block.cell_at(place))?;
@@ -67,7 +67,7 @@ fn place_in(list: &[Entry], entry: &Entry) -> usize
 fn take_each(lists: &mut CellLists, block: &Block, entry: &Entry)
     requires block { IsBlock block.now }
     requires there { (k : ℕ) → k < cell_count block.now
-        → Contains (items_at lists.old (cell_at block.now k)) entry.now }
+        → Contains (entries_at lists.old (cell_at block.now k)) entry.now }
     ensures { IsTakenOut lists.old block.now entry.now (cell_count block.now) lists.new }
 {
     for turn in 0..block.cell_count() {

@@ -10,7 +10,7 @@ use Rattle.half_table.specs.declared.half.Half.{Half}
 use Rattle.half_table.specs.declared.links.Links.{Links}
 use Rattle.half_table.specs.declared.links.Ends.{Ends}
 use Rattle.half_table.specs.Half.{is_half}
-use Rattle.half_table.specs.Rows.{Rows, strings, links_at, links_of}
+use Rattle.half_table.specs.Rows.{HalfRows, strings, links_at, links_of}
 use Rattle.half_table.specs.Writes.{changed_at, with_links_at, ChangesNext, ChangesPrev, ChangesFace}
 use Rattle.half_table.proofs.Halves.{is_half-self, cases_half}
 
@@ -21,7 +21,7 @@ side true false to e = refl
 side false true to e = refl
 side false false to e = refl
 
-pub changed-put : (old new : Rows) (h : Half) (to : Links) (e : Ends) → lookup (nat_eq h.string) old ≡ Some e
+pub changed-put : (old new : HalfRows) (h : Half) (to : Links) (e : Ends) → lookup (nat_eq h.string) old ≡ Some e
     → ((q : ℕ) → lookup (nat_eq q) new ≡ cond (nat_eq h.string q) (Some (with_links_at h.forward to e)) (lookup (nat_eq q) old))
     → (g : Half) → links_of new g ≡ changed_at h to (links_of old) g
 changed-put old new h to e there put g = by (nat_eq h.string g.string) refl
@@ -44,7 +44,7 @@ changed-put old new h to e there put g = by (nat_eq h.string g.string) refl
         turned true q = absurd (true≢false (sym ((Decides-eqb h.string g.string).1 (sym ((Decides-eqb g.string h.string).0 q))) ∙ p))
         turned false q = q
 
-module _ (old new : Rows) (h : Half) (l to : Links) (there : links_of old h ≡ Some l) (put : (g : Half) → links_of new g ≡ changed_at h to (links_of old) g) where
+module _ (old new : HalfRows) (h : Half) (l to : Links) (there : links_of old h ≡ Some l) (put : (g : Half) → links_of new g ≡ changed_at h to (links_of old) g) where
   -- what the change leaves
   left : {V : Type 0} (F : Option Links → V) (g : Half) → F (Some to) ≡ F (Some l) → F (links_of new g) ≡ F (links_of old g)
   left F g same =
@@ -62,7 +62,7 @@ module _ (old new : Rows) (h : Half) (l to : Links) (there : links_of old h ≡ 
   made : {V : Type 0} (F : Option Links → V) (g : Half) → F (links_of new g) ≡ (if is_half g h then F (Some to) else F (links_of old g))
   made F g = ap F (put g) ∙ push F (is_half g h) (links_of old g)
 
-module _ (old new : Rows) (h : Half) (e : Ends) (there : lookup (nat_eq h.string) old ≡ Some e) where
+module _ (old new : HalfRows) (h : Half) (e : Ends) (there : lookup (nat_eq h.string) old ≡ Some e) where
   held : links_of old h ≡ Some (links_at h.forward e)
   held = ap (option_map (links_at h.forward)) there
 

@@ -6,7 +6,7 @@ use Rattle.std.specs.List.{IsDistinct, AllByRecursion}
 use Rattle.half_table.specs.declared.half.Half.{Half}
 use Rattle.half_table.specs.Half.{is_half}
 use Rattle.half_table.specs.Cycle.{holds, IsOnce, IsWalk, IsCycle, IsRun, orbit}
-use Rattle.half_table.specs.Rows.{Rows, has, next, prev, halves, cycle, IsLinked, HasCycle}
+use Rattle.half_table.specs.Rows.{HalfRows, has, next, prev, halves, cycle, IsLinked, HasCycle}
 use Rattle.half_table.proofs.Halves.{is_half-self, is_half-same, is_half-turned}
 use Rattle.half_table.proofs.Strings.{in_halves}
 use Rattle.half_table.proofs.Cycles.{or_true, or_right, or_false, walk-passes}
@@ -84,7 +84,7 @@ module _ (nx : Half → Half) (h : Half) where
             absent false s = s
             absent true s = absurd (true≢false (sym (not_later n (nx p) p s) ∙ e))
 
-module _ (rows : Rows) (linked : IsLinked rows) where
+module _ (rows : HalfRows) (linked : IsLinked rows) where
   -- no two halves have the same next
   pub next-injective : (x y : Half) → next rows x ≡ next rows y → x ≡ y
   next-injective x y e = sym (linked.prev_next x) ∙ ap (prev rows) e ∙ linked.prev_next y
@@ -142,11 +142,11 @@ walk-run nx h a (x ∷ xs) free w =
     (w.0, subst (λ z. is_half z h ≡ false) (sym w.0) (is_half-turned h x p.0), subst (λ z. IsRun nx h (nx z) xs) (sym w.0) (walk-run nx h x xs p.1 w.1))
 
 -- the halves from h on are a cycle, and the only one that begins with h
-pub cycle-is : (rows : Rows) → IsLinked rows → (h : Half) → has rows h ≡ true → IsCycle (next rows) (cycle rows h)
+pub cycle-is : (rows : HalfRows) → IsLinked rows → (h : Half) → has rows h ≡ true → IsCycle (next rows) (cycle rows h)
 cycle-is rows linked h e = (run-walk (next rows) h h _ (cycle-closes rows linked h e), cycle-once rows linked h)
 
 -- a cycle through a half of the table lies in it
-pub has-cycle : (rows : Rows) → IsLinked rows → (h : Half) (xs : List Half) → has rows h ≡ true → IsCycle (next rows) (h ∷ xs) → HasCycle rows (h ∷ xs)
+pub has-cycle : (rows : HalfRows) → IsLinked rows → (h : Half) (xs : List Half) → has rows h ≡ true → IsCycle (next rows) (h ∷ xs) → HasCycle rows (h ∷ xs)
 has-cycle rows linked h xs e c = record {
   closes = c;
   inside = λ q s. elim (or_true (is_half q h) (holds xs q) s) [
@@ -155,16 +155,16 @@ has-cycle rows linked h xs e c = record {
   ];
 }
 
-pub has-cycle-of : (rows : Rows) → IsLinked rows → (h : Half) → has rows h ≡ true → HasCycle rows (cycle rows h)
+pub has-cycle-of : (rows : HalfRows) → IsLinked rows → (h : Half) → has rows h ≡ true → HasCycle rows (cycle rows h)
 has-cycle-of rows linked h e = has-cycle rows linked h _ e (cycle-is rows linked h e)
 
-pub cycle-only : (rows : Rows) → IsLinked rows → (h : Half) (xs : List Half) → HasCycle rows (h ∷ xs) → cycle rows h ≡ h ∷ xs
+pub cycle-only : (rows : HalfRows) → IsLinked rows → (h : Half) (xs : List Half) → HasCycle rows (h ∷ xs) → cycle rows h ≡ h ∷ xs
 cycle-only rows linked h xs c =
     let le : length (h ∷ xs) ≤ length (halves rows) = few rows linked (h ∷ xs) c.closes.1 c.inside in
     ap (λ t. h ∷ t) (orbit-is (next rows) h (length (halves rows)) (next rows h) xs (walk-run (next rows) h h xs c.closes.1.0 c.closes.0) (omega arith))
 
 -- where the cycle of a half is one of another table too, it is its cycle there
-pub cycle-same : (old new : Rows) → IsLinked new → (h : Half) → HasCycle new (cycle old h) → cycle new h ≡ cycle old h
+pub cycle-same : (old new : HalfRows) → IsLinked new → (h : Half) → HasCycle new (cycle old h) → cycle new h ≡ cycle old h
 cycle-same old new linked h c = cycle-only new linked h _ c
 
 orbit-length : (nx : Half → Half) (h : Half) (n : ℕ) (at : Half) → length (orbit nx n h at) ≤ n

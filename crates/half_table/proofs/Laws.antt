@@ -2,13 +2,13 @@
 use Rattle.std.proofs.Common.{◌≡◌, true, false, List, ◌∷◌, ◌++◌, sym, ap, ◌∙◌, subst}
 use Rattle.half_table.specs.declared.half.Half.{Half}
 use Rattle.half_table.specs.Cycle.{holds, exchanged, IsCycle}
-use Rattle.half_table.specs.Rows.{Rows, has, next, prev, IsLinked, HasCycle}
+use Rattle.half_table.specs.Rows.{HalfRows, has, next, prev, IsLinked, HasCycle}
 use Rattle.half_table.specs.Surgery.{KeepsHalves, IsUnchanged, IsSpliced, SplicesCycles}
 use Rattle.half_table.proofs.Halves.{exchanged-first, exchanged-second, exchanged-twice, exchanged-turned, exchanged-same}
 use Rattle.half_table.proofs.Cycles.{cycle-parted, cycles-joined, cycle-kept, cycles-apart}
 use Rattle.half_table.proofs.Closed.{has-cycle}
 
-module _ (a b : Half) (old new : Rows) (s : IsSpliced a b old new) where
+module _ (a b : Half) (old new : HalfRows) (s : IsSpliced a b old new) where
   -- the new next is the old one with two values exchanged, and the other way round
   forth : exchanged a b (next old) ≡ next new
   forth = λ i g. sym (s.next g) i
@@ -16,7 +16,7 @@ module _ (a b : Half) (old new : Rows) (s : IsSpliced a b old new) where
   back : exchanged a b (next new) ≡ next old
   back = λ i g. (ap (λ f. exchanged a b f g) (sym forth) ∙ exchanged-twice (next old) a b g) i
 
-  others : (f : Rows) (g : Rows) → exchanged a b (next f) ≡ next g → ((h : Half) → has g h ≡ has f h) → (ring : List Half) → holds ring a ≡ false → holds ring b ≡ false → HasCycle f ring → HasCycle g ring
+  others : (f : HalfRows) (g : HalfRows) → exchanged a b (next f) ≡ next g → ((h : Half) → has g h ≡ has f h) → (ring : List Half) → holds ring a ≡ false → holds ring b ≡ false → HasCycle f ring → HasCycle g ring
   others f g to same ring no_a no_b c = record {
     closes = subst (λ n. IsCycle n ring) to (cycle-kept (next f) a b ring no_a no_b c.closes);
     inside = λ h e. same h ∙ c.inside h e;
@@ -37,7 +37,7 @@ module _ (a b : Half) (old new : Rows) (s : IsSpliced a b old new) where
             (others old new forth s.halves.has ring no_a no_b, others new old back (λ h. sym (s.halves.has h)) ring no_a no_b);
       }
 
-  both : (again : Rows) → KeepsHalves new again → KeepsHalves old again
+  both : (again : HalfRows) → KeepsHalves new again → KeepsHalves old again
   both again k = record {
     strings = k.strings ∙ s.halves.strings;
     has = λ g. k.has g ∙ s.halves.has g;
@@ -46,7 +46,7 @@ module _ (a b : Half) (old new : Rows) (s : IsSpliced a b old new) where
   }
 
   -- the same splice again restores
-  pub spliced-twice : (again : Rows) → IsSpliced a b new again → IsUnchanged old again
+  pub spliced-twice : (again : HalfRows) → IsSpliced a b new again → IsUnchanged old again
   spliced-twice again t =
       let A : next new a ≡ next old b = s.next a ∙ exchanged-first (next old) a b in
       let B : next new b ≡ next old a = s.next b ∙ exchanged-second (next old) a b in

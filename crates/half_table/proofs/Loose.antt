@@ -11,7 +11,7 @@ use Rattle.half_table.specs.declared.half.Half.{Half}
 use Rattle.half_table.specs.declared.links.Links.{Links}
 use Rattle.half_table.specs.declared.links.Ends.{Ends}
 use Rattle.half_table.specs.Half.{twin, forward_of, backward_of}
-use Rattle.half_table.specs.Rows.{Rows, strings, has_string, links_at, links_of, has, next, prev, origin, face, IsLinked}
+use Rattle.half_table.specs.Rows.{HalfRows, strings, has_halves, links_at, links_of, has, next, prev, origin_of, face, IsLinked}
 use Rattle.half_table.specs.Surgery.{AddsLoose, RemovesLoose, IsLoose, loose_ends}
 use Rattle.half_table.proofs.Halves.{twin-twin}
 use Rattle.half_table.proofs.Strings.{swapped-out}
@@ -24,7 +24,7 @@ nat_eq-symm a b = same (nat_eq a b) (nat_eq b a) (λ e. (Decides-eqb b a).1 (sym
     same false true f g = g refl
     same false false f g = refl
 
-module _ (old new : Rows) (s : ℕ) (w : Option Ends) (put : (q : ℕ) → lookup (nat_eq q) new ≡ cond (nat_eq s q) w (lookup (nat_eq q) old)) where
+module _ (old new : HalfRows) (s : ℕ) (w : Option Ends) (put : (q : ℕ) → lookup (nat_eq q) new ≡ cond (nat_eq s q) w (lookup (nat_eq q) old)) where
   -- what is read of a half after the change
   read : {V : Type 0} (F : Option Links → V) (g : Half) → F (links_of new g) ≡ (if nat_eq g.string s then F (option_map (links_at g.forward) w) else F (links_of old g))
   read F g = ap (λ o. F (option_map (links_at g.forward) o)) (put g.string ∙ ap (λ b. cond b w (lookup (nat_eq g.string) old)) (nat_eq-symm s g.string)) ∙ push (nat_eq g.string s)
@@ -39,7 +39,7 @@ if-agree true x y z f = f refl
 if-agree false x y z f = refl
 
 -- a change of one string's halves that keeps next and prev in step
-module _ (old new : Rows) (s : ℕ) (m : Half → Half) (k : Bool) (linked : IsLinked old) (unique : IsDistinct nat_eq (strings new))
+module _ (old new : HalfRows) (s : ℕ) (m : Half → Half) (k : Bool) (linked : IsLinked old) (unique : IsDistinct nat_eq (strings new))
     (next_is : (g : Half) → next new g ≡ (if nat_eq g.string s then m g else next old g))
     (prev_is : (g : Half) → prev new g ≡ (if nat_eq g.string s then m g else prev old g))
     (has_is : (g : Half) → has new g ≡ (if nat_eq g.string s then k else has old g))
@@ -82,7 +82,7 @@ module _ (old new : Rows) (s : ℕ) (m : Half → Half) (k : Bool) (linked : IsL
           ∙ ap (λ b. if b then k else has old (next old h)) (away_next h e) ∙ linked.inside h ∙ ap (λ b. if b then k else has old h) (sym e) ∙ sym (has_is h)
 
 -- of a string that isn't there each half is its own next and prev
-pub absent : (rows : Rows) (s : ℕ) → lookup (nat_eq s) rows ≡ None → (g : Half) → nat_eq g.string s ≡ true → links_of rows g ≡ None
+pub absent : (rows : HalfRows) (s : ℕ) → lookup (nat_eq s) rows ≡ None → (g : Half) → nat_eq g.string s ≡ true → links_of rows g ≡ None
 absent rows s none g e = ap (λ t. option_map (links_at g.forward) (lookup (nat_eq t) rows)) ((Decides-eqb g.string s).0 e) ∙ ap (option_map (links_at g.forward)) none
 
 loose_next : (s from to t : ℕ) (f : Bool) → s ≡ t → (links_at f (loose_ends s from to)).next ≡ record { string = t; forward = not f }
@@ -101,7 +101,7 @@ loose_face : (s from to : ℕ) (f : Bool) → (links_at f (loose_ends s from to)
 loose_face s from to true = refl
 loose_face s from to false = refl
 
-pub added : (old new : Rows) (s from to : ℕ) → strings new ≡ strings old ++ s ∷ [] → ((q : ℕ) → lookup (nat_eq q) new ≡ cond (nat_eq s q) (Some (loose_ends s from to)) (lookup (nat_eq q) old)) → AddsLoose s from to old new
+pub added : (old new : HalfRows) (s from to : ℕ) → strings new ≡ strings old ++ s ∷ [] → ((q : ℕ) → lookup (nat_eq q) new ≡ cond (nat_eq s q) (Some (loose_ends s from to)) (lookup (nat_eq q) old)) → AddsLoose s from to old new
 added old new s from to held put = record {
   strings = held;
   next = λ g. read old new s (Some (loose_ends s from to)) put (λ o. option_map_or (λ (l : Links). l.next) o g) g
@@ -109,23 +109,23 @@ added old new s from to held put = record {
   prev = λ g. read old new s (Some (loose_ends s from to)) put (λ o. option_map_or (λ (l : Links). l.prev) o g) g
       ∙ if-agree (nat_eq g.string s) _ (twin g) (prev old g) (λ e. loose_prev s from to g.string g.forward (sym ((Decides-eqb g.string s).0 e)));
   origin = λ g. read old new s (Some (loose_ends s from to)) put (λ o. option_map_or (λ (l : Links). l.origin) o 0) g
-      ∙ if-agree (nat_eq g.string s) _ (if g.forward then from else to) (origin old g) (λ e. loose_origin s from to g.forward);
+      ∙ if-agree (nat_eq g.string s) _ (if g.forward then from else to) (origin_of old g) (λ e. loose_origin s from to g.forward);
   face = λ g. read old new s (Some (loose_ends s from to)) put (λ o. option_map_or (λ (l : Links). l.face) o Outside) g
       ∙ if-agree (nat_eq g.string s) _ Outside (face old g) (λ e. loose_face s from to g.forward);
   has = λ g. read old new s (Some (loose_ends s from to)) put is_some g;
 }
 
-pub added-linked : (old new : Rows) (s from to : ℕ) → IsLinked old → IsDistinct nat_eq (strings new) → lookup (nat_eq s) old ≡ None → AddsLoose s from to old new → IsLinked new
+pub added-linked : (old new : HalfRows) (s from to : ℕ) → IsLinked old → IsDistinct nat_eq (strings new) → lookup (nat_eq s) old ≡ None → AddsLoose s from to old new → IsLinked new
 added-linked old new s from to linked unique none a =
     patched-linked old new s twin true linked unique a.next a.prev a.has (λ g. refl) twin-twin
     (λ g e. ap (λ o. nat_eq (option_map_or (λ (l : Links). l.next) o g).string s) (absent old s none g e) ∙ e)
     (λ g e. ap (λ o. nat_eq (option_map_or (λ (l : Links). l.prev) o g).string s) (absent old s none g e) ∙ e)
 
-pub removed : (old new : Rows) (s : ℕ) → has_string old s ≡ true → new ≡ swap_remove_entry (nat_eq s) old → ((q : ℕ) → lookup (nat_eq q) new ≡ cond (nat_eq s q) None (lookup (nat_eq q) old)) → RemovesLoose s old new
+pub removed : (old new : HalfRows) (s : ℕ) → has_halves old s ≡ true → new ≡ swap_remove_entry (nat_eq s) old → ((q : ℕ) → lookup (nat_eq q) new ≡ cond (nat_eq s q) None (lookup (nat_eq q) old)) → RemovesLoose s old new
 removed old new s there swapped put = record {
   strings =
-      let gone : has_string new s ≡ false = ap is_some (put s) ∙ ap (λ b. is_some (cond b None (lookup (nat_eq s) old))) ((Decides-eqb s s).1 refl) in
-      subst (λ l. IsPermutation (strings old) (s ∷ strings l)) (sym swapped) (swapped-out old s there (ap (λ l. has_string l s) (sym swapped) ∙ gone));
+      let gone : has_halves new s ≡ false = ap is_some (put s) ∙ ap (λ b. is_some (cond b None (lookup (nat_eq s) old))) ((Decides-eqb s s).1 refl) in
+      subst (λ l. IsPermutation (strings old) (s ∷ strings l)) (sym swapped) (swapped-out old s there (ap (λ l. has_halves l s) (sym swapped) ∙ gone));
   next = λ g. read old new s None put (λ o. option_map_or (λ (l : Links). l.next) o g) g;
   prev = λ g. read old new s None put (λ o. option_map_or (λ (l : Links). l.prev) o g) g;
   origin = λ g. read old new s None put (λ o. option_map_or (λ (l : Links). l.origin) o 0) g;
@@ -134,15 +134,15 @@ removed old new s there swapped put = record {
 }
 
 -- what follows a half of a loose string
-pub loose-follows : (rows : Rows) (s : ℕ) → IsLoose s rows → (g : Half) → nat_eq g.string s ≡ true → (f : Bool) → g.forward ≡ f → next rows g ≡ record { string = s; forward = not f }
+pub loose-follows : (rows : HalfRows) (s : ℕ) → IsLoose s rows → (g : Half) → nat_eq g.string s ≡ true → (f : Bool) → g.forward ≡ f → next rows g ≡ record { string = s; forward = not f }
 loose-follows rows s loose g e true d = ap (next rows) (λ i. record { string = (Decides-eqb g.string s).0 e i; forward = d i }) ∙ loose.forward
 loose-follows rows s loose g e false d = ap (next rows) (λ i. record { string = (Decides-eqb g.string s).0 e i; forward = d i }) ∙ loose.backward
 
-loose-before : (rows : Rows) (s : ℕ) → IsLinked rows → IsLoose s rows → (g : Half) → nat_eq g.string s ≡ true → (f : Bool) → g.forward ≡ f → prev rows g ≡ record { string = s; forward = not f }
+loose-before : (rows : HalfRows) (s : ℕ) → IsLinked rows → IsLoose s rows → (g : Half) → nat_eq g.string s ≡ true → (f : Bool) → g.forward ≡ f → prev rows g ≡ record { string = s; forward = not f }
 loose-before rows s linked loose g e true d = ap (prev rows) ((λ i. record { string = (Decides-eqb g.string s).0 e i; forward = d i }) ∙ sym loose.backward) ∙ linked.prev_next (backward_of s)
 loose-before rows s linked loose g e false d = ap (prev rows) ((λ i. record { string = (Decides-eqb g.string s).0 e i; forward = d i }) ∙ sym loose.forward) ∙ linked.prev_next (forward_of s)
 
-pub removed-linked : (old new : Rows) (s : ℕ) → IsLinked old → IsDistinct nat_eq (strings new) → IsLoose s old → RemovesLoose s old new → IsLinked new
+pub removed-linked : (old new : HalfRows) (s : ℕ) → IsLinked old → IsDistinct nat_eq (strings new) → IsLoose s old → RemovesLoose s old new → IsLinked new
 removed-linked old new s linked unique loose r =
     patched-linked old new s (λ g. g) false linked unique r.next r.prev r.has (λ g. refl) (λ g. refl)
     (λ g e. ap (λ (h : Half). nat_eq h.string s) (loose-follows old s loose g e g.forward refl) ∙ (Decides-eqb s s).1 refl)

@@ -4,7 +4,7 @@ use Rattle.std.proofs.lemmas.Bool.Decides.{Decides-eqb}
 use Rattle.half_table.specs.declared.half.Half.{Half}
 use Rattle.half_table.specs.Half.{is_half, twin, forward_of, backward_of}
 use Rattle.half_table.specs.Cycle.{holds, IsCycle}
-use Rattle.half_table.specs.Rows.{Rows, has_string, has, next, prev, IsLinked, HasCycle}
+use Rattle.half_table.specs.Rows.{HalfRows, has_halves, has, next, prev, IsLinked, HasCycle}
 use Rattle.half_table.specs.Surgery.{AddsLoose, AddsCycle, IsLoose, RemovesLoose, RemovesCycle}
 use Rattle.half_table.proofs.Halves.{is_half-self, is_half-same, is_half-twin, twin-twin}
 use Rattle.half_table.proofs.Cycles.{walked-so, walk-passes, or_true, or_right}
@@ -13,7 +13,7 @@ use Rattle.half_table.proofs.Strings.{has-string}
 use Rattle.half_table.proofs.Loose.{loose-follows}
 
 -- the big table has the halves of the string s, each the next of the other, and the small one has not; otherwise they are the same
-module _ (small big : Rows) (s : ℕ) (linked : IsLinked big)
+module _ (small big : HalfRows) (s : ℕ) (linked : IsLinked big)
     (next_is : (g : Half) → nat_eq g.string s ≡ false → next big g ≡ next small g)
     (has_is : (g : Half) → nat_eq g.string s ≡ false → has big g ≡ has small g)
     (twins : (g : Half) → nat_eq g.string s ≡ true → next big g ≡ twin g)
@@ -107,20 +107,20 @@ module _ (small big : Rows) (s : ℕ) (linked : IsLinked big)
         only = only;
       }
 
-pub added-cycle : (old new : Rows) (s from to : ℕ) → IsLinked new → has_string old s ≡ false → AddsLoose s from to old new → AddsCycle s old new
+pub added-cycle : (old new : HalfRows) (s from to : ℕ) → IsLinked new → has_halves old s ≡ false → AddsLoose s from to old new → AddsCycle s old new
 added-cycle old new s from to linked fresh a =
     adds old new s linked
     (λ g e. a.next g ∙ ap (λ b. if b then twin g else next old g) e)
     (λ g e. a.has g ∙ ap (λ b. if b then true else has old g) e)
     (λ g e. a.next g ∙ ap (λ b. if b then twin g else next old g) e)
     (λ g e. a.has g ∙ ap (λ b. if b then true else has old g) e)
-    (λ g e. has-string old g ∙ ap (has_string old) ((Decides-eqb g.string s).0 e) ∙ fresh)
+    (λ g e. has-string old g ∙ ap (has_halves old) ((Decides-eqb g.string s).0 e) ∙ fresh)
 
-pub removed-cycle : (old new : Rows) (s : ℕ) → IsLinked old → IsLoose s old → RemovesLoose s old new → RemovesCycle s old new
+pub removed-cycle : (old new : HalfRows) (s : ℕ) → IsLinked old → IsLoose s old → RemovesLoose s old new → RemovesCycle s old new
 removed-cycle old new s linked loose r =
     adds new old s linked
     (λ g e. sym (r.next g ∙ ap (λ b. if b then g else next old g) e))
     (λ g e. sym (r.has g ∙ ap (λ b. if b then false else has old g) e))
     (λ g e. loose-follows old s loose g e g.forward refl ∙ (λ i. record { string = sym ((Decides-eqb g.string s).0 e) i; forward = not g.forward }))
-    (λ g e. has-string old g ∙ ap (has_string old) ((Decides-eqb g.string s).0 e) ∙ loose.there)
+    (λ g e. has-string old g ∙ ap (has_halves old) ((Decides-eqb g.string s).0 e) ∙ loose.there)
     (λ g e. r.has g ∙ ap (λ b. if b then false else has old g) e)

@@ -6,7 +6,7 @@ use Rattle.half_table.specs.declared.half.Half.{Half}
 use Rattle.half_table.specs.Half.{is_half}
 use Rattle.half_table.specs.Cycle.{holds, IsRun, orbit}
 use Rattle.half_table.specs.Count.{one_more, ticked}
-use Rattle.half_table.specs.Rows.{Rows, has, next, prev, face, halves, cycle, IsLinked}
+use Rattle.half_table.specs.Rows.{HalfRows, has, next, prev, face, halves, cycle, IsLinked}
 use Rattle.half_table.specs.Writes.{ChangesFace}
 use Rattle.half_table.specs.Surgery.{Relabels}
 use Rattle.half_table.proofs.Halves.{is_half-self}
@@ -14,7 +14,7 @@ use Rattle.half_table.proofs.Cycles.{holds-append}
 use Rattle.half_table.proofs.Closed.{orbit-is, cycle-closes, cycle-once, few, cycle-inside}
 
 -- the halves done have the face, and those left still follow
-pub record Relabelling (old : Rows) (h : Half) (to : Face) (w : ℕ) (rows : Rows) (at : Half) (n : ℕ) : Type 0 where
+pub record Relabelling (old : HalfRows) (h : Half) (to : Face) (w : ℕ) (rows : HalfRows) (at : Half) (n : ℕ) : Type 0 where
   pub done : List Half
   pub left : List Half
   pub is : cycle old h ≡ done ++ left
@@ -25,10 +25,10 @@ pub record Relabelling (old : Rows) (h : Half) (to : Face) (w : ℕ) (rows : Row
   pub work : n ≡ ticked (length done) w
 
 -- how many are left
-abbrev pub halves_left : Rows → Half → Half → ℕ
+abbrev pub halves_left : HalfRows → Half → Half → ℕ
 halves_left old h at = length (orbit (next old) (length (halves old)) h at)
 
-one_step : (old mid new : Rows) (ring : List Half) (x : Half) (to : Face) → Relabels ring to old mid → ChangesFace x to mid new → Relabels (ring ++ x ∷ []) to old new
+one_step : (old mid new : HalfRows) (ring : List Half) (x : Half) (to : Face) → Relabels ring to old mid → ChangesFace x to mid new → Relabels (ring ++ x ∷ []) to old new
 one_step old mid new ring x to r c = record {
   face = λ g. c.face g ∙ ap (λ v. if is_half g x then to else v) (r.face g) ∙ both_ways (is_half g x) (holds ring g) (face old g)
       ∙ ap (λ b. if b then to else face old g) (sym (holds-append ring (x ∷ []) g));
@@ -49,7 +49,7 @@ one_tick : (xs : List Half) (y : Half) (w : ℕ) → ticked (length (xs ++ y ∷
 one_tick [] y w = refl
 one_tick (x ∷ xs) y w = one_tick xs y (one_more w)
 
-pub begun : (old rows : Rows) (h at : Half) (to : Face) (w n : ℕ) → IsLinked old → has old h ≡ true → ChangesFace h to old rows → n ≡ one_more w → at ≡ next rows h → Relabelling old h to w rows at n
+pub begun : (old rows : HalfRows) (h at : Half) (to : Face) (w n : ℕ) → IsLinked old → has old h ≡ true → ChangesFace h to old rows → n ≡ one_more w → at ≡ next rows h → Relabelling old h to w rows at n
 begun old rows h at to w n linked h_in c is_n is_at =
     let here : at ≡ next old h = is_at ∙ c.next h in
     let all : length (cycle old h) ≤ length (halves old) = few old linked (cycle old h) (cycle-once old linked h) (λ q s. cycle-inside old linked h q h_in s) in
@@ -72,8 +72,8 @@ run-ended : (nx : Half → Half) (h at : Half) (xs : List Half) → IsRun nx h a
 run-ended nx h at [] r e = refl
 run-ended nx h at (x ∷ xs) r e = absurd (true≢false (sym e ∙ r.1))
 
-module _ (old : Rows) (h : Half) (to : Face) (w : ℕ) (rows : Rows) (at : Half) (n : ℕ) (s : Relabelling old h to w rows at n) where
-  pub further : (new : Rows) (after : Half) (m : ℕ) → IsLinked old → is_half at h ≡ false → ChangesFace at to rows new → m ≡ one_more n → after ≡ next new at → Relabelling old h to w new after m
+module _ (old : HalfRows) (h : Half) (to : Face) (w : ℕ) (rows : HalfRows) (at : Half) (n : ℕ) (s : Relabelling old h to w rows at n) where
+  pub further : (new : HalfRows) (after : Half) (m : ℕ) → IsLinked old → is_half at h ≡ false → ChangesFace at to rows new → m ≡ one_more n → after ≡ next new at → Relabelling old h to w new after m
   further new after m linked other c is_m is_after =
       let r = run-cases (next old) h at s.left s.run other in
       let here : after ≡ next old at = is_after ∙ c.next at ∙ s.relabels.next at in
@@ -89,7 +89,7 @@ module _ (old : Rows) (h : Half) (to : Face) (w : ℕ) (rows : Rows) (at : Half)
         work = is_m ∙ ap one_more s.work ∙ sym (one_tick s.done at w);
       }
 
-  pub fewer : (after : Half) (new : Rows) → is_half at h ≡ false → ChangesFace at to rows new → after ≡ next new at → halves_left old h after < halves_left old h at
+  pub fewer : (after : Half) (new : HalfRows) → is_half at h ≡ false → ChangesFace at to rows new → after ≡ next new at → halves_left old h after < halves_left old h at
   fewer after new other c is_after =
       let r = run-cases (next old) h at s.left s.run other in
       let here : after ≡ next old at = is_after ∙ c.next at ∙ s.relabels.next at in
@@ -107,7 +107,7 @@ module _ (old : Rows) (h : Half) (to : Face) (w : ℕ) (rows : Rows) (at : Half)
       append_nil [] = refl
       append_nil (x ∷ xs) = ap (λ t. x ∷ t) (append_nil xs)
 
-pub relabelled-linked : (old new : Rows) (ring : List Half) (to : Face) → IsLinked old → Relabels ring to old new → IsLinked new
+pub relabelled-linked : (old new : HalfRows) (ring : List Half) (to : Face) → IsLinked old → Relabels ring to old new → IsLinked new
 relabelled-linked old new ring to l r = record {
   distinct = subst (IsDistinct nat_eq) (sym r.strings) l.distinct;
   prev_next = λ h. r.prev (next new h) ∙ ap (prev old) (r.next h) ∙ l.prev_next h;

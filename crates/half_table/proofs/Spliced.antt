@@ -6,22 +6,22 @@ use Rattle.half_table.specs.declared.half.Half.{Half}
 use Rattle.half_table.specs.declared.links.Links.{Links}
 use Rattle.half_table.specs.Half.{is_half}
 use Rattle.half_table.specs.Cycle.{exchanged}
-use Rattle.half_table.specs.Rows.{Rows, links_of, has, next, prev, IsLinked}
+use Rattle.half_table.specs.Rows.{HalfRows, links_of, has, next, prev, IsLinked}
 use Rattle.half_table.specs.Writes.{ChangesNext, ChangesPrev}
 use Rattle.half_table.specs.Surgery.{IsSpliced}
 use Rattle.half_table.proofs.Halves.{cases_half, exchanged-first, exchanged-second, exchanged-other, exchanged-undone}
 
-pub next-links : (rows : Rows) (h : Half) (l : Links) → links_of rows h ≡ Some l → l.next ≡ next rows h
+pub next-links : (rows : HalfRows) (h : Half) (l : Links) → links_of rows h ≡ Some l → l.next ≡ next rows h
 next-links rows h l e = sym (ap (λ o. option_map_or (λ (l : Links). l.next) o h) e)
 
-pub has-next : (rows : Rows) (h : Half) (l : Links) → IsLinked rows → links_of rows h ≡ Some l → has rows h ≡ true → has rows l.next ≡ true
+pub has-next : (rows : HalfRows) (h : Half) (l : Links) → IsLinked rows → links_of rows h ≡ Some l → has rows h ≡ true → has rows l.next ≡ true
 has-next rows h l linked e in_table = ap (has rows) (next-links rows h l e) ∙ linked.inside h ∙ in_table
 
-pub has-prev : (rows : Rows) (h : Half) (l : Links) → IsLinked rows → links_of rows h ≡ Some l → has rows h ≡ true → has rows l.prev ≡ true
+pub has-prev : (rows : HalfRows) (h : Half) (l : Links) → IsLinked rows → links_of rows h ≡ Some l → has rows h ≡ true → has rows l.prev ≡ true
 has-prev rows h l linked e in_table =
     ap (has rows) (sym (ap (λ o. option_map_or (λ (l : Links). l.prev) o h) e)) ∙ sym (linked.inside (prev rows h)) ∙ ap (has rows) (linked.next_prev h) ∙ in_table
 
-pub spliced : (o r1 r2 r3 r4 : Rows) (a b A B : Half) → A ≡ next o a → B ≡ next o b → IsLinked o
+pub spliced : (o r1 r2 r3 r4 : HalfRows) (a b A B : Half) → A ≡ next o a → B ≡ next o b → IsLinked o
     → ChangesNext b A o r1 → ChangesNext a B r1 r2 → ChangesPrev B a r2 r3 → ChangesPrev A b r3 r4 → IsSpliced a b o r4
 spliced o r1 r2 r3 r4 a b A B is_A is_B linked c1 c2 c3 c4 = record {
   next = λ g. c4.next g ∙ c3.next g ∙ c2.next g ∙ ap (λ v. if is_half g a then B else v) (c1.next g)
@@ -37,7 +37,7 @@ spliced o r1 r2 r3 r4 a b A B is_A is_B linked c1 c2 c3 c4 = record {
 }
 
 -- what follows what is kept in step
-pub spliced-linked : (old new : Rows) (a b : Half) → IsLinked old → has old a ≡ true → has old b ≡ true → IsSpliced a b old new → IsLinked new
+pub spliced-linked : (old new : HalfRows) (a b : Half) → IsLinked old → has old a ≡ true → has old b ≡ true → IsSpliced a b old new → IsLinked new
 spliced-linked old new a b linked a_in b_in s = record {
   distinct = subst (IsDistinct nat_eq) (sym s.halves.strings) linked.distinct;
   prev_next = λ h. s.prev (next new h) ∙ ap (exchanged (next old a) (next old b) (prev old)) (s.next h)

@@ -14,7 +14,7 @@ use Rattle.half_table.specs.declared.half.Half.{Half}
 use Rattle.half_table.specs.declared.links.Ends.{Ends}
 use Rattle.half_table.specs.Half.{forward_of, backward_of}
 use Rattle.half_table.specs.Cycle.{holds, IsOnce}
-use Rattle.half_table.specs.Rows.{Rows, strings, has_string, links_at, has, halves_of, halves}
+use Rattle.half_table.specs.Rows.{HalfRows, strings, has_halves, links_at, has, halves_of, halves}
 use Rattle.half_table.proofs.Halves.{is_half-twin}
 
 -- a number under which a look-up finds nothing
@@ -35,12 +35,12 @@ keys-insert_entry (e ∷ es) s v none = by (keys-insert_entry es s v) (nat_eq s 
         ap (λ b. keys_of (if b then (e.0, v) ∷ es else e ∷ insert_entry nat_eq es s v)) p ∙ ap (λ ks. e.0 ∷ ks) (ih later)
 
 -- a string that is taken out, the last taking its place
-pub swapped-out : (es : Rows) (s : ℕ) → has_string es s ≡ true → has_string (swap_remove_entry (nat_eq s) es) s ≡ false → IsPermutation (strings es) (s ∷ strings (swap_remove_entry (nat_eq s) es))
+pub swapped-out : (es : HalfRows) (s : ℕ) → has_halves es s ≡ true → has_halves (swap_remove_entry (nat_eq s) es) s ≡ false → IsPermutation (strings es) (s ∷ strings (swap_remove_entry (nat_eq s) es))
 swapped-out [] s there gone = absurd (true≢false (sym there))
 swapped-out (e ∷ es) s there gone = by (position (nat_eq s) (keys_of (e ∷ es))) refl
   where
     by : (o : Option ℕ) → position (nat_eq s) (keys_of (e ∷ es)) ≡ o → IsPermutation (strings (e ∷ es)) (s ∷ strings (swap_remove_entry (nat_eq s) (e ∷ es)))
-    by None p = absurd (true≢false (sym there ∙ ap (λ l. has_string l s) (sym (swap_remove_entry-missing (nat_eq s) (e ∷ es) p)) ∙ gone))
+    by None p = absurd (true≢false (sym there ∙ ap (λ l. has_halves l s) (sym (swap_remove_entry-missing (nat_eq s) (e ∷ es) p)) ∙ gone))
     by (Some i) p =
         let at = position-Some (nat_eq s) (keys_of (e ∷ es)) i s p in
         let below : i < length (keys_of (e ∷ es)) = at.0 in
@@ -53,7 +53,7 @@ swapped-out (e ∷ es) s there gone = by (position (nat_eq s) (keys_of (e ∷ es
         (IsPermutation-map (λ (y : ℕ × Ends). y.0) (e ∷ es) (x ∷ swap_remove (e ∷ es) i x) moves))
 
 -- a half is there where its string is
-pub has-string : (rows : Rows) (h : Half) → has rows h ≡ has_string rows h.string
+pub has-string : (rows : HalfRows) (h : Half) → has rows h ≡ has_halves rows h.string
 has-string rows h = by (lookup (nat_eq h.string) rows)
   where
     by : (o : Option Ends) → is_some (option_map (links_at h.forward) o) ≡ is_some o
@@ -61,7 +61,7 @@ has-string rows h = by (lookup (nat_eq h.string) rows)
     by (Some e) = refl
 
 -- a string is there where its number is listed
-pub has_string-strings : (rows : Rows) (s : ℕ) → has_string rows s ≡ list_any (nat_eq s) (strings rows)
+pub has_string-strings : (rows : HalfRows) (s : ℕ) → has_halves rows s ≡ list_any (nat_eq s) (strings rows)
 has_string-strings [] s = refl
 has_string-strings (e ∷ es) s = push (nat_eq s e.0) ∙ ap (λ v. nat_eq s e.0 || v) (has_string-strings es s)
   where
@@ -70,7 +70,7 @@ has_string-strings (e ∷ es) s = push (nat_eq s e.0) ∙ ap (λ v. nat_eq s e.0
     push false = refl
 
 -- the list of all halves has those of the strings that are there
-pub halves-holds : (rows : Rows) (q : Half) → holds (halves rows) q ≡ has_string rows q.string
+pub halves-holds : (rows : HalfRows) (q : Half) → holds (halves rows) q ≡ has_halves rows q.string
 halves-holds [] q = refl
 halves-holds (e ∷ es) q = by (halves-holds es q) (nat_eq q.string e.0) refl
   where
@@ -78,7 +78,7 @@ halves-holds (e ∷ es) q = by (halves-holds es q) (nat_eq q.string e.0) refl
     side true x = refl
     side false x = refl
 
-    by : holds (halves es) q ≡ has_string es q.string → (b : Bool) → nat_eq q.string e.0 ≡ b → holds (halves (e ∷ es)) q ≡ has_string (e ∷ es) q.string
+    by : holds (halves es) q ≡ has_halves es q.string → (b : Bool) → nat_eq q.string e.0 ≡ b → holds (halves (e ∷ es)) q ≡ has_halves (e ∷ es) q.string
     by ih true p =
         ap (λ v. (v && beq q.forward true) || ((v && beq q.forward false) || holds (halves es) q)) p ∙ side q.forward (holds (halves es) q)
         ∙ sym (ap (λ v. is_some (cond v (Some e.1) (lookup (nat_eq q.string) es))) p)
@@ -86,7 +86,7 @@ halves-holds (e ∷ es) q = by (halves-holds es q) (nat_eq q.string e.0) refl
         ap (λ v. (v && beq q.forward true) || ((v && beq q.forward false) || holds (halves es) q)) p ∙ ih
         ∙ sym (ap (λ v. is_some (cond v (Some e.1) (lookup (nat_eq q.string) es))) p)
 
-pub in_halves : (rows : Rows) (q : Half) → has rows q ≡ true → holds (halves rows) q ≡ true
+pub in_halves : (rows : HalfRows) (q : Half) → has rows q ≡ true → holds (halves rows) q ≡ true
 in_halves rows q e = halves-holds rows q ∙ sym (has-string rows q) ∙ e
 
 not_held : (numbers : List ℕ) (h : Half) → AllByRecursion (λ n. nat_eq h.string n ≡ false) numbers → holds (halves_of numbers) h ≡ false

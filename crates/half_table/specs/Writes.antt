@@ -5,7 +5,7 @@ use Rattle.half_table.specs.declared.half.Half.{Half}
 use Rattle.half_table.specs.declared.links.Links.{Links}
 use Rattle.half_table.specs.declared.links.Ends.{Ends}
 use Rattle.half_table.specs.Half.{is_half}
-use Rattle.half_table.specs.Rows.{Rows, strings, has, next, prev, origin, face}
+use Rattle.half_table.specs.Rows.{HalfRows, strings, has, next, prev, origin_of, face}
 
 -- the ends with other links at one of them
 abbrev pub with_links_at : Bool → Links → Ends → Ends
@@ -20,28 +20,28 @@ abbrev pub set_at : {V : Type 0} → Half → V → (Half → V) → Half → V
 set_at h v f g = if is_half g h then v else f g
 
 -- the next of h is changed, and nothing else
-pub record ChangesNext (h to : Half) (old new : Rows) : Type 0 where
+pub record ChangesNext (h to : Half) (old new : HalfRows) : Type 0 where
   pub strings : strings new ≡ strings old
   pub has : (g : Half) → has new g ≡ has old g
   pub next : (g : Half) → next new g ≡ set_at h to (next old) g
   pub prev : (g : Half) → prev new g ≡ prev old g
-  pub origin : (g : Half) → origin new g ≡ origin old g
+  pub origin : (g : Half) → origin_of new g ≡ origin_of old g
   pub face : (g : Half) → face new g ≡ face old g
 
 -- the prev of h is changed, and nothing else
-pub record ChangesPrev (h to : Half) (old new : Rows) : Type 0 where
+pub record ChangesPrev (h to : Half) (old new : HalfRows) : Type 0 where
   pub strings : strings new ≡ strings old
   pub has : (g : Half) → has new g ≡ has old g
   pub next : (g : Half) → next new g ≡ next old g
   pub prev : (g : Half) → prev new g ≡ set_at h to (prev old) g
-  pub origin : (g : Half) → origin new g ≡ origin old g
+  pub origin : (g : Half) → origin_of new g ≡ origin_of old g
   pub face : (g : Half) → face new g ≡ face old g
 
 -- the face of h is changed, and nothing else
-pub record ChangesFace (h : Half) (to : Face) (old new : Rows) : Type 0 where
+pub record ChangesFace (h : Half) (to : Face) (old new : HalfRows) : Type 0 where
   pub strings : strings new ≡ strings old
   pub has : (g : Half) → has new g ≡ has old g
   pub next : (g : Half) → next new g ≡ next old g
   pub prev : (g : Half) → prev new g ≡ prev old g
-  pub origin : (g : Half) → origin new g ≡ origin old g
+  pub origin : (g : Half) → origin_of new g ≡ origin_of old g
   pub face : (g : Half) → face new g ≡ set_at h to (face old) g

@@ -2,7 +2,7 @@
 ghost use Rattle.std.specs.Prelude.{◌≡◌, ◌≤◌, true, false, length, OnOk, OnErr};
 ghost use Rattle.half_table.specs.Count.{ticked};
 ghost use Rattle.half_table.specs.Half.{half_of};
-ghost use Rattle.half_table.specs.Rows.{has_string, has, cycle, IsLinked};
+ghost use Rattle.half_table.specs.Rows.{has_halves, has, cycle, IsLinked};
 ghost use Rattle.half_table.specs.Surgery.{IsUnchanged, IsSpliced, SplicesBack, SplicesCycles, Relabels, AddsLoose, AddsCycle, IsLoose, links_to, RemovesLoose, RemovesCycle};
 
 use crate::half::{Half, is_same};
@@ -56,7 +56,7 @@ pub(crate) fn put_loose(
     from: &PointNo,
     to: &PointNo,
 ) -> Result<(), Memory>
-    requires fresh { has_string rows.old.entries string.now ≡ false }
+    requires fresh { has_halves rows.old.entries string.now ≡ false }
     requires linked { IsLinked rows.old.entries }
     ensures adds { OnOk result (AddsLoose string.now from.now to.now rows.old.entries rows.new.entries) }
     ensures cycle { OnOk result (AddsCycle string.now rows.old.entries rows.new.entries) }

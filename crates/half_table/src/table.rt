@@ -2,7 +2,7 @@
 ghost use Rattle.std.specs.Prelude.{◌≡◌, ◌≤◌, Bool, [], ◌∷◌, true, false, List, Some, length, OnOk, OnErr};
 ghost use Rattle.half_table.specs.Count.{one_more, ticked};
 ghost use Rattle.half_table.specs.Half.{half_of, twin};
-ghost use Rattle.half_table.specs.Rows.{has_string, links_of, has, next, prev, origin, face, IsLinked, cycle, HasCycle};
+ghost use Rattle.half_table.specs.Rows.{has_halves, links_of, has, next, prev, origin_of, face, IsLinked, cycle, HasCycle};
 ghost use Rattle.half_table.specs.Surgery.{IsUnchanged, IsSpliced, SplicesBack, SplicesCycles, Relabels, AddsLoose, AddsCycle, IsLoose, RemovesLoose, RemovesCycle};
 
 use crate::changes::{exchange, put_loose, relabel_cycle, take_loose};
@@ -50,7 +50,7 @@ impl<T: Tally> HalfTable<T> {
 
     /// Whether the table holds the halves of a string.
     pub fn has_string(&self, string: StringNo) -> bool
-        ensures is { result ≡ has_string self.now.rows string }
+        ensures is { result ≡ has_halves self.now.rows string }
         ensures halves { (forward : Bool) → has self.now.rows (half_of string forward) ≡ result }
     {
         self.rows.contains_key(&string)
@@ -78,7 +78,7 @@ impl<T: Tally> HalfTable<T> {
     /// The point where a half begins.
     pub fn origin(&self, h: Half) -> PointNo
         requires { has self.now.rows h ≡ true }
-        ensures { result ≡ origin self.now.rows h }
+        ensures { result ≡ origin_of self.now.rows h }
     {
         self.links(&h).origin
     }
@@ -124,7 +124,7 @@ impl<T: Tally> HalfTable<T> {
     /// A new string from one point to another: each of its halves is the other's next and prev,
     /// and its face is the outside. Where memory runs out the table and its tally stay as they were.
     pub fn add_loose(&mut self, string: StringNo, from: PointNo, to: PointNo) -> Result<(), Memory>
-        requires { has_string self.old.rows string ≡ false }
+        requires { has_halves self.old.rows string ≡ false }
         ensures adds { OnOk result (AddsLoose string from to self.old.rows self.new.rows) }
         ensures cycle { OnOk result (AddsCycle string self.old.rows self.new.rows) }
         ensures linked { IsLinked self.new.rows }

@@ -4,13 +4,13 @@ use Rattle.std.specs.List.{AllByRecursion, Contains}
 use Rattle.sweep.specs.declared.span.Span.{Span}
 
 -- the relation holds between each element and each later one
-abbrev pub EachPair : {X : Type 0} → (X → X → Type 0) → List X → Type 0
-EachPair R [] = ⊤
-EachPair R (x ∷ xs) = AllByRecursion (R x) xs × EachPair R xs
+abbrev pub EachTwo : {X : Type 0} → (X → X → Type 0) → List X → Type 0
+EachTwo R [] = ⊤
+EachTwo R (x ∷ xs) = AllByRecursion (R x) xs × EachTwo R xs
 
 -- in order of their beginnings
 abbrev pub IsRising : List Span → Type 0
-IsRising spans = EachPair (λ a b. a.low ≤ b.low) spans
+IsRising spans = EachTwo (λ a b. a.low ≤ b.low) spans
 
 -- where they are of two things, and the second begins before the first ends, the two pass the test
 abbrev pub PassIfMet : (ℕ → ℕ → Bool) → Span → Span → Type 0

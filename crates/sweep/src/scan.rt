@@ -2,7 +2,7 @@
 ghost use Rattle.std.specs.Prelude.{◌≡◌, ◌≢◌, ℕ, Bool, drop};
 ghost use Rattle.std.specs.Bool.{OnTrue, OnFalse};
 ghost use Rattle.std.specs.List.{AllByRecursion};
-ghost use Rattle.sweep.specs.Spans.{EachPair, IsRising, PassIfMet, AllThatMeetPass};
+ghost use Rattle.sweep.specs.Spans.{EachTwo, IsRising, PassIfMet, AllThatMeetPass};
 ghost use Rattle.sweep.specs.Spans.{HasFailed, HasFailedWith};
 
 use crate::span::Span;
@@ -33,7 +33,7 @@ pub fn all_that_meet_pass<T: PairTest>(test: &T, spans: &mut [Span]) -> bool
 // Whether each two of these spans that overlap pass.
 fn passes_each<T: PairTest>(test: &T, spans: &[Span]) -> bool
     requires { IsRising spans.now }
-    ensures passed { OnTrue result (EachPair (PassIfMet (T.passes test.now)) spans.now) }
+    ensures passed { OnTrue result (EachTwo (PassIfMet (T.passes test.now)) spans.now) }
     ensures failed { OnFalse result (HasFailed (T.passes test.now) spans.now) }
 {
     for place in 0..spans.len() {

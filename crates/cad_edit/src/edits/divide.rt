@@ -7,7 +7,7 @@ ghost use Rattle.cad_map.specs.Valid.{IsValid};
 ghost use Rattle.cad_map.specs.Refusals.{unknown, bad_chain, not_in_parcel, chain_joins_rings, first_of, first_refusal as first_refusal_of};
 ghost use Rattle.cad_rows.specs.declared.names.Face.TheVariants.{Parcel};
 ghost use Rattle.cad_rings.specs.Cycle.{has_side, sides_of};
-ghost use Rattle.cad_map.specs.Boundaries.{listed};
+ghost use Rattle.cad_map.specs.Boundaries.{canonical_order};
 ghost use Rattle.cad_map.specs.Division.{ring_with, hole_placed as hole_placed_of, boundaries_divided};
 ghost use Rattle.cad_map.specs.Rings.{HasWholeRings};
 ghost use Rattle.cad_edit.specs.Admitted.{HasCorners};
@@ -116,7 +116,7 @@ fn divided_boundaries(
     requires points { AllByRecursion (λ p. IsTrue (has_point map.now p)) chain.now }
     requires apart { first.now.at ≢ last.now.at }
     requires one_ring { IsTrue (list_any (λ r. has_side (leaving first.now) (sides_of r) && has_side (leaving last.now) (sides_of r)) (rings_of map.now face)) }
-    ensures { IfOk result (λ made. listed made.items ≡ listed (boundaries_divided map.now face (Parcel new) chain.now first.now last.now)) }
+    ensures { IfOk result (λ made. canonical_order made.items ≡ canonical_order (boundaries_divided map.now face (Parcel new) chain.now first.now last.now)) }
 {
     let (left, right) = cut_along(map.boundaries(), chain, first, last)?;
     let parcel = Face::Parcel(new);

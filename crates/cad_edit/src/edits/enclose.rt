@@ -5,7 +5,7 @@ ghost use Rattle.cad_map.specs.Chain.{start_of};
 ghost use Rattle.cad_map.specs.Map.{has_point};
 ghost use Rattle.cad_map.specs.Valid.{IsValid};
 ghost use Rattle.cad_rows.specs.declared.names.Face.TheVariants.{Parcel};
-ghost use Rattle.cad_map.specs.Boundaries.{listed};
+ghost use Rattle.cad_map.specs.Boundaries.{canonical_order};
 ghost use Rattle.cad_map.specs.Division.{hole_placed as hole_placed_of, boundaries_enclosed};
 ghost use Rattle.cad_map.specs.Rings.{HasWholeRings};
 ghost use Rattle.cad_map.specs.Refusals.{first_refusal as first_refusal_of};
@@ -63,7 +63,7 @@ pub(crate) fn enclosed_boundaries(
     requires whole { HasWholeRings map.now }
     requires long { 2 ≤ length points.now }
     requires points { AllByRecursion (λ p. IsTrue (has_point map.now p)) points.now }
-    ensures { IfOk result (λ made. listed made.items ≡ listed (boundaries_enclosed map.now face (Parcel new) points.now)) }
+    ensures { IfOk result (λ made. canonical_order made.items ≡ canonical_order (boundaries_enclosed map.now face (Parcel new) points.now)) }
 {
     let ring = Ring::from_points(map.allocator(), points)?;
     let reversed = ring.reversed()?;

@@ -3,7 +3,7 @@ ghost use Rattle.std.specs.Prelude.{◌≡◌, Some, None, [], ◌∷◌, not, f
 ghost use Rattle.cad_map.specs.Valid.{IsValid};
 ghost use Rattle.cad_map.specs.Refusals.{first_of, outside, same_parcel, not_neighbours, not_one_chain};
 ghost use Rattle.cad_map.specs.Changes.{merge_at, merge as merge_of};
-ghost use Rattle.cad_map.specs.Merger.{seams, is_taken_out as is_taken_out_of, handed_over as handed_over_of, is_shared as is_shared_of};
+ghost use Rattle.cad_map.specs.Merger.{shared_chains, is_taken_out as is_taken_out_of, handed_over as handed_over_of, is_shared as is_shared_of};
 ghost use Rattle.cad_map.specs.SharedChains.{IsSharedChain};
 ghost use Rattle.std.specs.Str.{bytes_eq as is_same_list};
 ghost use Rattle.cad_edit.specs.Admitted.{HasChain};
@@ -91,13 +91,13 @@ fn shared_strings(map: &PlainMap, kept: &Face, ended: &Face) -> Result<Vec<Strin
     let mut shared = Vec::new(map.allocator());
     for place in 0..map.counts().strings {
         let row = map.string_at(place).unwrap();
-        push_if_wanted(&mut shared, row.number, is_shared(map, kept, ended, row))?;
+        push_number_if(&mut shared, row.number, is_shared(map, kept, ended, row))?;
     }
     Ok(shared)
 }
 
 /// Puts a number last, where it is wanted.
-fn push_if_wanted(
+fn push_number_if(
     numbers: &mut Vec<StringNo>,
     number: StringNo,
     is_wanted: bool,
@@ -128,7 +128,7 @@ fn merged_boundaries(
 ) -> Result<Vec<Boundary>, Memory>
     requires valid { IsValid map.now }
     requires shared { IsSharedChain map.now kept.now ended.now chain.now }
-    ensures { IfOk result (λ made. made.items ≡ merge_at map.now kept.now ended.now (seams map.now kept.now ended.now)) }
+    ensures { IfOk result (λ made. made.items ≡ merge_at map.now kept.now ended.now (shared_chains map.now kept.now ended.now)) }
 {
     let (from, to) = kept_side(chain);
     let first = ring_with(map.boundaries(), from, to).unwrap();

@@ -3,7 +3,7 @@ use Rattle.std.proofs.lemmas.Int.{ints}
 use Rattle.geo_exact.specs.Position.{InRange, OnTheMap}
 use Rattle.cad_rows.specs.declared.edits.Edit.TheVariants.{AddSource, AddPoint, Split, Join, Move}
 use Rattle.cad_map.specs.Effects.{after}
-use Rattle.cad_map.proofs.Allowed.{allowed, free-source, free-point, free-split, free-join, halves-differ, two-joined, position-in_range}
+use Rattle.cad_map.proofs.CallerLemmas.{allowed, free-source, free-point, free-split, free-join, halves-differ, two-joined, position-in_range}
 use Rattle.cad_edit.proofs.effect.make.Goals as goal
 
 coordinate_fits : (z : ℤ) → InRange z → FitsSigned w64 z

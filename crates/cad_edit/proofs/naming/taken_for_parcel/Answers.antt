@@ -13,4 +13,4 @@ pub returns : goal.returns
 returns g c =
     let test = is_there (g.M.MapView.map c.args.map.now) in
     let parcel = NameOf.Parcel c.args.parcel in
-    c.refusal_if_known.ensures ∙ sym (told-second test Taken (strings_named c.args.strings.now) (parcel ∷ []) c.in_default.ensures ∙ told-one test Taken parcel)
+    c.refusal_if_taken.ensures ∙ sym (told-second test Taken (strings_named c.args.strings.now) (parcel ∷ []) c.in_default.ensures ∙ told-one test Taken parcel)

@@ -8,7 +8,7 @@ use Rattle.geo_exact.specs.MeasureLaws.{doubled_area-bounded}
 use Rattle.cad_rings.specs.Cycle.{Side, placed}
 use Rattle.cad_rings.specs.SidesLeft.{sides_left}
 use Rattle.cad_map.specs.Map.{has_point, position_of}
-use Rattle.cad_map.proofs.Walked.{sum-more, sum-fits}
+use Rattle.cad_map.proofs.CallerLemmas.{sum-more, sum-fits}
 use Rattle.cad_edit.proofs.SidesGiven.{given-more, given-there, given-few, ends-of_ring, points-there, sides-few}
 use Rattle.cad_edit.proofs.placing.doubled_area.Goals as goal
 

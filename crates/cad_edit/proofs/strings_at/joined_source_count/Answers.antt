@@ -1,5 +1,5 @@
 use Rattle.std.proofs.Common.{arith}
-use Rattle.cad_map.proofs.StringsMeeting.{few-sources}
+use Rattle.cad_map.proofs.CallerLemmas.{few-sources}
 use Rattle.cad_edit.proofs.strings_at.joined_source_count.Goals as goal
 
 pub overflow_add-result : goal.overflow_add-result

@@ -1,7 +1,7 @@
 use Rattle.std.proofs.Common.{sym, ◌∙◌}
 use Rattle.cad_rows.specs.declared.rows.StringRow.{StringRow}
 use Rattle.cad_map.specs.Map.{is_end}
-use Rattle.cad_map.proofs.Lists.{filter-at, filter-past}
+use Rattle.cad_map.proofs.CallerLemmas.{filter-at, filter-past}
 use Rattle.cad_edit.proofs.strings_at.next_at.Goals as goal
 
 pub returns-then-is_end-clause-some : goal.returns-then-is_end-clause-some

@@ -6,7 +6,7 @@ use Rattle.geo_exact.specs.Measure.{doubled_area}
 use Rattle.cad_rows.specs.declared.rows.ParcelRow.{ParcelRow}
 use Rattle.cad_rows.specs.declared.names.Face.TheVariants.{Parcel}
 use Rattle.cad_map.specs.Map.{sum_of_face}
-use Rattle.cad_map.proofs.RowsInTurn.{row_with-there}
+use Rattle.cad_map.proofs.CallerLemmas.{row_with-there}
 use Rattle.cad_files.specs.Texts.{record_text, text_of}
 use Rattle.cad_files.specs.Reports.{area_record}
 use Rattle.cad_files.proofs.TextFacts.{text_of-more}

@@ -1,7 +1,7 @@
 use Rattle.std.proofs.Common.{◌≡◌, ◌≢◌, ◌∙◌, sym, ap, subst, List, map, Some, None}
 use Rattle.std.specs.Prelude.{option_map}
 use Rattle.cad_map.specs.Valid.{EachPair}
-use Rattle.cad_files.specs.Building.{taken, unknown, dangling, bad_corner, other_label, map_of}
+use Rattle.cad_files.specs.Building.{twice_numbered, unknown_name, dangling, bad_corner, other_label, map_of}
 use Rattle.cad_files.specs.Corners.{labelled}
 use Rattle.cad_files.specs.Cycles.{plan_side_of}
 use Rattle.cad_files.specs.Follower.{labelled_sides}
@@ -24,26 +24,26 @@ returns-in-Some-first_other_label-clause-err c = λ nm.
     let rows = c.args.rows.now in
     let m = map_of rows in
     let here = ap (λ (r : Rows). r.strings) c.rows.view_is in
-    let u : unknown rows ≡ None = rw c.requires.map at (sym c.missing_row.ensures ∙ c.in_default.is) in
+    let u : unknown_name rows ≡ None = rw c.requires.map at (sym c.missing_row.ensures ∙ c.in_default.is) in
     let d : dangling m rows.strings ≡ None = rw (c.requires.map, c.as_slice.ensures.value, here) at (sym (c.first_dangling.ensures c.args.plain.now c.in_ok-stars.ensures) ∙ c.in_default-first_dangling.is) in
     let b : bad_corner m rows.strings ≡ None = rw (c.requires.map, c.as_slice-2.ensures.value, here) at c.in_ok-sides.ensures.free in
     let same = rw (c.as_slice-2.ensures.value, here) at c.in_ok-sides.ensures.sides in
     let told = rw c.as_slice-3.ensures.value at c.first_other_label.ensures in
     let l : other_label m rows.strings ≡ Some c.in-Some-first_other_label.string = rw c.requires.map at (sym (other_label-is c.args.plain.now rows.strings c.in_ok-sides.sides.items c.in_ok-sides.ensures.each same) ∙ sym told ∙ c.in-Some-first_other_label.is) in
-    labels-left (taken rows) (unknown rows) (dangling m rows.strings) (bad_corner m rows.strings) (other_label m rows.strings) c.requires.free u d b ∙ ap (option_map (λ n. faults.Labels n)) l
+    labels-left (twice_numbered rows) (unknown_name rows) (dangling m rows.strings) (bad_corner m rows.strings) (other_label m rows.strings) c.requires.free u d b ∙ ap (option_map (λ n. faults.Labels n)) l
 
 pub returns-clause-faultless : goal.returns-clause-faultless
 returns-clause-faultless c =
     let rows = c.args.rows.now in
     let m = map_of rows in
     let here = ap (λ (r : Rows). r.strings) c.rows.view_is in
-    let u : unknown rows ≡ None = rw c.requires.map at (sym c.missing_row.ensures ∙ c.in_default.is) in
+    let u : unknown_name rows ≡ None = rw c.requires.map at (sym c.missing_row.ensures ∙ c.in_default.is) in
     let d : dangling m rows.strings ≡ None = rw (c.requires.map, c.as_slice.ensures.value, here) at (sym (c.first_dangling.ensures c.args.plain.now c.in_ok-stars.ensures) ∙ c.in_default-first_dangling.is) in
     let b : bad_corner m rows.strings ≡ None = rw (c.requires.map, c.as_slice-2.ensures.value, here) at c.in_ok-sides.ensures.free in
     let same = rw (c.as_slice-2.ensures.value, here) at c.in_ok-sides.ensures.sides in
     let told = rw c.as_slice-3.ensures.value at c.first_other_label.ensures in
     let l : other_label m rows.strings ≡ None = rw c.requires.map at (sym (other_label-is c.args.plain.now rows.strings c.in_ok-sides.sides.items c.in_ok-sides.ensures.each same) ∙ sym told ∙ c.in_default-first_other_label.is) in
-    labels-left (taken rows) (unknown rows) (dangling m rows.strings) (bad_corner m rows.strings) (other_label m rows.strings) c.requires.free u d b ∙ ap (option_map (λ n. faults.Labels n)) l
+    labels-left (twice_numbered rows) (unknown_name rows) (dangling m rows.strings) (bad_corner m rows.strings) (other_label m rows.strings) c.requires.free u d b ∙ ap (option_map (λ n. faults.Labels n)) l
 
 pub returns-clause-sides : goal.returns-clause-sides
 returns-clause-sides c =

@@ -1,5 +1,5 @@
 use Rattle.std.proofs.Common.{◌≡◌, ◌∙◌, sym, ap, subst, ℕ, List, ◌∷◌, [], ◌++◌, map, slice_get, Some}
-use Rattle.cad_map.proofs.Lists.{All-push}
+use Rattle.cad_map.proofs.CallerLemmas.{All-push}
 use Rattle.cad_files.specs.Follower.{labelled_sides}
 use Rattle.cad_files.specs.Corners.{labelled, HasFollower, AreLinkedIn, IsStop}
 use Rattle.cad_files.specs.declared.sides.PlanSide.{PlanSide}

@@ -1,5 +1,5 @@
 use Rattle.std.proofs.Common.{◌∙◌, ap, length, ◌==◌, ℕ}
-use Rattle.cad_map.proofs.StarFacts.{length-star}
+use Rattle.cad_map.proofs.CallerLemmas.{length-star}
 use Rattle.cad_files.proofs.dangling.is_at_one.Goals as goal
 
 pub returns : goal.returns

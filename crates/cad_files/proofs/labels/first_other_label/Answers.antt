@@ -2,7 +2,7 @@ use Rattle.std.proofs.Common.{◌≡◌, ◌∙◌, refl, sym, ap, length, not, 
 use Rattle.std.specs.Prelude.{option_map}
 use Rattle.std.proofs.lemmas.Option.{slice_get_read}
 use Rattle.cad_map.specs.Boundaries.{is_face}
-use Rattle.cad_map.proofs.Elements.{Contains-at}
+use Rattle.cad_map.proofs.CallerLemmas.{Contains-at}
 use Rattle.cad_files.specs.Corners.{keeps_face_among}
 use Rattle.cad_files.proofs.NextSides.{keeps-next, next-within, find-here, find-later}
 use Rattle.cad_files.proofs.labels.first_other_label.Goals as goal

@@ -1,5 +1,5 @@
 use Rattle.std.proofs.Common.{◌∙◌, sym, ap, is_some}
-use Rattle.cad_map.proofs.Allowed.{none-from_some}
+use Rattle.cad_map.proofs.CallerLemmas.{none-from_some}
 use Rattle.cad_files.specs.Building.{string_names, strings_name}
 use Rattle.cad_files.proofs.NameFacts.{row-found, row-more}
 use Rattle.cad_files.proofs.naming.missing_of_strings.Goals as goal

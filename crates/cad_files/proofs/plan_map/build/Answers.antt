@@ -1,6 +1,6 @@
 use Rattle.std.proofs.Common.{◌≡◌, None, map}
 use Rattle.std.specs.Prelude.{IsPermutation}
-use Rattle.cad_map.specs.Boundaries.{listed}
+use Rattle.cad_map.specs.Boundaries.{canonical_order}
 use Rattle.cad_files.specs.Building.{at_once, breaking, map_of, first_fault}
 use Rattle.cad_files.specs.Cycles.{AreSidesOf, followed_in, followed_side}
 use Rattle.cad_files.proofs.ValidFacts.{with_rings}
@@ -30,7 +30,7 @@ first_broken_swept-requires c =
     let bs = c.in_ok-rings.rings.items in
     let of : AreSidesOf (map_of rows) rows.strings sides = rw c.in-Ok.ensures.ok at c.in-Ok-find_sides.ensures.sides in
     let rings : IsPermutation sides (followed_in bs) = c.in_ok-rings.ensures.rings in
-    let made : c.set_boundaries.new.self ≡ with_rings rows (listed bs) = rw c.in-Ok.ensures.ok at c.set_boundaries.ensures in
+    let made : c.set_boundaries.new.self ≡ with_rings rows (canonical_order bs) = rw c.in-Ok.ensures.ok at c.set_boundaries.ensures in
     let none = c.in-Ok-find_sides.ensures.faultless in
     rw made (record {
       tested = tested rows c.are_in_range.ensures none sides of bs c.in_ok-rings.ensures.two rings;
@@ -44,7 +44,7 @@ returns-in-Some-clause-err c = λ nm.
     let bs = c.in_ok-rings.rings.items in
     let of : AreSidesOf (map_of rows) rows.strings sides = rw c.in-Ok.ensures.ok at c.in-Ok-find_sides.ensures.sides in
     let rings : IsPermutation sides (followed_in bs) = c.in_ok-rings.ensures.rings in
-    let made : c.set_boundaries.new.self ≡ with_rings rows (listed bs) = rw c.in-Ok.ensures.ok at c.set_boundaries.ensures in
+    let made : c.set_boundaries.new.self ≡ with_rings rows (canonical_order bs) = rw c.in-Ok.ensures.ok at c.set_boundaries.ensures in
     let none : first_fault rows ≡ None = c.in-Ok-find_sides.ensures.faultless in
     breaking none (is_map rows c.are_in_range.ensures none sides of bs c.in_ok-rings.ensures.two rings) (rw (c.in-Some.is, made) at c.in_ok-rule.ensures.broken)
 
@@ -55,5 +55,5 @@ returns-clause-ok c =
     let bs = c.in_ok-rings.rings.items in
     let of : AreSidesOf (map_of rows) rows.strings sides = rw c.in-Ok.ensures.ok at c.in-Ok-find_sides.ensures.sides in
     let rings : IsPermutation sides (followed_in bs) = c.in_ok-rings.ensures.rings in
-    let made : c.set_boundaries.new.self ≡ with_rings rows (listed bs) = rw c.in-Ok.ensures.ok at c.set_boundaries.ensures in
+    let made : c.set_boundaries.new.self ≡ with_rings rows (canonical_order bs) = rw c.in-Ok.ensures.ok at c.set_boundaries.ensures in
     rw made (built rows c.are_in_range.ensures c.in-Ok-find_sides.ensures.faultless sides of bs c.in_ok-rings.ensures.two rings (rw (c.in_default.is, made) at c.in_ok-rule.ensures.kept))

@@ -3,7 +3,7 @@ use Rattle.std.proofs.lemmas.List.{take_all}
 use Rattle.cad_files.specs.Texts.{string_record, record_text, text_of}
 use Rattle.cad_files.specs.declared.rows.PlanString.{PlanString}
 use Rattle.cad_files.specs.Building.{plan_string_of}
-use Rattle.cad_map.proofs.Elements.{Contains-at}
+use Rattle.cad_map.proofs.CallerLemmas.{Contains-at}
 use Rattle.cad_files.proofs.TextFacts.{text_of-more}
 use Rattle.cad_files.proofs.Faces.{is_told, as_told}
 use Rattle.cad_files.proofs.plan_texts.write_strings.Goals as goal

@@ -8,5 +8,5 @@ returns-clause-beginning c = IsHistory-beginning
 pub returns-clause-step : goal.returns-clause-step
 returns-clause-step c = IsHistory-step
 
-pub returns-clause-shown : goal.returns-clause-shown
-returns-clause-shown c = λ h m is at. is.valid h.place m at
+pub returns-clause-shown_map : goal.returns-clause-shown_map
+returns-clause-shown_map c = λ h m is at. is.valid h.place m at

@@ -10,19 +10,19 @@ returns-in-Ok-Command g c =
 pub returns-in-Ok-Areas : goal.returns-in-Ok-Areas
 returns-in-Ok-Areas g c =
     if_ok_follows _ _ c.area_text.result
-    (λ text is h stands. (h, rw (c.in-Ok-Areas.ensures.line, c.in-Ok-Areas.field-0-is) (told_areas (c.map.ensures.shown h stands) is), stands))
+    (λ text is h stands. (h, rw (c.in-Ok-Areas.ensures.line, c.in-Ok-Areas.field-0-is) (told_areas (c.map.ensures.shown_map h stands) is), stands))
     c.area_text.ensures
 
 pub returns-in-Ok-Outline : goal.returns-in-Ok-Outline
 returns-in-Ok-Outline g c =
     if_ok_follows _ _ c.outline_text.result
-    (λ text is h stands. (h, rw (c.in-Ok-Outline.ensures.line, c.in-Ok-Outline.field-0-is) (told_outline (c.map-in-Ok-Outline.ensures.shown h stands) is), stands))
+    (λ text is h stands. (h, rw (c.in-Ok-Outline.ensures.line, c.in-Ok-Outline.field-0-is) (told_outline (c.map-in-Ok-Outline.ensures.shown_map h stands) is), stands))
     c.outline_text.ensures
 
 pub returns-in-Ok-Print : goal.returns-in-Ok-Print
 returns-in-Ok-Print g c =
     if_ok_follows _ _ c.plan_text.result
-    (λ text is h stands. (h, rw (c.in-Ok-Print.ensures.line, c.in-Ok-Print.field-0-is) (printed (c.map-in-Ok-Print.ensures.shown h stands) is), stands))
+    (λ text is h stands. (h, rw (c.in-Ok-Print.ensures.line, c.in-Ok-Print.field-0-is) (printed (c.map-in-Ok-Print.ensures.shown_map h stands) is), stands))
     c.plan_text.ensures
 
 pub returns-in-Err-Syntax : goal.returns-in-Err-Syntax

@@ -2,9 +2,9 @@ use Rattle.std.proofs.Common.{◌∙◌, sym, ap, List, ◌++◌, length, ◌≤
 use Rattle.cad_rows.specs.declared.names.Face.TheVariants.{Parcel}
 use Rattle.cad_rows.specs.declared.rows.ParcelRow.{ParcelRow}
 use Rattle.cad_map.specs.declared.boundary.Boundary.{Boundary}
-use Rattle.cad_map.specs.Boundaries.{listed}
-use Rattle.cad_map.proofs.AllFaces.{outlined, outlined-next, outlined-all}
-use Rattle.cad_map.proofs.RowsInTurn.{row_with-there}
+use Rattle.cad_map.specs.Boundaries.{canonical_order}
+use Rattle.cad_map.proofs.Boundaries.AllFaces.{outlined, outlined-next, outlined-all}
+use Rattle.cad_map.proofs.Lists.RowsInTurn.{row_with-there}
 use Rattle.cad_map.proofs.copying.all_rings.Goals as goal
 
 pub append_outline-requires-in-loop-place-clause-there : goal.append_outline-requires-in-loop-place-clause-there
@@ -24,4 +24,4 @@ pub returns : goal.returns
 returns g c =
     let m = g.M.MapView.map c.args.view.now in
     let past : length m.parcels ≤ c.loop-place.place = rw c.counts-place-end.ensures at c.loop-place-test.false in
-    ap listed c.loop-place.invariant ∙ outlined-all m c.loop-place.place c.requires past
+    ap canonical_order c.loop-place.invariant ∙ outlined-all m c.loop-place.place c.requires past

@@ -1,6 +1,6 @@
 use Rattle.std.proofs.Common.{◌≡◌}
 use Rattle.std.specs.Prelude.{flat_map}
-use Rattle.cad_map.proofs.AllFaces.{outlined, faces_up_to}
+use Rattle.cad_map.proofs.Boundaries.AllFaces.{outlined, faces_up_to}
 use Rattle.cad_map.proofs.copying.all_rings.Given as goal
 
 -- the outlines of the outside and of the parcels so far

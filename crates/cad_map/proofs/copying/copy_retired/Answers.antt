@@ -1,5 +1,5 @@
 use Rattle.std.proofs.Common.{◌∙◌, sym}
-use Rattle.cad_map.proofs.Entries.{take-more}
+use Rattle.cad_map.proofs.Lists.Entries.{take-more}
 use Rattle.cad_map.proofs.copying.copy_retired.Goals as goal
 
 pub loop-place-preserved : goal.loop-place-preserved

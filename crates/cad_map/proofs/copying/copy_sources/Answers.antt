@@ -1,7 +1,7 @@
 use Rattle.std.proofs.Common.{◌∙◌, sym}
 use Rattle.cad_rows.specs.declared.rows.SourceRow.{SourceRow}
-use Rattle.cad_map.proofs.Entries.{take-more}
-use Rattle.cad_map.proofs.RowsInTurn.{row_with-earlier}
+use Rattle.cad_map.proofs.Lists.Entries.{take-more}
+use Rattle.cad_map.proofs.Lists.RowsInTurn.{row_with-earlier}
 use Rattle.cad_map.proofs.copying.copy_sources.Goals as goal
 
 pub put_source-requires : goal.put_source-requires

@@ -5,9 +5,9 @@ use Rattle.cad_rings.specs.Cycle.{Side, is_side, has_side, sides_of}
 use Rattle.cad_rings.proofs.CallerLemmas.{is_side-same}
 use Rattle.cad_map.specs.Chain.{leaving}
 use Rattle.cad_map.specs.Walk.{walking}
-use Rattle.cad_map.proofs.FacesBeside.{has_side-Contains, Contains-has_side}
-use Rattle.cad_map.proofs.RingsOfMap.{whole_valid}
-use Rattle.cad_map.proofs.RingsFrom.{walked-from, walked-on_ring, walked-round, in_one_ring, in_two_rings, ring-of_corner}
+use Rattle.cad_map.proofs.Boundaries.FacesBeside.{has_side-Contains, Contains-has_side}
+use Rattle.cad_map.proofs.Boundaries.RingsOfMap.{whole_valid}
+use Rattle.cad_map.proofs.Walks.RingsFrom.{walked-from, walked-on_ring, walked-round, in_one_ring, in_two_rings, ring-of_corner}
 use Rattle.cad_map.proofs.corner.are_in_one_ring.Goals as goal
 
 pub loop-from-init : goal.loop-from-init
@@ -23,15 +23,15 @@ pub returns-then-leaves_by : goal.returns-then-leaves_by
 returns-then-leaves_by g c = λ face h.
     let m = g.M.MapView.map c.args.map.now in
     let whole = whole_valid m c.requires in
-    let at = walking g.M.MapView.map g.M.MapView.told_after in
+    let at = walking g.M.MapView.map g.M.MapView.view_next in
     let first = leaving c.args.first.now in
     let last = leaving c.args.last.now in
     let ring = ring-of_corner m whole face c.args.first.now h in
     let side : Side = (c.in-Some.from, c.in-Some.to) in
-    let stands : at c.into_iter-from-iterator.result ≡ record { map = m; follower = g.M.MapView.told_after c.args.map.now; first = first; most = 2 * length m.strings; at = Some first } =
+    let stands : at c.into_iter-from-iterator.result ≡ record { map = m; follower = g.M.MapView.view_next c.args.map.now; first = first; most = 2 * length m.strings; at = Some first } =
     ap at c.into_iter-from-iterator.ensures.into_iter_gives ∙ c.from-from-items.ensures
-    ∙ ap (λ (s : Side). record { map = m; follower = g.M.MapView.told_after c.args.map.now; first = s; most = 2 * length m.strings; at = Some s }) (ap leaving c.first.view_is) in
-    let on = walked-from m whole face first ring.0 ring.1 ring.2 at (g.M.MapView.told_after c.args.map.now) c.into_iter-from-iterator.result c.loop-from.from-iterator stands c.loop-from.yielded c.loop-from.yielded_by in
+    ∙ ap (λ (s : Side). record { map = m; follower = g.M.MapView.view_next c.args.map.now; first = s; most = 2 * length m.strings; at = Some s }) (ap leaving c.first.view_is) in
+    let on = walked-from m whole face first ring.0 ring.1 ring.2 at (g.M.MapView.view_next c.args.map.now) c.into_iter-from-iterator.result c.loop-from.from-iterator stands c.loop-from.yielded c.loop-from.yielded_by in
     let goes = (rw c.in-Some.is at c.next.ensures.steps).goes_on in
     let has = walked-on_ring m whole face first ring.0 ring.1 ring.2 c.loop-from.yielded (at c.loop-from.from-iterator) side _ on goes in
     let met : last ≡ side = is_side-same last side (sym c.leaves_by.ensures ∙ c.if-leaves_by.true) in
@@ -41,14 +41,14 @@ pub returns : goal.returns
 returns g c = λ face h.
     let m = g.M.MapView.map c.args.map.now in
     let whole = whole_valid m c.requires in
-    let at = walking g.M.MapView.map g.M.MapView.told_after in
+    let at = walking g.M.MapView.map g.M.MapView.view_next in
     let first = leaving c.args.first.now in
     let last = leaving c.args.last.now in
     let ring = ring-of_corner m whole face c.args.first.now h in
-    let stands : at c.into_iter-from-iterator.result ≡ record { map = m; follower = g.M.MapView.told_after c.args.map.now; first = first; most = 2 * length m.strings; at = Some first } =
+    let stands : at c.into_iter-from-iterator.result ≡ record { map = m; follower = g.M.MapView.view_next c.args.map.now; first = first; most = 2 * length m.strings; at = Some first } =
     ap at c.into_iter-from-iterator.ensures.into_iter_gives ∙ c.from-from-items.ensures
-    ∙ ap (λ (s : Side). record { map = m; follower = g.M.MapView.told_after c.args.map.now; first = s; most = 2 * length m.strings; at = Some s }) (ap leaving c.first.view_is) in
-    let on = walked-from m whole face first ring.0 ring.1 ring.2 at (g.M.MapView.told_after c.args.map.now) c.into_iter-from-iterator.result c.loop-from.from-iterator stands c.loop-from.yielded c.loop-from.yielded_by in
+    ∙ ap (λ (s : Side). record { map = m; follower = g.M.MapView.view_next c.args.map.now; first = s; most = 2 * length m.strings; at = Some s }) (ap leaving c.first.view_is) in
+    let on = walked-from m whole face first ring.0 ring.1 ring.2 at (g.M.MapView.view_next c.args.map.now) c.into_iter-from-iterator.result c.loop-from.from-iterator stands c.loop-from.yielded c.loop-from.yielded_by in
     let none = rw c.in-None.is at c.next.ensures.steps in
     let given = walked-round m whole face first ring.0 ring.1 ring.2 c.loop-from.yielded (at c.loop-from.from-iterator) on none.first.0 last in
     sym (in_two_rings m whole face first ring.0 ring.1 ring.2 last (by (has_side last (sides_of ring.0)) refl (λ there. Contains-has_side last c.loop-from.yielded (given (has_side-Contains last (sides_of ring.0) there))) c.loop-from.invariant))

@@ -7,9 +7,9 @@ use Rattle.cad_rings.specs.Cycle.{Ring, Side, sides_of}
 use Rattle.cad_map.specs.Choice.{MayBeChosen, IsFirst}
 use Rattle.cad_map.specs.Map.{rings_at}
 use Rattle.cad_map.specs.Rings.{ring_at}
-use Rattle.cad_map.proofs.Entries.{take-more}
-use Rattle.cad_map.proofs.FirstCorners.{first-none, first-more, first-chosen}
-use Rattle.cad_map.proofs.RingsOfMap.{whole_valid}
+use Rattle.cad_map.proofs.Lists.Entries.{take-more}
+use Rattle.cad_map.proofs.Walks.FirstCorners.{first-none, first-more, first-chosen}
+use Rattle.cad_map.proofs.Boundaries.RingsOfMap.{whole_valid}
 use Rattle.cad_map.proofs.corner.chosen_corner.Goals as goal
 
 pub loop-place-init : goal.loop-place-init
@@ -34,4 +34,4 @@ returns g c =
     let rings = rings_at c.args.face.now bs in
     let past : length rings ≤ c.loop-place.place = subst (λ (n : ℕ). n ≤ c.loop-place.place) c.ring_count-place-end.ensures.count c.loop-place-test.false in
     let all = subst (λ (rs : List Ring). IsFirst (MayBeChosen m c.args.at c.args.towards (flat_map sides_of rs)) c.loop-place.chosen) (take_all c.loop-place.place rings past) c.loop-place.invariant in
-    sym (first-chosen m (whole_valid m c.requires.valid) c.args.at c.args.towards bs c.ring_count-place-end.ensures.listed c.args.face.now c.loop-place.chosen all)
+    sym (first-chosen m (whole_valid m c.requires.valid) c.args.at c.args.towards bs c.ring_count-place-end.ensures.canonical_order c.args.face.now c.loop-place.chosen all)

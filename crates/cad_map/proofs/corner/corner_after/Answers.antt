@@ -1,7 +1,7 @@
 use Rattle.std.proofs.Common.{sym, subst, ◌∙◌}
 use Rattle.cad_rings.specs.Surgery.{corner}
 use Rattle.cad_map.specs.Choice.{MayBeChosen, IsFirst}
-use Rattle.cad_map.proofs.FirstCorners.{corner-points, first-no_side, first-one, first-other_way}
+use Rattle.cad_map.proofs.Walks.FirstCorners.{corner-points, first-no_side, first-one, first-other_way}
 use Rattle.cad_map.proofs.corner.corner_after.Goals as goal
 
 pub returns-in_err-after : goal.returns-in_err-after

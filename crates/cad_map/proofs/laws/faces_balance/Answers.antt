@@ -1,4 +1,4 @@
-use Rattle.cad_map.proofs.Balance.{balanced}
+use Rattle.cad_map.proofs.Boundaries.Balance.{balanced}
 use Rattle.cad_map.proofs.laws.faces_balance.Goals as goal
 
 pub returns : goal.returns

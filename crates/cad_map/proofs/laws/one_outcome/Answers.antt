@@ -1,4 +1,4 @@
-use Rattle.cad_map.proofs.Broken.{leads-one, refused-one, leads-not_refused, broken-one}
+use Rattle.cad_map.proofs.Edits.Broken.{leads-one, refused-one, leads-not_refused, broken-one}
 use Rattle.cad_map.proofs.laws.one_outcome.Goals as goal
 
 pub returns-clause-map : goal.returns-clause-map

@@ -5,11 +5,11 @@ use Rattle.cad_rows.specs.declared.edits.Edit.TheVariants.{Divide, Merge, Enclos
 use Rattle.cad_map.specs.Sums.{IsSharedOut, IsTakenIn}
 use Rattle.cad_map.specs.Changes.{merge}
 use Rattle.cad_map.specs.Effects.{after}
-use Rattle.cad_map.proofs.Allowed.{IsAllowed, allowed}
-use Rattle.cad_map.proofs.AllowedParcels.{can-divide, can-enclose, can-merge, names-parcels}
-use Rattle.cad_map.proofs.Divided.{divided-adds_up}
-use Rattle.cad_map.proofs.Enclosed.{enclosed-adds_up}
-use Rattle.cad_map.proofs.MergedSums.{merged-adds_up}
+use Rattle.cad_map.proofs.Edits.Allowed.{IsAllowed, allowed}
+use Rattle.cad_map.proofs.Edits.AllowedParcels.{can-divide, can-enclose, can-merge, names-parcels}
+use Rattle.cad_map.proofs.Parcels.Divided.{divided-adds_up}
+use Rattle.cad_map.proofs.Parcels.Enclosed.{enclosed-adds_up}
+use Rattle.cad_map.proofs.Mergers.MergedSums.{merged-adds_up}
 use Rattle.cad_map.proofs.laws.parcels_add_up.Goals as goal
 
 pub returns-clause-divided : goal.returns-clause-divided

@@ -1,8 +1,8 @@
 use Rattle.std.proofs.Common.{rules, of_calls, nat_lt, nat_le}
 use Rattle.std.proofs.lemmas.List.Sorted.{IsPartitionPoint-from_clause, IsPartitionedBy-ltb, IsPartitionedBy-leb}
 use Rattle.cad_map.specs.Boundaries.{face_place}
-use Rattle.cad_map.proofs.Runs.{AreBounds, bounds_rise}
-use Rattle.cad_map.proofs.FaceRuns.{place_of, listed-rises, rings-run}
+use Rattle.cad_map.proofs.Lists.Runs.{AreBounds, bounds_rise}
+use Rattle.cad_map.proofs.Boundaries.FaceRuns.{place_of, canonical_order-rises, rings-run}
 use Rattle.cad_map.proofs.look.places_of.Goals as goal
 
 pub returns : goal.returns
@@ -10,7 +10,7 @@ returns c =
     let bs = c.args.boundaries.now in
     let n = face_place c.args.face.now in
     let place = c.face_place-place.ensures in
-    let rises = listed-rises bs c.requires in
+    let rises = canonical_order-rises bs c.requires in
     let first = c.partition_point-first.result in
     let end = c.partition_point-end.result in
     let bounds : AreBounds place_of bs n first end = record {

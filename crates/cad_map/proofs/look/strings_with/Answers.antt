@@ -2,7 +2,7 @@ use Rattle.std.proofs.Common.{sym, ap, ◌∙◌, Bool}
 use Rattle.std.specs.Prelude.{if◌then◌else◌}
 use Rattle.cad_rows.specs.declared.rows.StringRow.{StringRow}
 use Rattle.cad_map.specs.Map.{is_end}
-use Rattle.cad_map.proofs.Lists.{count-next}
+use Rattle.cad_map.proofs.Lists.EachElement.{count-next}
 use Rattle.cad_map.proofs.look.strings_with.Goals as goal
 
 pub loop-place-preserved : goal.loop-place-preserved

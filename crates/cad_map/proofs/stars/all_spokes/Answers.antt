@@ -1,6 +1,6 @@
 use Rattle.std.proofs.Common.{◌∙◌, sym, length, append_assoc, ◌≤◌}
 use Rattle.std.proofs.lemmas.List.{append-nil, drop_all}
-use Rattle.cad_map.proofs.Lists.{drop-at}
+use Rattle.cad_map.proofs.Lists.EachElement.{drop-at}
 use Rattle.cad_map.proofs.stars.all_spokes.Goals as goal
 
 pub loop-place-preserved : goal.loop-place-preserved

@@ -1,7 +1,7 @@
 use Rattle.std.proofs.Common.{sym, ap, ◌∙◌, List, arith}
 use Rattle.cad_rings.specs.Cycle.{Side, sides_of, has_side as has_side_of}
 use Rattle.cad_rings.proofs.SideLemmas.{length-sides_of}
-use Rattle.cad_rings.proofs.ShownSteps.{nothing_left}
+use Rattle.cad_rings.proofs.CanonicalSteps.{nothing_left}
 use Rattle.cad_rings.proofs.corners.has_side.Goals as goal
 
 pub returns : goal.returns

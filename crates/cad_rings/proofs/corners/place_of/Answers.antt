@@ -4,7 +4,7 @@ use Rattle.std.specs.List.{position_or_len}
 use Rattle.std.proofs.lemmas.Bool.Decides.{nat_tests}
 use Rattle.cad_rings.specs.Cycle.{Side, is_side, sides_of}
 use Rattle.cad_rings.proofs.SideLemmas.{length-sides_of}
-use Rattle.cad_rings.proofs.ShownSteps.{nothing_left}
+use Rattle.cad_rings.proofs.CanonicalSteps.{nothing_left}
 use Rattle.cad_rings.proofs.corners.place_of.Goals as goal
 
 -- the first place at which the test passes is here, or further on

@@ -13,5 +13,5 @@ returns-clause-same c = least_rotation-same
 pub returns-clause-told_apart : goal.returns-clause-told_apart
 returns-clause-told_apart c = IsSameRing-from_least_rotation
 
-pub returns-clause-shown_again : goal.returns-clause-shown_again
-returns-clause-shown_again c = least_rotation-least_rotation
+pub returns-clause-canonical_again : goal.returns-clause-canonical_again
+returns-clause-canonical_again c = least_rotation-least_rotation

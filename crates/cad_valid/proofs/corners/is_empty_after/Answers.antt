@@ -1,6 +1,6 @@
 use Rattle.std.proofs.Common.{◌∙◌, sym}
 use Rattle.cad_rings.specs.Surgery.{corner}
-use Rattle.cad_map.proofs.FirstCorners.{corner-points}
+use Rattle.cad_map.proofs.CallerLemmas.{corner-points}
 use Rattle.cad_valid.proofs.EmptyCorners.{empty-after, empty-no_side}
 use Rattle.cad_valid.proofs.corners.is_empty_after.Goals as goal
 

@@ -2,7 +2,7 @@ use Rattle.std.proofs.Common.{ℕ, ◌≤◌, sym, ap, subst, length, drop}
 use Rattle.std.proofs.lemmas.Bool.{iff_false}
 use Rattle.cad_map.specs.Valid.{MeetAtEnds}
 use Rattle.cad_valid.proofs.Decisions.{stepwise-all, goes, stops, ends}
-use Rattle.cad_map.proofs.Meetings.{placed-at}
+use Rattle.cad_map.proofs.CallerLemmas.{placed-at}
 use Rattle.cad_valid.proofs.PlacedStrings.{meets-by}
 use Rattle.cad_valid.proofs.crossings.meets_later_at_ends.Goals as goal
 

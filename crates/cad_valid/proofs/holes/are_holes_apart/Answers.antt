@@ -4,7 +4,7 @@ use Rattle.cad_map.specs.Map.{rings_at}
 use Rattle.cad_map.specs.Rings.{ring_at}
 use Rattle.cad_valid.specs.Holes.{are_apart_if_holes}
 use Rattle.cad_valid.proofs.Tests.{pairs-stop, pairs-go, pairs-done}
-use Rattle.cad_valid.proofs.FacesOfMap.{apart-by_rings, apart-from_one, apart-listed}
+use Rattle.cad_valid.proofs.FacesOfMap.{apart-by_rings, apart-from_one, apart-canonical_order}
 use Rattle.cad_valid.proofs.holes.are_holes_apart.Goals as goal
 
 pub returns-then-not-is_apart_from_later : goal.returns-then-not-is_apart_from_later
@@ -15,7 +15,7 @@ returns-then-not-is_apart_from_later g c =
     let within : c.loop-place.place < length rings = subst (λ (n : ℕ). c.loop-place.place < n) c.ring_count-place-end.ensures.count c.loop-place-test.true in
     let at = slice_get-get_or rings c.loop-place.place [] within in
     let one = apart-from_one m (ring_at bs c.args.face.now c.loop-place.place) (drop (c.loop-place.place + 1) rings) in
-    sym (sym (apart-listed m c.args.face.now bs c.ring_count-place-end.ensures.listed) ∙ apart-by_rings m rings ∙ c.loop-place.invariant
+    sym (sym (apart-canonical_order m c.args.face.now bs c.ring_count-place-end.ensures.canonical_order) ∙ apart-by_rings m rings ∙ c.loop-place.invariant
     ∙ pairs-stop (are_apart_if_holes m) rings c.loop-place.place _ at (one ∙ sym c.is_apart_from_later.ensures ∙ c.if-not-is_apart_from_later.true))
 
 pub loop-place-preserved : goal.loop-place-preserved
@@ -34,4 +34,4 @@ returns g c =
     let bs = g.M.MapView.rings c.args.map.now in
     let rings = rings_at c.args.face.now bs in
     let past : length rings ≤ c.loop-place.place = subst (λ (n : ℕ). n ≤ c.loop-place.place) c.ring_count-place-end.ensures.count c.loop-place-test.false in
-    sym (sym (apart-listed m c.args.face.now bs c.ring_count-place-end.ensures.listed) ∙ apart-by_rings m rings ∙ c.loop-place.invariant ∙ pairs-done (are_apart_if_holes m) rings c.loop-place.place past)
+    sym (sym (apart-canonical_order m c.args.face.now bs c.ring_count-place-end.ensures.canonical_order) ∙ apart-by_rings m rings ∙ c.loop-place.invariant ∙ pairs-done (are_apart_if_holes m) rings c.loop-place.place past)

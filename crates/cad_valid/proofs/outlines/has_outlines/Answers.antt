@@ -2,7 +2,7 @@ use Rattle.std.proofs.Common.{ℕ, ◌<◌, ◌≤◌, ◌∙◌, subst, length,
 use Rattle.std.specs.Int.{w128}
 use Rattle.std.proofs.lemmas.Int.{ints}
 use Rattle.cad_map.specs.Map.{rings_at}
-use Rattle.cad_valid.proofs.FacesOfMap.{outlines-listed}
+use Rattle.cad_valid.proofs.FacesOfMap.{outlines-canonical_order}
 use Rattle.cad_valid.proofs.OutlineCounts.{counted-next, counted-few, counted-all}
 use Rattle.cad_valid.proofs.outlines.has_outlines.Goals as goal
 
@@ -26,4 +26,4 @@ returns g c =
     let rings = rings_at c.args.face.now bs in
     let past : length rings ≤ c.loop-place.place = subst (λ (n : ℕ). n ≤ c.loop-place.place) c.ring_count-place-end.ensures.count c.loop-place-test.false in
     c.is.ensures ∙ counted-all m rings c.loop-place.place c.args.wanted c.loop-place.outlines past c.loop-place.invariant
-    ∙ outlines-listed m c.args.face.now bs c.ring_count-place-end.ensures.listed c.args.wanted
+    ∙ outlines-canonical_order m c.args.face.now bs c.ring_count-place-end.ensures.canonical_order c.args.wanted

@@ -1,5 +1,5 @@
 use Rattle.std.proofs.Common.{sym}
-use Rattle.cad_map.proofs.Meetings.{placed-at}
+use Rattle.cad_map.proofs.CallerLemmas.{placed-at}
 use Rattle.cad_valid.specs.Placed.{placed_string}
 use Rattle.cad_valid.proofs.GrownLists.{grown}
 use Rattle.cad_valid.proofs.swept.put_strings.Goals as goal

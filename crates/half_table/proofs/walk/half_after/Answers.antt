@@ -2,11 +2,11 @@ use Rattle.std.proofs.Common.{◌≡◌, ◌∷◌, ◌∙◌, ℕ, length, fals
 use Rattle.half_table.specs.declared.half.Half.{Half}
 use Rattle.half_table.specs.Half.{is_half}
 use Rattle.half_table.specs.Cycle.{IsRun, orbit}
-use Rattle.half_table.specs.Rows.{Rows, next, halves}
+use Rattle.half_table.specs.Rows.{HalfRows, next, halves}
 use Rattle.half_table.proofs.Closed.{ahead-more}
 use Rattle.half_table.proofs.walk.half_after.Goals as goal
 
-going : (rows : Rows) (start at after : Half) (n : ℕ) → IsRun (next rows) start (next rows at) (orbit (next rows) n start (next rows at))
+going : (rows : HalfRows) (start at after : Half) (n : ℕ) → IsRun (next rows) start (next rows at) (orbit (next rows) n start (next rows at))
     → after ≡ next rows at → is_half after start ≡ false
     → (at ∷ orbit (next rows) n start (next rows at) ≡ at ∷ after ∷ orbit (next rows) n start (next rows after)) × IsRun (next rows) start (next rows after) (orbit (next rows) n start (next rows after))
 going rows start at after n run is other =

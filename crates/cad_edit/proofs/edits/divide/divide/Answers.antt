@@ -8,12 +8,7 @@ use Rattle.cad_map.specs.Map.{Map}
 use Rattle.cad_map.specs.Chain.{strings_along}
 use Rattle.cad_map.specs.Valid.{EachPair}
 use Rattle.cad_map.specs.Refusals.{first_refusal}
-use Rattle.cad_map.proofs.Allowed.{allowed}
-use Rattle.cad_map.proofs.AllowedParcels.{can-divide}
-use Rattle.cad_map.proofs.ChainFacts.{numbers-strings_along, pairs-from_distinct}
-use Rattle.cad_map.proofs.ChosenCorners.{chosen}
-use Rattle.cad_map.proofs.Divided.{CanDivide, ends-differ}
-use Rattle.cad_map.proofs.RingsOfMap.{whole_valid}
+use Rattle.cad_map.proofs.CallerLemmas.{allowed, can-divide, numbers-strings_along, pairs-from_distinct, chosen, CanDivide, ends-differ, whole_valid}
 use Rattle.cad_edit.proofs.StringRows.{free-numbers}
 use Rattle.cad_edit.proofs.edits.divide.divide.Goals as goal
 

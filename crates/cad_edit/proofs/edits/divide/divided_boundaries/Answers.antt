@@ -4,12 +4,12 @@ use Rattle.std.specs.List.{AllByRecursion}
 use Rattle.cad_rows.specs.declared.names.Face.TheVariants.{Parcel}
 use Rattle.cad_rings.specs.Cycle.{Ring, has_side, sides_of}
 use Rattle.cad_map.specs.declared.boundary.Boundary.{Boundary}
-use Rattle.cad_map.specs.Boundaries.{bounding, listed}
+use Rattle.cad_map.specs.Boundaries.{bounding, canonical_order}
 use Rattle.cad_map.specs.Chain.{leaving}
 use Rattle.cad_map.specs.Division.{place_of, ring_with, hole_placed}
 use Rattle.cad_map.specs.Map.{has_point}
 use Rattle.cad_edit.specs.Cut.{left_of, right_of}
-use Rattle.cad_edit.proofs.CutRing.{one-ring, left-points, listed-last_two}
+use Rattle.cad_edit.proofs.CutRing.{one-ring, left-points, canonical_order-last_two}
 use Rattle.cad_edit.proofs.edits.divide.divided_boundaries.Goals as goal
 
 pub cut_along-requires-clause-first_there : goal.cut_along-requires-clause-first_there
@@ -48,5 +48,5 @@ returns c =
     let others = map (hole_placed m c.args.face parcel c.in_ok-left.left) kept in
     let items : c.push-2.new.self.items ≡ (others ++ one ∷ []) ++ other ∷ [] =
     c.in_ok-push-2.ensures.items ∙ ap (λ (l : List Boundary). l ++ other ∷ []) (c.in_ok-push.ensures.items ∙ ap (λ (l : List Boundary). l ++ one ∷ []) c.in_ok-made.ensures) in
-    ap listed items ∙ listed-last_two others one other
-    ∙ (λ i. listed (bounding parcel (left i) ∷ bounding c.args.face (right i) ∷ map (hole_placed m c.args.face parcel (left i)) kept))
+    ap canonical_order items ∙ canonical_order-last_two others one other
+    ∙ (λ i. canonical_order (bounding parcel (left i) ∷ bounding c.args.face (right i) ∷ map (hole_placed m c.args.face parcel (left i)) kept))

@@ -7,11 +7,7 @@ use Rattle.cad_map.specs.Map.{Map}
 use Rattle.cad_map.specs.Chain.{start_of, strings_along}
 use Rattle.cad_map.specs.Valid.{EachPair}
 use Rattle.cad_map.specs.Refusals.{first_refusal}
-use Rattle.cad_map.proofs.Allowed.{allowed}
-use Rattle.cad_map.proofs.AllowedParcels.{can-enclose}
-use Rattle.cad_map.proofs.ChainFacts.{numbers-strings_along, pairs-from_distinct}
-use Rattle.cad_map.proofs.Enclosed.{CanEnclose}
-use Rattle.cad_map.proofs.RingsOfMap.{whole_valid}
+use Rattle.cad_map.proofs.CallerLemmas.{allowed, can-enclose, numbers-strings_along, pairs-from_distinct, CanEnclose, whole_valid}
 use Rattle.cad_edit.proofs.StringRows.{free-numbers}
 use Rattle.cad_edit.proofs.edits.enclose.enclose.Goals as goal
 

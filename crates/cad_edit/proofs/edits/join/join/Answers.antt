@@ -1,13 +1,11 @@
 use Rattle.std.proofs.Common.{◌≡◌, sym, ◌∙◌, [], ◌∷◌, ◌++◌, map}
 use Rattle.cad_rows.specs.declared.rows.StringRow.{StringRow}
 use Rattle.cad_rings.specs.Surgery.{without}
-use Rattle.cad_map.specs.Boundaries.{bounding, listed}
+use Rattle.cad_map.specs.Boundaries.{bounding, canonical_order}
 use Rattle.cad_map.specs.Map.{strings_at}
 use Rattle.cad_map.specs.Table.{without_row}
 use Rattle.cad_map.specs.Changes.{by_number, string_joining}
-use Rattle.cad_map.proofs.RowsLeft.{none-filter}
-use Rattle.cad_map.proofs.KeptJoin.{meet-at}
-use Rattle.cad_map.proofs.StringsMeeting.{left-is, room-without}
+use Rattle.cad_map.proofs.CallerLemmas.{none-filter, meet-at, left-is, room-without}
 use Rattle.cad_edit.proofs.edits.join.join.Goals as goal
 
 pub rings_without-requires : goal.rings_without-requires
@@ -31,5 +29,5 @@ returns c =
     (λ i. record m {
       points = without_row (λ r. r.number) p m.points;
       strings = left-is m c.requires.valid p s t are i ++ string_joining p c.args.string (sym are i);
-      boundaries = listed (map (λ b. bounding b.face (without p b.ring)) m.boundaries);
+      boundaries = canonical_order (map (λ b. bounding b.face (without p b.ring)) m.boundaries);
     })

@@ -1,6 +1,6 @@
 use Rattle.std.proofs.Common.{sym}
 use Rattle.cad_rows.specs.declared.rows.ParcelRow.{ParcelRow}
-use Rattle.cad_map.proofs.Lists.{found-again}
+use Rattle.cad_map.proofs.CallerLemmas.{found-again}
 use Rattle.cad_edit.proofs.edits.labels.rename.Goals as goal
 
 pub set_parcel-requires : goal.set_parcel-requires

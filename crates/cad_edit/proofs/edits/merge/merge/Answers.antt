@@ -1,8 +1,8 @@
 use Rattle.std.proofs.Common.{◌∙◌, [], ◌∷◌, ◌++◌}
 use Rattle.cad_rows.specs.declared.names.Face.TheVariants.{Parcel}
-use Rattle.cad_map.specs.Boundaries.{listed}
+use Rattle.cad_map.specs.Boundaries.{canonical_order}
 use Rattle.cad_map.specs.Table.{without_row}
-use Rattle.cad_map.specs.Merger.{seams, is_shared}
+use Rattle.cad_map.specs.Merger.{shared_chains, is_shared}
 use Rattle.cad_map.specs.Changes.{merge_at}
 use Rattle.cad_edit.proofs.StringRows.{taken-filtered}
 use Rattle.cad_edit.proofs.edits.merge.merge.Goals as goal
@@ -20,5 +20,5 @@ returns c =
       parcels = without_row (λ r. r.number) c.in-Parcel.number m.parcels;
       strings = taken-filtered (is_shared m c.args.kept ended) m.strings c.requires.valid.sound.v1.strings.distinct i;
       retired = m.retired ++ c.in-Parcel.number ∷ [];
-      boundaries = listed (merge_at m c.args.kept ended (seams m c.args.kept ended));
+      boundaries = canonical_order (merge_at m c.args.kept ended (shared_chains m c.args.kept ended));
     })

@@ -3,7 +3,7 @@ use Rattle.std.specs.Prelude.{ℕ, if◌then◌else◌, Bool, true, false}
 use Rattle.std.proofs.lemmas.List.{map-append}
 use Rattle.cad_rows.specs.declared.rows.StringRow.{StringRow}
 use Rattle.cad_map.specs.Merger.{is_shared}
-use Rattle.cad_map.proofs.JoinedRings.{filter-append}
+use Rattle.cad_map.proofs.CallerLemmas.{filter-append}
 use Rattle.cad_edit.proofs.StringRows.{take-found}
 use Rattle.cad_edit.proofs.edits.merge.shared_strings.Goals as goal
 
@@ -21,7 +21,7 @@ loop-place-preserved c =
     let i = c.loop-place.place in
     let row = c.unwrap-row.result.now in
     let at = sym (rw c.unwrap-row.ensures at c.string_at.ensures) in
-    c.in_ok-push_if_wanted.ensures
+    c.in_ok-push_number_if.ensures
     ∙ (λ j. c.loop-place.invariant j ++ (if c.is_shared.ensures j then row.number ∷ [] else []))
     ∙ ap (λ (l : List ℕ). map (λ r. r.number) (filter test (take i strings)) ++ l) (one test row)
     ∙ sym (map-append (λ (r : StringRow). r.number) (filter test (take i strings)) (filter test (row ∷ [])))

@@ -1,6 +1,6 @@
 use Rattle.std.proofs.Common.{sym}
 use Rattle.cad_rows.specs.declared.rows.PointRow.{PointRow}
-use Rattle.cad_map.proofs.Lists.{found-again}
+use Rattle.cad_map.proofs.CallerLemmas.{found-again}
 use Rattle.cad_edit.proofs.edits.points.move_point.Goals as goal
 
 pub set_point-requires : goal.set_point-requires

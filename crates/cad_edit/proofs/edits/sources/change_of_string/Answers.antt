@@ -1,6 +1,6 @@
 use Rattle.std.proofs.Common.{sym}
 use Rattle.cad_rows.specs.declared.rows.StringRow.{StringRow}
-use Rattle.cad_map.proofs.Lists.{found-again}
+use Rattle.cad_map.proofs.CallerLemmas.{found-again}
 use Rattle.cad_edit.proofs.edits.sources.change_of_string.Goals as goal
 
 pub set_string-requires : goal.set_string-requires

@@ -1,9 +1,9 @@
 use Rattle.std.proofs.Common.{sym, [], ◌∷◌, ◌++◌, map, append_assoc}
 use Rattle.cad_rows.specs.declared.rows.StringRow.{StringRow}
 use Rattle.cad_rings.specs.Surgery.{put_on}
-use Rattle.cad_map.specs.Boundaries.{bounding, listed}
+use Rattle.cad_map.specs.Boundaries.{bounding, canonical_order}
 use Rattle.cad_map.specs.Table.{without_row}
-use Rattle.cad_map.proofs.RowsLeft.{none-filter, none-push}
+use Rattle.cad_map.proofs.CallerLemmas.{none-filter, none-push}
 use Rattle.cad_edit.proofs.edits.split.split.Goals as goal
 
 pub put_string-requires : goal.put_string-requires
@@ -27,5 +27,5 @@ returns c =
     (λ i. record m {
       points = m.points ++ record { number = p; position = c.args.halves.now.position; sources = [] } ∷ [];
       strings = append_assoc (without_row (λ r. r.number) row.number m.strings) (one ∷ []) (other ∷ []) i;
-      boundaries = listed (map (λ b. bounding b.face (put_on (row.to, row.from) p (put_on (row.from, row.to) p b.ring))) m.boundaries);
+      boundaries = canonical_order (map (λ b. bounding b.face (put_on (row.to, row.from) p (put_on (row.from, row.to) p b.ring))) m.boundaries);
     })

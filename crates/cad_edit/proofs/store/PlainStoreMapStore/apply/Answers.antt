@@ -1,6 +1,6 @@
 use Rattle.std.proofs.Common.{◌∙◌}
 use Rattle.cad_map.specs.Outcome.{refused, out_of_memory, at_once, breaking}
-use Rattle.cad_map.proofs.Kept.{kept, valid-from_kept}
+use Rattle.cad_map.proofs.CallerLemmas.{kept, valid-from_kept}
 use Rattle.cad_map.specs.Effects.{after}
 use Rattle.cad_edit.proofs.store.PlainStoreMapStore.apply.Goals as goal
 

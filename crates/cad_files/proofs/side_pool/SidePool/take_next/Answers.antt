@@ -1,7 +1,7 @@
 use Rattle.std.proofs.Common.{◌≡◌, ◌≢◌, ◌<◌, ◌∙◌, refl, ap, subst, length, Some, arith, slice_get}
 use Rattle.std.proofs.lemmas.Option.{slice_get_read}
 use Rattle.std.specs.List.{AllByRecursion}
-use Rattle.cad_files.specs.Cycles.{side_of, side_behind, followed_side}
+use Rattle.cad_files.specs.Cycles.{side_of_followed, side_behind, followed_side}
 use Rattle.cad_files.specs.Pool.{Pool}
 use Rattle.cad_files.proofs.NextSides.{next-within}
 use Rattle.cad_files.proofs.PoolFacts.{viewed, next-behind, next-gone, pool-set, taken-among, taken-out}
@@ -19,7 +19,7 @@ returns-then-index-clause-none c =
     let within : last.next < length flags = omega (arith, below, count) in
     let is_set : slice_get flags last.next ≡ Some c.index.result.now = slice_get_read flags (length flags) last.next c.index.result.now refl within c.index.ensures in
     let none = next-gone sides flags c.self.inside.first pool last there (is_set ∙ ap Some c.if-index.true) in
-    (subst (λ (p : Pool). AllByRecursion (λ f. side_of f ≢ side_behind (followed_side last)) p.left) c.self.view_is none, refl)
+    (subst (λ (p : Pool). AllByRecursion (λ f. side_of_followed f ≢ side_behind (followed_side last)) p.left) c.self.view_is none, refl)
 
 pub index_mut-requires : goal.index_mut-requires
 index_mut-requires c =

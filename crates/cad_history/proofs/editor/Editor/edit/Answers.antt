@@ -1,10 +1,10 @@
 use Rattle.std.proofs.Common.{◌≡◌, Err, rules, sym}
-use Rattle.cad_history.proofs.Moves.{shown-valid}
+use Rattle.cad_history.proofs.Moves.{shown_map-valid}
 use Rattle.cad_history.proofs.Calls.{goes-edit, goes-refused}
 use Rattle.cad_history.proofs.editor.Editor.edit.Goals as goal
 
 pub apply-requires : goal.apply-requires
-apply-requires g c = rw (sym c.self.view_is) at (shown-valid g.M.MapView.map g.M.MapStore.belongs c.args.self.now c.requires.0 c.requires.1)
+apply-requires g c = rw (sym c.self.view_is) at (shown_map-valid g.M.MapView.map g.M.MapStore.belongs c.args.self.now c.requires.0 c.requires.1)
 
 pub returns-in_err-record : goal.returns-in_err-record
 returns-in_err-record g c =

@@ -2,7 +2,7 @@ use Rattle.std.proofs.Common.{rules}
 use Rattle.std.specs.Prelude.{Some, ◌≡◌}
 use Rattle.cad_map.specs.Map.{string_of}
 use Rattle.cad_map.specs.Views.{IsNoSide}
-use Rattle.cad_map.proofs.Looks.{no_left, no_right}
+use Rattle.cad_map.proofs.Boundaries.Looks.{no_left, no_right}
 use Rattle.cad_map.proofs.plain.PlainMapMapView.left_right.Goals as goal
 
 pub returns-in_err-left-clause-none : goal.returns-in_err-left-clause-none

@@ -4,7 +4,7 @@ use Rattle.std.proofs.lemmas.List.Sorted.{IsPartitionPoint-from_clause, IsPartit
 use Rattle.std.proofs.lemmas.List.Sorted.{IsPartitionedBy-leb, IsNonDecreasingBy-take, IsNonDecreasingBy-drop}
 use Rattle.cad_map.specs.declared.stars.Spoke.{Spoke}
 use Rattle.cad_map.specs.Stars.{star}
-use Rattle.cad_map.proofs.Runs.{filter-bounds_after}
+use Rattle.cad_map.proofs.Lists.Runs.{filter-bounds_after}
 use Rattle.cad_map.proofs.stars.Stars.ends.Goals as goal
 
 pub returns : goal.returns

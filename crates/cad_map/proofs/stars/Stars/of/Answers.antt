@@ -3,7 +3,7 @@ use Rattle.std.proofs.lemmas.List.Sorted.{IsNonDecreasingBy-from_sort_by_key, an
 use Rattle.cad_map.specs.declared.stars.Spoke.{Spoke}
 use Rattle.cad_map.specs.Map.{origin}
 use Rattle.cad_map.specs.Stars.{star}
-use Rattle.cad_map.proofs.Runs.{filter-stable}
+use Rattle.cad_map.proofs.Lists.Runs.{filter-stable}
 use Rattle.cad_map.proofs.stars.Stars.of.Goals as goal
 
 pub invariant_of-result : goal.invariant_of-result

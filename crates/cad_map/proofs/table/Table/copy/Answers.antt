@@ -1,5 +1,5 @@
 use Rattle.std.proofs.Common.{◌∙◌, sym, ap, List, slice_get}
-use Rattle.cad_map.proofs.Entries.{row_with-before, take-more}
+use Rattle.cad_map.proofs.Lists.Entries.{row_with-before, take-more}
 use Rattle.cad_map.proofs.table.Table.copy.Goals as goal
 
 pub put-requires : goal.put-requires

@@ -1,5 +1,5 @@
 use Rattle.std.proofs.Common.{◌∙◌, ap}
-use Rattle.cad_map.proofs.Entries.{lookup-row}
+use Rattle.cad_map.proofs.Lists.Entries.{lookup-row}
 use Rattle.cad_map.specs.Table.{row_with}
 use Rattle.cad_map.proofs.table.Table.get.Goals as goal
 

@@ -1,5 +1,5 @@
 use Rattle.std.proofs.Common.{◌∙◌, ap, ◌++◌, ◌∷◌, [], List}
-use Rattle.cad_map.proofs.Entries.{lookup-row, AreNumbered-insert_entry, values_of-push}
+use Rattle.cad_map.proofs.Lists.Entries.{lookup-row, AreNumbered-insert_entry, values_of-push}
 use Rattle.cad_map.specs.Table.{row_with}
 use Rattle.std.specs.Map.{values_of}
 use Rattle.std.specs.Prelude.{nat_eq}

@@ -1,6 +1,6 @@
 use Rattle.std.proofs.Common.{◌∙◌, ap}
 use Rattle.std.specs.Prelude.{is_some, true, ◌≡◌}
-use Rattle.cad_map.proofs.Entries.{AreNumbered-insert_entry, values_of-insert_entry}
+use Rattle.cad_map.proofs.Lists.Entries.{AreNumbered-insert_entry, values_of-insert_entry}
 use Rattle.cad_map.specs.Table.{row_with, with_row}
 use Rattle.std.specs.Map.{values_of}
 use Rattle.cad_map.proofs.table.Table.set.Goals as goal

@@ -1,6 +1,6 @@
 use Rattle.std.proofs.Common.{◌∙◌, ap}
 use Rattle.std.specs.Map.{values_of}
-use Rattle.cad_map.proofs.Entries.{AreNumbered-remove_entry, values_of-remove_entry}
+use Rattle.cad_map.proofs.Lists.Entries.{AreNumbered-remove_entry, values_of-remove_entry}
 use Rattle.cad_map.specs.Table.{without_row}
 use Rattle.cad_map.proofs.table.Table.take.Goals as goal
 

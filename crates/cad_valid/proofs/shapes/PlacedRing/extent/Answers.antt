@@ -2,7 +2,7 @@ use Rattle.std.proofs.Common.{sym, subst, List, take}
 use Rattle.std.specs.List.{AllByRecursion}
 use Rattle.std.proofs.lemmas.List.{take_more}
 use Rattle.geo_exact.specs.Position.{Position}
-use Rattle.cad_map.proofs.Lists.{All-push, All-follows}
+use Rattle.cad_map.proofs.CallerLemmas.{All-push, All-follows}
 use Rattle.cad_valid.specs.Extents.{IsWithin}
 use Rattle.cad_valid.proofs.shapes.PlacedRing.extent.Goals as goal
 

@@ -7,7 +7,7 @@ use Rattle.cad_rings.specs.SidesLeft.{sides_left}
 use Rattle.cad_rings.proofs.InMemory.{ends_of}
 use Rattle.cad_rings.proofs.CallerLemmas.{anchor_of-Contains}
 use Rattle.cad_map.specs.Map.{position_of, has_point}
-use Rattle.cad_map.proofs.Lists.{All-Contains}
+use Rattle.cad_map.proofs.CallerLemmas.{All-Contains}
 use Rattle.cad_valid.proofs.shapes.PlacedRing.of.Goals as goal
 
 pub loop-from-init : goal.loop-from-init

@@ -1,0 +1,4 @@
+-- Mergers of two parcels.
+pub mod Merged
+pub mod MergedRows
+pub mod MergedSums

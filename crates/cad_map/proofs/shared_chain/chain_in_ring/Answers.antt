@@ -1,0 +1,65 @@
+use Rattle.std.proofs.Common.{◌≡◌, refl, sym, subst, ap, ◌∙◌, Bool, true, false, Some, None}
+use Rattle.std.specs.List.{list_any}
+use Rattle.cad_rings.specs.Cycle.{Side, sides_of}
+use Rattle.cad_map.specs.Rings.{ring_at}
+use Rattle.cad_map.specs.Steps.{next_side, chain_along, is_before_chain, IsFoundAlong}
+use Rattle.std.specs.Prelude.{◌||◌, IsSome, if◌then◌else◌}
+use Rattle.cad_map.specs.Walk.{walking}
+use Rattle.cad_map.proofs.Boundaries.RingsOfMap.{whole_valid, side_is_told}
+use Rattle.cad_map.proofs.Walks.Walked.{walked, walked-side, walked-all, side-in_all}
+use Rattle.cad_map.proofs.shared_chain.chain_in_ring.Goals as goal
+
+pub unwrap-from-requires : goal.unwrap-from-requires
+unwrap-from-requires g c =
+    let m = g.M.MapView.map c.args.map.now in
+    subst IsSome (sym c.ring_side.ensures.side) (side_is_told m (g.M.MapView.rings c.args.map.now) (whole_valid m c.requires.valid) c.ring_side.ensures.canonical_order c.ring_side.ensures.two c.args.face.now c.args.place c.requires.there)
+
+pub chain_after-requires-clause-there : goal.chain_after-requires-clause-there
+chain_after-requires-clause-there g c =
+    let m = g.M.MapView.map c.args.map.now in
+    let bs = g.M.MapView.rings c.args.map.now in
+    let whole = whole_valid m c.requires.valid in
+    let at = walking g.M.MapView.map g.M.MapView.view_next in
+    let told = c.ring_side.ensures in
+    let on = walked m bs whole told.canonical_order told.two c.args.face.now c.args.place c.requires.there at c.unwrap-from.result c.ring_side.result told.side c.unwrap-from.ensures (g.M.MapView.view_next c.args.map.now)
+    c.from-a-items.result c.into_iter-a-iterator.result c.into_iter-a-iterator.ensures.into_iter_gives c.from-a-items.ensures c.loop-a.yielded c.loop-a.a-iterator c.loop-a.yielded_by in
+    let goes = (rw c.in-Some.is at c.next.ensures.steps).goes_on in
+    side-in_all m bs whole told.canonical_order told.two c.args.face.now c.args.place c.requires.there (c.in-Some.a, c.in-Some.b)
+    (walked-side m bs whole told.canonical_order told.two c.args.face.now c.args.place c.requires.there c.loop-a.yielded (at c.loop-a.a-iterator) (c.in-Some.a, c.in-Some.b) _ on goes)
+
+-- where the test passes, the value is this one
+if_some : {X : Type 0} (b : Bool) (x y : X) → Some y ≡ (if b then Some x else None) → (b ≡ true) × (y ≡ x)
+if_some true x y is = (refl, cc)
+if_some false x y is = cc
+
+pub returns-in-Some-chain_after-clause-some : goal.returns-in-Some-chain_after-clause-some
+returns-in-Some-chain_after-clause-some g c =
+    let m = g.M.MapView.map c.args.map.now in
+    let bs = g.M.MapView.rings c.args.map.now in
+    let whole = whole_valid m c.requires.valid in
+    let at = walking g.M.MapView.map g.M.MapView.view_next in
+    let told = c.ring_side.ensures in
+    let on = walked m bs whole told.canonical_order told.two c.args.face.now c.args.place c.requires.there at c.unwrap-from.result c.ring_side.result told.side c.unwrap-from.ensures (g.M.MapView.view_next c.args.map.now)
+    c.from-a-items.result c.into_iter-a-iterator.result c.into_iter-a-iterator.ensures.into_iter_gives c.from-a-items.ensures c.loop-a.yielded c.loop-a.a-iterator c.loop-a.yielded_by in
+    let goes = (rw c.in-Some.is at c.next.ensures.steps).goes_on in
+    let side : Side = (c.in-Some.a, c.in-Some.b) in
+    let ring = ring_at bs c.args.face.now c.args.place in
+    let chain = chain_along (next_side m) (next_side m side) c.args.count in
+    let there = walked-side m bs whole told.canonical_order told.two c.args.face.now c.args.place c.requires.there c.loop-a.yielded (at c.loop-a.a-iterator) side _ on goes in
+    let is = if_some (is_before_chain m c.args.other.now c.args.count side) chain c.in-Some-chain_after.chain c.in-Some-chain_after.ensures in
+    subst (IsFoundAlong m c.args.other.now c.args.count ring) (sym is.1) (side, there, is.0, refl)
+
+pub returns-clause-none : goal.returns-clause-none
+returns-clause-none g c =
+    let m = g.M.MapView.map c.args.map.now in
+    let bs = g.M.MapView.rings c.args.map.now in
+    let whole = whole_valid m c.requires.valid in
+    let at = walking g.M.MapView.map g.M.MapView.view_next in
+    let told = c.ring_side.ensures in
+    let on = walked m bs whole told.canonical_order told.two c.args.face.now c.args.place c.requires.there at c.unwrap-from.result c.ring_side.result told.side c.unwrap-from.ensures (g.M.MapView.view_next c.args.map.now)
+    c.from-a-items.result c.into_iter-a-iterator.result c.into_iter-a-iterator.ensures.into_iter_gives c.from-a-items.ensures c.loop-a.yielded c.loop-a.a-iterator c.loop-a.yielded_by in
+    let ring = ring_at bs c.args.face.now c.args.place in
+    let none = rw c.in-None.is at c.next.ensures.steps in
+    let all = walked-all m bs whole told.canonical_order told.two c.args.face.now c.args.place c.requires.there c.loop-a.yielded (at c.loop-a.a-iterator) on none.first.0 in
+    let after = list_any (is_before_chain m c.args.other.now c.args.count) in
+    ap (λ (b : Bool). b || after (sides_of ring)) (sym c.runs_round.ensures ∙ c.if-runs_round.false) ∙ ap after (sym all) ∙ c.loop-a.invariant
