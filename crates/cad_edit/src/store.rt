@@ -24,7 +24,7 @@ pub struct PlainStore {
 }
 
 impl MapView for PlainStore {
-    ghost use Rattle.cad_map.specs.Map.{face_at, point_after};
+    ghost use Rattle.cad_map.specs.Map.{face_at, point_after, strings_at};
     ghost use Rattle.cad_map.specs.Views.{faces_beside};
 
     ghost map = { λ store. store.map };
@@ -36,6 +36,8 @@ impl MapView for PlainStore {
     ghost view_next = { λ store side. point_after side store.map.boundaries };
 
     ghost view_faces = { λ store number. faces_beside store.map number };
+
+    ghost view_strings = { λ store point. strings_at store.map point };
 
     fn counts(&self) -> Counts {
         self.map.counts()
@@ -79,6 +81,10 @@ impl MapView for PlainStore {
 
     fn is_retired(&self, no: ParcelNo) -> bool {
         self.map.is_retired(no)
+    }
+
+    fn string_with(&self, point: PointNo, place: usize) -> Option<&StringRow> {
+        self.map.string_with(point, place)
     }
 
     fn degree(&self, no: PointNo) -> usize {

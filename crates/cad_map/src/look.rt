@@ -50,6 +50,27 @@ pub(crate) fn strings_with(strings: &Table<StringRow>, point: PointNo) -> usize
     count
 }
 
+/// The string at a place among those of these that have the point, and `None` past the last.
+pub(crate) fn string_with(
+    strings: &Table<StringRow>,
+    point: PointNo,
+    place: usize,
+) -> Option<&StringRow>
+    ensures { option_copied result ≡ slice_get (filter (λ s. is_end_of s point) strings.now) place }
+{
+    let mut left = place;
+    for at in 0..strings.len() {
+        let row = strings.at(at).unwrap();
+        if is_end(row, point) {
+            if left == 0 {
+                return Some(row);
+            }
+            left -= 1;
+        }
+    }
+    None
+}
+
 /// The face of the first of these rings that has the side from one point to another.
 pub(crate) fn face_with(boundaries: &[Boundary], from: PointNo, to: PointNo) -> Option<Face>
     ensures { result ≡ option_map (λ b. b.face) (find (λ b. has_side_of (from, to) (sides_of b.ring)) boundaries.now) }

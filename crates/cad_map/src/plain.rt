@@ -249,7 +249,7 @@ impl PlainMap {
 }
 
 impl MapView for PlainMap {
-    ghost use Rattle.cad_map.specs.Map.{face_at, point_after};
+    ghost use Rattle.cad_map.specs.Map.{face_at, point_after, strings_at};
     ghost use Rattle.cad_map.specs.Views.{faces_beside};
 
     ghost map = { λ m. m };
@@ -261,6 +261,8 @@ impl MapView for PlainMap {
     ghost view_next = { λ m s. point_after s m.boundaries };
 
     ghost view_faces = { λ m n. faces_beside m n };
+
+    ghost view_strings = { λ m p. strings_at m p };
 
     fn counts(&self) -> Counts {
         Counts {
@@ -310,6 +312,10 @@ impl MapView for PlainMap {
 
     fn is_retired(&self, no: ParcelNo) -> bool {
         self.retired.contains(no)
+    }
+
+    fn string_with(&self, point: PointNo, place: usize) -> Option<&StringRow> {
+        look::string_with(&self.strings, point, place)
     }
 
     fn degree(&self, no: PointNo) -> usize {

@@ -2,11 +2,13 @@
 ghost use Rattle.std.specs.Prelude.{◌≡◌, ℕ, ◌≤◌, List, Option, length, slice_get, option_and_then, IfSome, IfNone, IfOk, IfErr, OnOk, OnErr};
 ghost use Rattle.std.specs.Option.{option_copied};
 ghost use Rattle.std.specs.List.{AllByRecursion};
+ghost use Rattle.std.specs.List.Sorted.{IsPermutation};
 ghost use Rattle.cad_rows.specs.declared.names.Face.{Face as FaceOf};
+ghost use Rattle.cad_rows.specs.declared.rows.StringRow.{StringRow as StringOf};
 ghost use Rattle.cad_rings.specs.Cycle.{Side};
 ghost use Rattle.cad_map.specs.declared.boundary.Boundary.{Boundary};
 ghost use Rattle.cad_map.specs.Boundaries.{canonical_order};
-ghost use Rattle.cad_map.specs.Map.{Map, source_of, point_of, parcel_of, string_of, is_retired as is_retired_in, degree as degree_of, rings_at};
+ghost use Rattle.cad_map.specs.Map.{Map, source_of, point_of, parcel_of, string_of, is_retired as is_retired_in, strings_at, degree as degree_of, rings_at};
 ghost use Rattle.cad_map.specs.Valid.{IsValid};
 ghost use Rattle.cad_map.specs.Views.{HasSide, IsNoSide, ComesAfter, HasFaces, HasNoFaces};
 ghost use Rattle.cad_map.specs.Walk.{first_side};
@@ -46,6 +48,9 @@ pub trait MapView {
 
     /// The faces that it tells to be on the left and on the right of the string with a number.
     ghost view_faces: { Self → ℕ → Option (FaceOf × FaceOf) };
+
+    /// The strings of a point, in the order in which it tells them.
+    ghost view_strings: { Self → ℕ → List StringOf };
 
     /// How many rows of each kind it has.
     fn counts(&self) -> Counts
@@ -96,6 +101,14 @@ pub trait MapView {
     /// Whether a merger that stands ended the parcel with a number.
     fn is_retired(&self, no: ParcelNo) -> bool
         ensures { result ≡ is_retired_in (map self.now) no };
+
+    /// The string at a place among those that have a point, and `None` past the last of them. Each
+    /// has one place there; which one isn't told.
+    fn string_with(&self, point: PointNo, place: usize) -> Option<&StringRow>
+        ensures string { option_copied result ≡ slice_get (view_strings self.now point) place }
+        // They are the point's strings, each once.
+        ensures each { IsPermutation (strings_at (map self.now) point)
+            (view_strings self.now point) };
 
     /// How many strings have a point.
     fn degree(&self, no: PointNo) -> usize
