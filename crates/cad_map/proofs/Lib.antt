@@ -8,3 +8,4 @@ pub mod Mergers
 pub mod SharedChains
 pub mod Worked
 pub mod CallerLemmas
+pub mod StringsTold

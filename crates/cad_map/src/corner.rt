@@ -1,16 +1,16 @@
 //! Corners of a face's rings: the one that a chain leaves at a point, and whether two of them are in one ring.
-ghost use Rattle.std.specs.Prelude.{◌≡◌, ◌⊎◌, ◌<◌, ◌&&◌, [], ◌∷◌, Some, length, IsTrue};
+ghost use Rattle.std.specs.Prelude.{◌≡◌, ◌⊎◌, ◌&&◌, [], ◌∷◌, Some, IsTrue};
 ghost use Rattle.std.specs.List.{Contains, list_any};
 ghost use Rattle.cad_rows.specs.declared.names.Face.{Face as FaceOf};
 ghost use Rattle.cad_rings.specs.Cycle.{is_side, has_side, sides_of};
 ghost use Rattle.cad_rings.specs.Surgery.{corner as corner_of};
 ghost use Rattle.cad_map.specs.Chain.{leaving, has_in_sector as has_in_sector_of, chosen_corner as chosen_corner_of};
 ghost use Rattle.cad_map.specs.Choice.{MayBeChosen, IsFirst};
-ghost use Rattle.cad_map.specs.Map.{has_point, rings_at, rings_of, face_corners};
-ghost use Rattle.cad_map.specs.Rings.{HasWholeRings, ring_at};
+ghost use Rattle.cad_map.specs.Map.{has_point, rings_of, face_corners};
 ghost use Rattle.cad_map.specs.Valid.{IsValid};
 
-use crate::rings::{position, ring_count};
+use crate::look::{far_end, is_face};
+use crate::rings::position;
 use crate::store::MapView;
 use crate::walk::Walk;
 use cad_rows::{Face, PointNo};
@@ -36,8 +36,8 @@ impl Model for Corner {
 }
 
 /// The corner of a face at a point whose sector has another point; of several, the one whose following point has the
-/// least number. `None` where no corner at the point has the other in its sector. Takes no memory.
-#[tactic(auto, using(crate::proofs::Boundaries::RingsOfMap::whole_valid))]
+/// least number. `None` where no corner at the point has the other in its sector. It looks at each string of the point
+/// once, and takes no memory.
 pub fn chosen_corner<M: MapView>(
     map: &M,
     face: &Face,
@@ -49,54 +49,35 @@ pub fn chosen_corner<M: MapView>(
     ensures { result ≡ chosen_corner_of (M.map map.now) face.now at towards }
 {
     let mut chosen = None;
-    for place in 0..ring_count(map, face) {
-        chosen = first_by_after(chosen, chosen_in_ring(map, face, place, at, towards));
+    for place in 0..map.degree(at) {
+        let from = far_end(map.string_with(at, place).unwrap(), at);
+        chosen = first_by_after(chosen, corner_after(map, face, from, at, towards));
     }
     chosen
 }
 
-/// The corner of a ring of a face at a point whose sector has another point; of several, the one whose following point
-/// has the least number.
-fn chosen_in_ring<M: MapView>(
-    map: &M,
-    face: &Face,
-    place: usize,
-    at: PointNo,
-    towards: PointNo,
-) -> Option<Corner>
-    requires whole { HasWholeRings (M.map map.now) }
-    requires there { place < length (rings_at face.now (M.rings map.now)) }
-    requires towards_there { IsTrue (has_point (M.map map.now) towards) }
-    ensures { IsFirst (MayBeChosen (M.map map.now) at towards (sides_of (ring_at (M.rings map.now) face.now place))) result }
-{
-    let (start, end) = map.ring_side(*face, place).unwrap();
-    let mut chosen = None;
-    for (from, to) in Walk::from(map, start, end) {
-        chosen = first_by_after(chosen, corner_after(map, from, to, at, towards));
-    }
-    chosen
-}
-
-/// The corner after a side, where it is at a point and its sector has another point.
+/// The corner of a face after the side between two points, where its sector has another point.
+#[tactic(auto, using(crate::proofs::Boundaries::RingsOfMap::whole_valid))]
 fn corner_after<M: MapView>(
     map: &M,
+    face: &Face,
     from: PointNo,
-    to: PointNo,
     at: PointNo,
     towards: PointNo,
 ) -> Option<Corner>
-    requires whole { HasWholeRings (M.map map.now) }
+    requires valid { IsValid (M.map map.now) }
     requires towards_there { IsTrue (has_point (M.map map.now) towards) }
-    ensures { IsFirst (MayBeChosen (M.map map.now) at towards ((from, to) ∷ [])) result }
+    ensures { IsFirst (MayBeChosen (M.map map.now) face.now at towards (from ∷ [])) result }
 {
-    if to.get() != at.get() {
+    let on_left = map.face_of(from, at)?;
+    if !is_face(face, &on_left) {
         return None;
     }
-    let after = map.after(from, to)?;
-    if has_in_sector(map, from, to, after, towards) {
+    let after = map.after(from, at)?;
+    if has_in_sector(map, from, at, after, towards) {
         Some(Corner {
             before: from,
-            at: to,
+            at,
             after,
         })
     } else {

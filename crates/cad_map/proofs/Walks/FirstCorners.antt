@@ -5,27 +5,30 @@ use Rattle.std.specs.List.{AllByRecursion, Contains, list_all}
 use Rattle.std.proofs.lemmas.Bool.{eqb-true, and_parts}
 use Rattle.std.proofs.lemmas.Bool.Decides.{nat_tests}
 use Rattle.std.proofs.lemmas.Cmp.{nat_eq_equiv}
+use Rattle.std.proofs.lemmas.Option.{same_Some}
 use Rattle.std.proofs.lemmas.List.{map-append}
 use Rattle.std.proofs.lemmas.List.Elements.{Contains-append_cases, Contains-append_left, Contains-append_right}
 use Rattle.std.proofs.lemmas.List.Sorted.{IsPermutation-sym, Contains-permutation}
 use Rattle.cad_rows.specs.declared.names.Face.{Face}
-use Rattle.cad_rings.specs.Cycle.{Ring, Side, is_side, sides_of, Corner, corners_of}
+use Rattle.cad_rows.specs.declared.rows.StringRow.{StringRow}
+use Rattle.cad_rings.specs.Cycle.{Ring, Side, is_side, sides_of, opposite, Corner, corners_of}
 use Rattle.cad_rings.specs.Surgery.{corner}
 use Rattle.cad_map.specs.declared.boundary.Boundary.{Boundary}
-use Rattle.cad_map.specs.Boundaries.{canonical_order, sides_in, corners_in}
-use Rattle.cad_map.specs.Map.{Map, has_point, rings_at, rings_of, face_sides, face_corners, all_sides, all_corners}
+use Rattle.cad_map.specs.Boundaries.{is_face, sides_in, corners_in}
+use Rattle.cad_map.specs.Map.{Map, has_point, is_end, far_end, side_of, strings_at, string_sides, rings_of, face_sides, face_corners, all_sides, all_corners}
 use Rattle.cad_map.specs.Chain.{has_in_sector, first_by_after, chosen_corner}
 use Rattle.cad_map.specs.Choice.{MayBeChosen, IsFirst}
 use Rattle.cad_map.specs.Rings.{HasWholeRings}
-use Rattle.cad_map.specs.Views.{IsNoSide}
+use Rattle.cad_map.specs.Views.{HasSide, IsNoSide}
 use Rattle.cad_map.proofs.Lists.EachElement.{All-follows}
-use Rattle.cad_map.proofs.Lists.Elements.{Contains-cases, Contains-first, Contains-flat_map, Contains-in_part, All-at_each, count-map, one-only}
+use Rattle.cad_map.proofs.Lists.Elements.{Contains-cases, Contains-first, Contains-map, Contains-flat_map, Contains-in_part, All-at_each, count-map, one-only}
 use Rattle.cad_map.proofs.Lists.ElementFacts.{Contains-filter, filter-Contains, list_all-at, list_all-from, find-Contains, map-Contains}
 use Rattle.cad_map.proofs.Walks.Counted.{times, times-append, times-cons}
 use Rattle.cad_map.proofs.Walks.AlongRing.{side_before, side_behind, sides-before, sides-behind, is_side-refl, HaveDistinctSides, once-from_pairs, corner-only}
-use Rattle.cad_map.proofs.Boundaries.FacesBeside.{Contains-has_side}
+use Rattle.cad_map.proofs.Boundaries.FacesBeside.{has_side-Contains, Contains-has_side, beside, one_face, string_side}
+use Rattle.cad_map.proofs.Boundaries.Looks.{is_face-refl}
+use Rattle.cad_map.proofs.Ends.Meetings.{ends as ends_of, is_end-of}
 use Rattle.cad_map.proofs.Walks.ChosenCorners.{face-ring}
-use Rattle.cad_map.proofs.Boundaries.OrderedParts.{face_sides-canonical_order}
 use Rattle.cad_map.proofs.Boundaries.RingsOfMap.{string-side-points}
 use Rattle.cad_map.proofs.Edits.JoinedRings.{first-there, corner-sides}
 
@@ -88,29 +91,33 @@ first-of_two P Q R a b (Some c) of_a of_b first part one other = (
   ],
 )
 
--- ---- Side by side
+-- ---- String by string
 
-module _ (m : Map) (at w : ℕ) where
-  pub first-none : IsFirst (MayBeChosen m at w []) None
-  first-none = λ c k. let low = k.comes_after.1 in absurd (omega arith)
+module _ (m : Map) (face : Face) (at w : ℕ) where
+  pub first-none : IsFirst (MayBeChosen m face at w []) None
+  first-none = λ c k. let low = k.comes_from.1 in absurd (omega arith)
 
-  among : (xs ys : List Side) → ((s : Side) → Contains xs s → Contains ys s) → (c : Corner) → MayBeChosen m at w xs c → MayBeChosen m at w ys c
-  among xs ys more c k = record { there = k.there; comes_after = more (c.before, c.at) k.comes_after; stands = k.stands; has = k.has }
+  among : (xs ys : List ℕ) → ((p : ℕ) → Contains xs p → Contains ys p) → (c : Corner) → MayBeChosen m face at w xs c → MayBeChosen m face at w ys c
+  among xs ys more c k = record { there = k.there; comes_from = more c.before k.comes_from; stands = k.stands; has = k.has }
 
-  -- the first after some sides and some more
-  pub first-more : (xs ys : List Side) (a b o : Option Corner) → IsFirst (MayBeChosen m at w xs) a → IsFirst (MayBeChosen m at w ys) b → IsFirst (λ c. (a ≡ Some c) ⊎ (b ≡ Some c)) o
-      → IsFirst (MayBeChosen m at w (xs ++ ys)) o
+  -- the first after sides from some points and from some more
+  pub first-more : (xs ys : List ℕ) (a b o : Option Corner) → IsFirst (MayBeChosen m face at w xs) a → IsFirst (MayBeChosen m face at w ys) b
+      → IsFirst (λ c. (a ≡ Some c) ⊎ (b ≡ Some c)) o → IsFirst (MayBeChosen m face at w (xs ++ ys)) o
   first-more xs ys a b o of_a of_b first =
-      first-of_two (MayBeChosen m at w xs) (MayBeChosen m at w ys) (MayBeChosen m at w (xs ++ ys)) a b o of_a of_b first
-      (λ c k. elim (Contains-append_cases xs ys (c.before, c.at) k.comes_after) [
-        | inl h ↦ inl (record { there = k.there; comes_after = h; stands = k.stands; has = k.has })
-        | inr h ↦ inr (record { there = k.there; comes_after = h; stands = k.stands; has = k.has })
+      first-of_two (MayBeChosen m face at w xs) (MayBeChosen m face at w ys) (MayBeChosen m face at w (xs ++ ys)) a b o of_a of_b first
+      (λ c k. elim (Contains-append_cases xs ys c.before k.comes_from) [
+        | inl h ↦ inl (record { there = k.there; comes_from = h; stands = k.stands; has = k.has })
+        | inr h ↦ inr (record { there = k.there; comes_from = h; stands = k.stands; has = k.has })
       ])
-      (among xs (xs ++ ys) (λ s h. Contains-append_left xs ys s h))
-      (among ys (xs ++ ys) (λ s h. Contains-append_right xs ys s h))
+      (among xs (xs ++ ys) (λ p h. Contains-append_left xs ys p h))
+      (among ys (xs ++ ys) (λ p h. Contains-append_right xs ys p h))
 
-  after_one : (s : Side) (c : Corner) → MayBeChosen m at w (s ∷ []) c → s ≡ (c.before, c.at)
-  after_one s c k = elim (Contains-cases s [] (c.before, c.at) k.comes_after) [ inl same ↦ same | inr none ↦ let low = none.1 in absurd (omega arith) ]
+  -- the side that one comes after, where it comes from one point
+  side_from_one : (p : ℕ) (c : Corner) → MayBeChosen m face at w (p ∷ []) c → (p, at) ≡ side_before c
+  side_from_one p c k = elim (Contains-cases p [] c.before k.comes_from) [
+    | inl same ↦ λ i. (same i, sym k.stands i)
+    | inr none ↦ let low = none.1 in absurd (omega arith)
+  ]
 
 -- ---- The corners of whole rings
 
@@ -164,78 +171,119 @@ module _ (m : Map) (whole : HasWholeRings m) where
       let s = side_behind c in
       one-only (λ e. is_side s (side_behind e)) (all_corners m) c d (behind-once s) h k (is_side-refl s) (ap (is_side s) (sym same) ∙ is_side-refl s)
 
-  module _ (at w : ℕ) where
-    -- a side of no ring has no corner after it
-    pub first-no_side : (s : Side) → IsNoSide m s → IsFirst (MayBeChosen m at w (s ∷ [])) None
-    first-no_side s none = λ c k.
-        let has = (corner-all_sides c k.there).0 in
-        true≢false (sym (Contains-has_side s (all_sides m) (subst (Contains (all_sides m)) (sym (after_one m at w s c k)) has)) ∙ none)
+  -- ---- The corners of a face
 
-    -- the corner after a side is the only one
-    only : (s : Side) (n : ℕ) → Contains (all_corners m) (corner s.0 s.1 n) → (c : Corner) → MayBeChosen m at w (s ∷ []) c → corner s.0 s.1 n ≡ c
-    only s n there c k = corner-only m.boundaries distinct-whole (corner s.0 s.1 n) c there k.there (after_one m at w s c k)
+  module _ (face : Face) where
+    -- a corner after a side of the face is one of the face's
+    of_face : (c : Corner) → Contains (all_corners m) c → Contains (face_sides m face) (side_before c) → Contains (face_corners m face) c
+    of_face c there before =
+        let ring = Contains-in_part sides_of (rings_of m face) (side_before c) before in
+        let b = face-ring m face ring.0 ring.1 in
+        let long : 2 ≤ length ring.0 = subst (λ (r : Ring). 2 ≤ length r) b.3 (All-at_each (λ b. 2 ≤ length b.ring) m.boundaries b.0 two-each b.1) in
+        let d = map-Contains side_before (corners_of ring.0) (side_before c) (subst (λ (l : List Side). Contains l (side_before c)) (sym (sides-before ring.0 long)) ring.2) in
+        let too = Contains-flat_map (λ b. corners_of b.ring) m.boundaries b.0 d.0 b.1 (subst (λ (r : Ring). Contains (corners_of r) d.0) (sym b.3) d.1) in
+        subst (Contains (face_corners m face)) (corner-only m.boundaries distinct-whole d.0 c too there d.2) (Contains-flat_map corners_of (rings_of m face) ring.0 d.0 ring.1 d.1)
 
-    pub first-one : (s : Side) (n : ℕ) → Contains (all_corners m) (corner s.0 s.1 n) → s.1 ≡ at → has_in_sector m (corner s.0 s.1 n) w ≡ true → IsFirst (MayBeChosen m at w (s ∷ [])) (Some (corner s.0 s.1 n))
-    first-one s n there stands has = (
-      record { there = there; comes_after = Contains-first s []; stands = stands; has = has },
-      λ d k. let same = ap (λ (c : Corner). c.after) (only s n there d k) in omega (arith, same),
-    )
+    on_face : (c : Corner) → Contains (face_corners m face) c → Contains (all_corners m) c × Contains (face_sides m face) (side_before c)
+    on_face c h =
+        let ring = Contains-in_part corners_of (rings_of m face) c h in
+        let b = face-ring m face ring.0 ring.1 in
+        let long : 2 ≤ length ring.0 = subst (λ (r : Ring). 2 ≤ length r) b.3 (All-at_each (λ b. 2 ≤ length b.ring) m.boundaries b.0 two-each b.1) in
+        let sides = corner-sides ring.0 long c ring.2 in (
+          Contains-flat_map (λ b. corners_of b.ring) m.boundaries b.0 c b.1 (subst (λ (r : Ring). Contains (corners_of r) c) (sym b.3) ring.2),
+          Contains-flat_map sides_of (rings_of m face) ring.0 (side_before c) ring.1 sides.0,
+        )
 
-    pub first-other_way : (s : Side) (n : ℕ) → Contains (all_corners m) (corner s.0 s.1 n) → has_in_sector m (corner s.0 s.1 n) w ≡ false → IsFirst (MayBeChosen m at w (s ∷ [])) None
-    first-other_way s n there missed = λ c k. true≢false (sym k.has ∙ ap (λ (c : Corner). has_in_sector m c w) (sym (only s n there c k)) ∙ missed)
+    -- no two faces have one side
+    only_face : (f : Face) (s : Side) → Contains (face_sides m face) s → Contains (face_sides m f) s → face ≡ f
+    only_face f s here there =
+        let one = beside face s m.boundaries here in
+        let two = beside f s m.boundaries there in
+        let once = once-from_pairs (all_sides m) whole.once s in
+        one.face ∙ same_Some one.boundary.face two.boundary.face
+        (sym (one_face s m.boundaries one.boundary once one.there one.has) ∙ one_face s m.boundaries two.boundary once two.there two.has) ∙ sym two.face
 
-    -- ---- The corners of a face
+    module _ (at w : ℕ) where
+      -- after a side of no ring, and after one of another face, there is none
+      pub first-no_side : (p : ℕ) → IsNoSide m (p, at) → IsFirst (MayBeChosen m face at w (p ∷ [])) None
+      first-no_side p none = λ c k.
+          let has = (corner-all_sides c (on_face c k.there).0).0 in
+          true≢false (sym (Contains-has_side (p, at) (all_sides m) (subst (Contains (all_sides m)) (sym (side_from_one m face at w p c k)) has)) ∙ none)
 
-    module _ (bs : List Boundary) (is : canonical_order bs ≡ m.boundaries) (face : Face) where
-      abbrev asked : Corner → Bool
-      asked c = (c.at == at) && has_in_sector m c w
+      pub first-other_face : (p : ℕ) (f : Face) → HasSide m f (p, at) → is_face face f ≡ false → IsFirst (MayBeChosen m face at w (p ∷ [])) None
+      first-other_face p f has other = λ c k.
+          let here = subst (Contains (face_sides m face)) (sym (side_from_one m face at w p c k)) (on_face c k.there).1 in
+          let same = only_face f (p, at) here (has_side-Contains (p, at) (face_sides m f) has) in
+          true≢false (sym (is_face-refl face) ∙ ap (is_face face) same ∙ other)
 
-      sides-kept : IsPermutation (flat_map sides_of (rings_at face bs)) (face_sides m face)
-      sides-kept = subst (λ (cs : List Boundary). IsPermutation (flat_map sides_of (rings_at face bs)) (flat_map sides_of (rings_at face cs))) is (face_sides-canonical_order face bs)
+      -- the corner after a side is the only one
+      only : (p n : ℕ) → Contains (all_corners m) (corner p at n) → (c : Corner) → MayBeChosen m face at w (p ∷ []) c → corner p at n ≡ c
+      only p n there c k = corner-only m.boundaries distinct-whole (corner p at n) c there (on_face c k.there).0 (side_from_one m face at w p c k)
 
-      -- a corner after a side of the face is one of the face's
-      of_face : (c : Corner) → Contains (all_corners m) c → Contains (face_sides m face) (side_before c) → Contains (face_corners m face) c
-      of_face c there before =
-          let ring = Contains-in_part sides_of (rings_of m face) (side_before c) before in
-          let b = face-ring m face ring.0 ring.1 in
-          let long : 2 ≤ length ring.0 = subst (λ (r : Ring). 2 ≤ length r) b.3 (All-at_each (λ b. 2 ≤ length b.ring) m.boundaries b.0 two-each b.1) in
-          let d = map-Contains side_before (corners_of ring.0) (side_before c) (subst (λ (l : List Side). Contains l (side_before c)) (sym (sides-before ring.0 long)) ring.2) in
-          let too = Contains-flat_map (λ b. corners_of b.ring) m.boundaries b.0 d.0 b.1 (subst (λ (r : Ring). Contains (corners_of r) d.0) (sym b.3) d.1) in
-          subst (Contains (face_corners m face)) (corner-only m.boundaries distinct-whole d.0 c too there d.2) (Contains-flat_map corners_of (rings_of m face) ring.0 d.0 ring.1 d.1)
+      pub first-one : (p n : ℕ) → HasSide m face (p, at) → Contains (all_corners m) (corner p at n) → has_in_sector m (corner p at n) w ≡ true
+          → IsFirst (MayBeChosen m face at w (p ∷ [])) (Some (corner p at n))
+      first-one p n side there has = (
+        record { there = of_face (corner p at n) there (has_side-Contains (p, at) (face_sides m face) side); comes_from = Contains-first p []; stands = refl; has = has },
+        λ d k. let same = ap (λ (c : Corner). c.after) (only p n there d k) in omega (arith, same),
+      )
 
-      on_face : (c : Corner) → Contains (face_corners m face) c → Contains (all_corners m) c × Contains (face_sides m face) (side_before c)
-      on_face c h =
-          let ring = Contains-in_part corners_of (rings_of m face) c h in
-          let b = face-ring m face ring.0 ring.1 in
-          let long : 2 ≤ length ring.0 = subst (λ (r : Ring). 2 ≤ length r) b.3 (All-at_each (λ b. 2 ≤ length b.ring) m.boundaries b.0 two-each b.1) in
-          let sides = corner-sides ring.0 long c ring.2 in (
-            Contains-flat_map (λ b. corners_of b.ring) m.boundaries b.0 c b.1 (subst (λ (r : Ring). Contains (corners_of r) c) (sym b.3) ring.2),
-            Contains-flat_map sides_of (rings_of m face) ring.0 (side_before c) ring.1 sides.0,
-          )
+      pub first-other_way : (p n : ℕ) → Contains (all_corners m) (corner p at n) → has_in_sector m (corner p at n) w ≡ false → IsFirst (MayBeChosen m face at w (p ∷ [])) None
+      first-other_way p n there missed = λ c k. true≢false (sym k.has ∙ ap (λ (c : Corner). has_in_sector m c w) (sym (only p n there c k)) ∙ missed)
 
-      -- The first of those after the sides of a face, in whatever order its rings are kept, is the face's chosen corner.
-      pub first-chosen : (o : Option Corner) → IsFirst (MayBeChosen m at w (flat_map sides_of (rings_at face bs))) o → chosen_corner m face at w ≡ o
-      first-chosen o first = first-found (MayBeChosen m at w kept) (filter asked (face_corners m face)) there from apart o first
-        where
-          kept : List Side
-          kept = flat_map sides_of (rings_at face bs)
+      -- The first of those along the strings of the point, in whatever order they are told, is the face's chosen corner.
+      module _ (strings : List StringRow) (each : IsPermutation (strings_at m at) strings) where
+        abbrev asked : Corner → Bool
+        asked c = (c.at == at) && has_in_sector m c w
 
-          there : (c : Corner) → MayBeChosen m at w kept c → Contains (filter asked (face_corners m face)) c
-          there c k =
-              let test : asked c ≡ true = (λ i. (k.stands i == at) && k.has i) ∙ ap (λ (b : Bool). b && true) (nat_eq_equiv.refl at) in
-              Contains-filter asked (face_corners m face) c (of_face c k.there (Contains-permutation kept (face_sides m face) (side_before c) sides-kept k.comes_after)) test
+        abbrev ends : List ℕ
+        ends = map (λ s. far_end s at) strings
 
-          from : (c : Corner) → Contains (filter asked (face_corners m face)) c → MayBeChosen m at w kept c
-          from c h =
-              let found = filter-Contains asked (face_corners m face) c h in
-              let on = on_face c found.0 in
-              let both = and_parts (c.at == at) (has_in_sector m c w) found.1 in
-              record {
-                there = on.0;
-                comes_after = Contains-permutation (face_sides m face) kept (side_before c) (IsPermutation-sym kept (face_sides m face) sides-kept) on.1;
-                stands = eqb-true c.at at both.0;
-                has = both.1;
-              }
+        -- a side into the point comes along one of its strings
+        comes_along : (p : ℕ) → Contains (all_sides m) (p, at) → Contains ends p
+        comes_along p h =
+            let t = string_side m (p, at) (Contains-permutation (all_sides m) (string_sides m) (p, at) (IsPermutation-sym (string_sides m) (all_sides m) whole.v5.once) h) in
+            let two = led t.string t.is in
+            let told = Contains-permutation (strings_at m at) strings t.string each (Contains-filter (λ s. is_end s at) m.strings t.string t.there two.0) in
+            subst (Contains ends) two.1 (Contains-map (λ s. far_end s at) strings t.string told)
+          where
+            led : (t : StringRow) → ((p, at) ≡ side_of t) ⊎ ((p, at) ≡ opposite (side_of t)) → (is_end t at ≡ true) × (far_end t at ≡ p)
+            led t (inl is) =
+                let end = is_end-of t at (inr (ap (λ (s : Side). s.1) (sym is))) in (
+                  end,
+                  elim (ends_of t at end) [
+                    | inl e ↦ sym e.1 ∙ ap (λ (s : Side). s.1) (sym is) ∙ sym e.0 ∙ ap (λ (s : Side). s.0) (sym is)
+                    | inr e ↦ sym e.1 ∙ ap (λ (s : Side). s.0) (sym is)
+                  ],
+                )
+            led t (inr is) =
+                let end = is_end-of t at (inl (ap (λ (s : Side). s.1) (sym is))) in (
+                  end,
+                  elim (ends_of t at end) [
+                    | inl e ↦ sym e.1 ∙ ap (λ (s : Side). s.0) (sym is)
+                    | inr e ↦ sym e.1 ∙ ap (λ (s : Side). s.1) (sym is) ∙ sym e.0 ∙ ap (λ (s : Side). s.0) (sym is)
+                  ],
+                )
 
-          apart : (c d : Corner) → MayBeChosen m at w kept c → MayBeChosen m at w kept d → c.after ≡ d.after → c ≡ d
-          apart c d h k same = behind-only c d h.there k.there (λ i. ((h.stands ∙ sym k.stands) i, same i))
+        pub first-chosen : (o : Option Corner) → IsFirst (MayBeChosen m face at w ends) o → chosen_corner m face at w ≡ o
+        first-chosen o first = first-found (MayBeChosen m face at w ends) (filter asked (face_corners m face)) there from apart o first
+          where
+            there : (c : Corner) → MayBeChosen m face at w ends c → Contains (filter asked (face_corners m face)) c
+            there c k =
+                let test : asked c ≡ true = (λ i. (k.stands i == at) && k.has i) ∙ ap (λ (b : Bool). b && true) (nat_eq_equiv.refl at) in
+                Contains-filter asked (face_corners m face) c k.there test
+
+            from : (c : Corner) → Contains (filter asked (face_corners m face)) c → MayBeChosen m face at w ends c
+            from c h =
+                let found = filter-Contains asked (face_corners m face) c h in
+                let both = and_parts (c.at == at) (has_in_sector m c w) found.1 in
+                let stands = eqb-true c.at at both.0 in
+                let side = (corner-all_sides c (on_face c found.0).0).0 in
+                record {
+                  there = found.0;
+                  comes_from = comes_along c.before (subst (λ (p : ℕ). Contains (all_sides m) (c.before, p)) stands side);
+                  stands = stands;
+                  has = both.1;
+                }
+
+            apart : (c d : Corner) → MayBeChosen m face at w ends c → MayBeChosen m face at w ends d → c.after ≡ d.after → c ≡ d
+            apart c d h k same = behind-only c d (on_face c h.there).0 (on_face d k.there).0 (λ i. ((h.stands ∙ sym k.stands) i, same i))

@@ -1,37 +1,51 @@
-use Rattle.std.proofs.Common.{ℕ, ◌<◌, ◌≤◌, ◌∙◌, sym, ap, subst, List, [], ◌∷◌, ◌++◌, take, length}
-use Rattle.std.specs.Prelude.{flat_map}
-use Rattle.std.proofs.lemmas.List.{take_all, append-nil}
-use Rattle.std.proofs.lemmas.Grind.{flat_map-append}
-use Rattle.std.proofs.lemmas.Option.{slice_get-get_or}
-use Rattle.cad_rings.specs.Cycle.{Ring, Side, sides_of}
+use Rattle.std.proofs.Common.{◌≡◌, ◌+◌, ◌<◌, ◌≤◌, ℕ, sym, ap, subst, ◌∙◌, arith, List, [], ◌∷◌, ◌++◌, take, map, length}
+use Rattle.std.proofs.lemmas.List.{map-append}
+use Rattle.std.proofs.lemmas.List.Sorted.{length_permutation}
+use Rattle.cad_rows.specs.declared.rows.StringRow.{StringRow}
 use Rattle.cad_map.specs.Choice.{MayBeChosen, IsFirst}
-use Rattle.cad_map.specs.Map.{rings_at}
-use Rattle.cad_map.specs.Rings.{ring_at}
+use Rattle.cad_map.specs.Map.{strings_at, far_end}
 use Rattle.cad_map.proofs.Lists.Entries.{take-more}
 use Rattle.cad_map.proofs.Walks.FirstCorners.{first-none, first-more, first-chosen}
 use Rattle.cad_map.proofs.Boundaries.RingsOfMap.{whole_valid}
+use Rattle.cad_map.proofs.StringsTold.{lent-some, lent-is, all-told}
 use Rattle.cad_map.proofs.corner.chosen_corner.Goals as goal
 
+pub unwrap-requires : goal.unwrap-requires
+unwrap-requires g c =
+    let told = c.string_with.ensures in
+    let strings = g.M.MapView.view_strings c.args.map.now c.args.at in
+    let same = length_permutation (strings_at (g.M.MapView.map c.args.map.now) c.args.at) strings told.each in
+    lent-some c.string_with.result strings c.loop-place.place told.string (omega (arith, same, c.degree-place-end.ensures, c.loop-place-test.true))
+
 pub loop-place-init : goal.loop-place-init
-loop-place-init g c = first-none (g.M.MapView.map c.args.map.now) c.args.at c.args.towards
+loop-place-init g c = record {
+  first = first-none (g.M.MapView.map c.args.map.now) c.args.face.now c.args.at c.args.towards;
+  each = λ more. absurd (omega (arith, more));
+}
 
 pub loop-place-preserved : goal.loop-place-preserved
 loop-place-preserved g c =
     let m = g.M.MapView.map c.args.map.now in
-    let rings = rings_at c.args.face.now (g.M.MapView.rings c.args.map.now) in
-    let ring = ring_at (g.M.MapView.rings c.args.map.now) c.args.face.now c.loop-place.place in
-    let so_far = flat_map sides_of (take c.loop-place.place rings) in
-    let within : c.loop-place.place < length rings = subst (λ (n : ℕ). c.loop-place.place < n) c.ring_count-place-end.ensures.count c.loop-place-test.true in
-    let more = ap (flat_map sides_of) (sym (take-more rings c.loop-place.place ring (slice_get-get_or rings c.loop-place.place [] within)))
-    ∙ flat_map-append sides_of (take c.loop-place.place rings) (ring ∷ []) ∙ ap (λ (l : List Side). so_far ++ l) (append-nil (sides_of ring)) in
-    subst (λ (sides : List Side). IsFirst (MayBeChosen m c.args.at c.args.towards sides) c.first_by_after-chosen.result) (sym more)
-    (first-more m c.args.at c.args.towards so_far (sides_of ring) c.loop-place.chosen c.chosen_in_ring.result c.first_by_after-chosen.result c.loop-place.invariant c.chosen_in_ring.ensures c.first_by_after-chosen.ensures)
+    let at = c.args.at in
+    let strings = g.M.MapView.view_strings c.args.map.now at in
+    let so_far = take c.loop-place.place strings in
+    let far = λ (s : StringRow). far_end s at in
+    let row = c.unwrap.result.now in
+    let told = lent-is c.string_with.result c.unwrap.result strings c.loop-place.place c.string_with.ensures.string c.unwrap.ensures in
+    let more : map far so_far ++ c.far_end-from.result ∷ [] ≡ map far (take (c.loop-place.place + 1) strings) =
+    ap (λ (p : ℕ). map far so_far ++ p ∷ []) c.far_end-from.ensures ∙ sym (map-append far so_far (row ∷ [])) ∙ ap (map far) (take-more strings c.loop-place.place row told) in
+    record {
+      first = subst (λ (ends : List ℕ). IsFirst (MayBeChosen m c.args.face.now at c.args.towards ends) c.first_by_after-chosen.result) more
+          (first-more m c.args.face.now at c.args.towards (map far so_far) (c.far_end-from.result ∷ []) c.loop-place.chosen c.corner_after.result c.first_by_after-chosen.result
+          c.loop-place.invariant.first c.corner_after.ensures c.first_by_after-chosen.ensures);
+      each = λ _. c.string_with.ensures.each;
+    }
 
 pub returns : goal.returns
 returns g c =
     let m = g.M.MapView.map c.args.map.now in
-    let bs = g.M.MapView.rings c.args.map.now in
-    let rings = rings_at c.args.face.now bs in
-    let past : length rings ≤ c.loop-place.place = subst (λ (n : ℕ). n ≤ c.loop-place.place) c.ring_count-place-end.ensures.count c.loop-place-test.false in
-    let all = subst (λ (rs : List Ring). IsFirst (MayBeChosen m c.args.at c.args.towards (flat_map sides_of rs)) c.loop-place.chosen) (take_all c.loop-place.place rings past) c.loop-place.invariant in
-    sym (first-chosen m (whole_valid m c.requires.valid) c.args.at c.args.towards bs c.ring_count-place-end.ensures.canonical_order c.args.face.now c.loop-place.chosen all)
+    let at = c.args.at in
+    let strings = g.M.MapView.view_strings c.args.map.now at in
+    let past : length (strings_at m at) ≤ c.loop-place.place = subst (λ (n : ℕ). n ≤ c.loop-place.place) c.degree-place-end.ensures c.loop-place-test.false in
+    let all = all-told m at strings c.loop-place.place past c.loop-place.invariant.each in
+    sym (first-chosen m (whole_valid m c.requires.valid) c.args.face.now at c.args.towards (take c.loop-place.place strings) all c.loop-place.chosen c.loop-place.invariant.first)

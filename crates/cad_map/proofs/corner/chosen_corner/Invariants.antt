@@ -1,11 +1,13 @@
-use Rattle.std.proofs.Common.{take}
-use Rattle.std.specs.Prelude.{flat_map}
-use Rattle.cad_rings.specs.Cycle.{sides_of}
+use Rattle.std.proofs.Common.{◌<◌, map, take}
+use Rattle.std.specs.Prelude.{IsPermutation}
 use Rattle.cad_map.specs.Choice.{MayBeChosen, IsFirst}
-use Rattle.cad_map.specs.Map.{rings_at}
+use Rattle.cad_map.specs.Map.{strings_at, far_end}
 use Rattle.cad_map.proofs.corner.chosen_corner.Given as goal
 
--- the first of the corners after the sides of the rings so far
+-- the first of the corners along the strings so far; and once a string was told, they are the point's
 abbrev pub invariant-loop-place : goal.invariant-loop-place
-invariant-loop-place g l =
-    IsFirst (MayBeChosen (g.M.MapView.map l.map) l.at l.towards (flat_map sides_of (take l.place (rings_at l.face (g.M.MapView.rings l.map))))) l.chosen
+invariant-loop-place g l = record {
+  first : IsFirst (MayBeChosen (g.M.MapView.map l.map) l.face l.at l.towards
+      (map (λ s. far_end s l.at) (take l.place (g.M.MapView.view_strings l.map l.at)))) l.chosen;
+  each : 0 < l.place → IsPermutation (strings_at (g.M.MapView.map l.map) l.at) (g.M.MapView.view_strings l.map l.at);
+}
