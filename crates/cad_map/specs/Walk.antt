@@ -1,5 +1,5 @@
 -- A walk along a ring, side by side, by whatever tells what point follows a side.
-use Rattle.std.specs.Prelude.{◌≡◌, ℕ, zero, suc, ◌-◌, List, [], ◌∷◌, Option, Some, None, MatchOption, IfSome, if◌then◌else◌}
+use Rattle.std.specs.Prelude.{◌≡◌, ◌≤◌, ℕ, zero, suc, ◌-◌, List, [], ◌∷◌, ◌++◌, length, slice_get, Option, Some, None, MatchOption, IfSome, if◌then◌else◌}
 use Rattle.std.specs.Iterator.{YieldsFirst}
 use Rattle.cad_rings.specs.Cycle.{Ring, Side, is_side, sides_of}
 use Rattle.cad_map.specs.Map.{Map}
@@ -52,6 +52,15 @@ pub record GoesOn (before : Walking) (s : Side) (after : Walking) : Type 0 where
   pub here : before.at ≡ Some s
   pub told : IsTold before.map before.follower s
   pub is : after ≡ record before { most = before.most - 1; at = side_after before.first s (before.follower s) }
+
+-- the walk has given these sides of the ring, and goes on with the others
+pub record IsOnRing (m : Map) (ring : Ring) (given : List Side) (w : Walking) : Type 0 where
+  pub rest : List Side
+  pub sides : given ++ rest ≡ sides_of ring
+  pub here : w.at ≡ slice_get rest 0
+  pub first : first_side ring ≡ Some w.first
+  pub around : w.map ≡ m
+  pub room : length rest ≤ w.most
 
 -- one call for the next side
 pub record GivesNext (before : Walking) (given : Option Side) (after : Walking) : Type 0 where

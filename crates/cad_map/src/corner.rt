@@ -1,12 +1,12 @@
 //! Corners of a face's rings: the one that a chain leaves at a point, and whether two of them are in one ring.
-ghost use Rattle.std.specs.Prelude.{◌≡◌, ◌⊎◌, ◌&&◌, [], ◌∷◌, Some, IsTrue};
+ghost use Rattle.std.specs.Prelude.{◌≡◌, ◌⊎◌, ◌&&◌, [], ◌∷◌, Some};
 ghost use Rattle.std.specs.List.{Contains, list_any};
 ghost use Rattle.cad_rows.specs.declared.names.Face.{Face as FaceOf};
 ghost use Rattle.cad_rings.specs.Cycle.{is_side, has_side, sides_of};
 ghost use Rattle.cad_rings.specs.Surgery.{corner as corner_of};
 ghost use Rattle.cad_map.specs.Chain.{leaving, has_in_sector as has_in_sector_of, chosen_corner as chosen_corner_of};
 ghost use Rattle.cad_map.specs.Choice.{MayBeChosen, IsFirst};
-ghost use Rattle.cad_map.specs.Map.{has_point, rings_of, face_corners};
+ghost use Rattle.cad_map.specs.Map.{rings_of, face_corners};
 ghost use Rattle.cad_map.specs.Valid.{IsValid};
 
 use crate::look::{far_end, is_face};
@@ -44,8 +44,7 @@ pub fn chosen_corner<M: MapView>(
     at: PointNo,
     towards: PointNo,
 ) -> Option<Corner>
-    requires valid { IsValid (M.map map.now) }
-    requires towards_there { IsTrue (has_point (M.map map.now) towards) }
+    requires { IsValid (M.map map.now) }
     ensures { result ≡ chosen_corner_of (M.map map.now) face.now at towards }
 {
     let mut chosen = None;
@@ -65,8 +64,7 @@ fn corner_after<M: MapView>(
     at: PointNo,
     towards: PointNo,
 ) -> Option<Corner>
-    requires valid { IsValid (M.map map.now) }
-    requires towards_there { IsTrue (has_point (M.map map.now) towards) }
+    requires { IsValid (M.map map.now) }
     ensures { IsFirst (MayBeChosen (M.map map.now) face.now at towards (from ∷ [])) result }
 {
     let on_left = map.face_of(from, at)?;
@@ -93,10 +91,6 @@ fn has_in_sector<M: MapView>(
     after: PointNo,
     towards: PointNo,
 ) -> bool
-    requires before_there { IsTrue (has_point (M.map map.now) before) }
-    requires at_there { IsTrue (has_point (M.map map.now) at) }
-    requires after_there { IsTrue (has_point (M.map map.now) after) }
-    requires towards_there { IsTrue (has_point (M.map map.now) towards) }
     ensures { result ≡ has_in_sector_of (M.map map.now) (corner_of before at after) towards }
 {
     in_sector(

@@ -25,7 +25,9 @@ pub use look::{far_end, is_end, is_face};
 pub use outlines::outline;
 pub use plain::PlainMap;
 pub use rings::{position, ring_count, ring_sum};
-pub use shared_chain::{SharedChain, find_shared_chain, has_shared_chain, is_shared, shared_count};
+pub use shared_chain::{
+    SharedChain, find_chain_of_sides, find_shared_chain, has_shared_chain, is_shared, shared_count,
+};
 pub use stars::{Spoke, Stars};
 pub use store::{Counts, MapStore, MapView};
 pub use sums::sum_of;

@@ -88,9 +88,8 @@ fn ring_at<M: MapView>(alloc: Global, map: &M, face: &Face, place: usize) -> Res
     requires there { place < length (rings_at face.now (M.rings map.now)) }
     ensures { IfOk result (λ ring. ring ≡ ring_at_of (M.rings map.now) face.now place) }
 {
-    let (from, to) = map.ring_side(*face, place).unwrap();
     let mut points = Vec::new(alloc);
-    for (point, _) in Walk::from(map, from, to) {
+    for (point, _) in Walk::of_ring(map, face, place) {
         points.push(point)?;
     }
     Ring::from_points(alloc, points.as_slice())

@@ -1,7 +1,7 @@
 //! The rings of a face of any map, each walked along its sides.
-ghost use Rattle.std.specs.Prelude.{◌≡◌, ◌<◌, length, IsTrue};
+ghost use Rattle.std.specs.Prelude.{◌≡◌, ◌<◌, length};
 ghost use Rattle.cad_map.specs.Boundaries.{canonical_order};
-ghost use Rattle.cad_map.specs.Map.{rings_at, position_of, has_point, has_face as has_face_of, sum_of_ring};
+ghost use Rattle.cad_map.specs.Map.{rings_at, position_of, has_face as has_face_of, sum_of_ring};
 ghost use Rattle.cad_map.specs.Rings.{HasWholeRings, ring_at};
 
 use crate::store::MapView;
@@ -9,12 +9,14 @@ use crate::walk::Walk;
 use cad_rows::{Face, PointNo};
 use geo_exact::{Pt, SideMeasure};
 
-/// The position of a point of the map.
+/// The position of a point, and of one that isn't there the origin.
 pub fn position<M: MapView>(map: &M, no: PointNo) -> Pt
-    requires { IsTrue (has_point (M.map map.now) no) }
     ensures { result ≡ position_of (M.map map.now) no }
 {
-    map.point(no).unwrap().position
+    match map.point(no) {
+        Some(row) => row.position,
+        None => Pt { x: 0, y: 0 },
+    }
 }
 
 /// Whether a face is the outside or a parcel of the map.
@@ -46,9 +48,8 @@ pub fn ring_sum<M: MapView, F: SideMeasure>(map: &M, face: &Face, place: usize, 
     requires there { place < length (rings_at face.now (M.rings map.now)) }
     ensures { result ≡ sum_of_ring (F.measure measure.now) (M.map map.now) (ring_at (M.rings map.now) face.now place) }
 {
-    let (from, to) = map.ring_side(*face, place).unwrap();
     let mut sum = 0;
-    for (a, b) in Walk::from(map, from, to) {
+    for (a, b) in Walk::of_ring(map, face, place) {
         sum += measure.of(position(map, a), position(map, b));
     }
     sum

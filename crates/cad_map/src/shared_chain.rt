@@ -62,9 +62,23 @@ pub fn find_shared_chain<M: MapView>(map: &M, kept: &Face, ended: &Face) -> Opti
     ensures some { IfSome result (IsSharedChain (M.map map.now) kept.now ended.now) }
     ensures none { IfNone result (shared_chains (M.map map.now) kept.now ended.now ≡ []) }
 {
-    let count = shared_count(map, kept, ended);
+    find_chain_of_sides(map, kept, ended, shared_count(map, kept, ended))
+}
+
+/// What [`find_shared_chain`] finds of two faces that have so many sides in common.
+pub fn find_chain_of_sides<M: MapView>(
+    map: &M,
+    kept: &Face,
+    ended: &Face,
+    sides: usize,
+) -> Option<SharedChain>
+    requires valid { IsValid (M.map map.now) }
+    requires counted { sides ≡ length (shared_sides (M.map map.now) kept.now ended.now) }
+    ensures some { IfSome result (IsSharedChain (M.map map.now) kept.now ended.now) }
+    ensures none { IfNone result (shared_chains (M.map map.now) kept.now ended.now ≡ []) }
+{
     for place in 0..ring_count(map, kept) {
-        if let Some(chain) = chain_in_ring(map, kept, place, ended, count) {
+        if let Some(chain) = chain_in_ring(map, kept, place, ended, sides) {
             return Some(chain);
         }
     }
@@ -95,34 +109,35 @@ fn is_shared_side<M: MapView>(
 }
 
 /// How many sides of a face's ring at a place have another face on their other side.
+#[tactic(auto, using(crate::proofs::Boundaries::RingsOfMap::whole_valid))]
 fn shared_in_ring<M: MapView>(map: &M, face: &Face, place: usize, other: &Face) -> usize
     requires valid { IsValid (M.map map.now) }
     requires there { place < length (rings_at face.now (M.rings map.now)) }
     ensures { result ≡ length (filter (has_twin_in_of (M.map map.now) other.now) (sides_of (ring_at (M.rings map.now) face.now place))) }
 {
-    let (from, to) = map.ring_side(*face, place).unwrap();
     let mut count = 0;
-    for (a, b) in Walk::from(map, from, to) {
+    for (a, b) in Walk::of_ring(map, face, place) {
         count += one_if(has_twin_in(map, other, a, b));
     }
     count
 }
 
 /// How many sides a face's ring at a place has.
+#[tactic(auto, using(crate::proofs::Boundaries::RingsOfMap::whole_valid))]
 fn side_count<M: MapView>(map: &M, face: &Face, place: usize) -> usize
     requires valid { IsValid (M.map map.now) }
     requires there { place < length (rings_at face.now (M.rings map.now)) }
     ensures { result ≡ length (ring_at (M.rings map.now) face.now place) }
 {
-    let (from, to) = map.ring_side(*face, place).unwrap();
     let mut count = 0;
-    for _ in Walk::from(map, from, to) {
+    for _ in Walk::of_ring(map, face, place) {
         count += 1;
     }
     count
 }
 
 /// What another face comes back along of a ring, where it is so many sides: all of the ring, or a chain.
+#[tactic(auto, using(crate::proofs::Boundaries::RingsOfMap::whole_valid))]
 fn chain_in_ring<M: MapView>(
     map: &M,
     face: &Face,
@@ -135,11 +150,13 @@ fn chain_in_ring<M: MapView>(
     ensures some { IfSome result (IsFoundAlong (M.map map.now) other.now count (ring_at (M.rings map.now) face.now place)) }
     ensures none { IfNone result (has_chain_along (M.map map.now) other.now count (ring_at (M.rings map.now) face.now place) ≡ false) }
 {
-    let (from, to) = map.ring_side(*face, place).unwrap();
+    let walk = Walk::of_ring(map, face, place);
     if runs_round(map, face, place, other, count) {
-        return Some(SharedChain::Around { side: (from, to) });
+        return Some(SharedChain::Around {
+            side: walk.first_side(),
+        });
     }
-    for (a, b) in Walk::from(map, from, to) {
+    for (a, b) in walk {
         if let Some(chain) = chain_after(map, other, a, b, count) {
             return Some(chain);
         }
@@ -148,12 +165,13 @@ fn chain_in_ring<M: MapView>(
 }
 
 /// Whether a ring has so many sides, and another face comes back along all of them.
+#[tactic(auto, using(crate::proofs::Boundaries::RingsOfMap::whole_valid))]
 fn runs_round<M: MapView>(map: &M, face: &Face, place: usize, other: &Face, count: usize) -> bool
     requires valid { IsValid (M.map map.now) }
     requires there { place < length (rings_at face.now (M.rings map.now)) }
     ensures { result ≡ runs_round_of (M.map map.now) other.now count (ring_at (M.rings map.now) face.now place) }
 {
-    let (from, to) = map.ring_side(*face, place).unwrap();
+    let (from, to) = Walk::of_ring(map, face, place).first_side();
     if side_count(map, face, place) != count {
         return false;
     }

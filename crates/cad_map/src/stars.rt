@@ -1,9 +1,9 @@
 //! The strings at each point of a map.
 ghost use Rattle.std.specs.Prelude.{◌≡◌, ◌++◌, ℕ, IfOk, OnOk};
-ghost use Rattle.cad_map.specs.Map.{position_of};
 ghost use Rattle.cad_map.specs.Stars.{spoke_of, spokes_at, spokes_of, star};
 
 use crate::look::far_end;
+use crate::rings::position;
 use crate::store::MapView;
 use cad_rows::{Memory, PointNo, StringRow};
 use geo_exact::Pt;
@@ -43,16 +43,6 @@ impl Model for Stars {
     ghost invariant = { λ a. IsNonDecreasingBy (λ s. s.at) a.spokes.items };
 }
 
-// The position of a point, and of one that isn't there the origin.
-fn position_or_origin<M: MapView>(map: &M, no: PointNo) -> Pt
-    ensures { result ≡ position_of (M.map map.now) no }
-{
-    match map.point(no) {
-        Some(row) => row.position,
-        None => Pt { x: 0, y: 0 },
-    }
-}
-
 // The string at a place, as a point at one of its ends sees it.
 fn spoke_from<M: MapView>(map: &M, place: usize, string: &StringRow, at: PointNo) -> Spoke
     ensures { result ≡ spoke_of (M.map map.now) place string.now at }
@@ -61,7 +51,7 @@ fn spoke_from<M: MapView>(map: &M, place: usize, string: &StringRow, at: PointNo
     Spoke {
         at,
         far,
-        position: position_or_origin(map, far),
+        position: position(map, far),
         place,
     }
 }

@@ -1,10 +1,14 @@
 //! A walk along a ring of a map, side by side.
-ghost use Rattle.std.specs.Prelude.{◌≡◌, ◌*◌, length, Some};
+ghost use Rattle.std.specs.Prelude.{◌≡◌, ◌≤◌, ◌<◌, ◌*◌, [], length, Some};
+ghost use Rattle.std.specs.List.{AllByRecursion};
 ghost use Rattle.std.specs.Iterator.{item_count};
-ghost use Rattle.cad_map.specs.Walk.{side_after as side_after_of, IsTold, Walking, walking, GivesNext, sides_ahead};
+ghost use Rattle.cad_map.specs.Boundaries.{canonical_order};
+ghost use Rattle.cad_map.specs.Map.{rings_at};
+ghost use Rattle.cad_map.specs.Rings.{HasWholeRings, ring_at};
+ghost use Rattle.cad_map.specs.Walk.{side_after as side_after_of, IsTold, Walking, walking, GivesNext, sides_ahead, IsOnRing};
 
 use crate::store::MapView;
-use cad_rows::PointNo;
+use cad_rows::{Face, PointNo};
 
 /// The sides of a ring from one of them on, each followed by the side that [`MapView::after`] tells, until the walk is
 /// back at the first. It gives at most two for each string of the map, so it ends on any map.
@@ -52,6 +56,27 @@ impl<'a, M: MapView> Walk<'a, M> {
             most: 2 * (map.counts().strings as u128),
             at: Some((from, to)),
         }
+    }
+
+    /// The walk round a face's ring at a place.
+    pub fn of_ring(map: &'a M, face: &Face, place: usize) -> Walk<'a, M>
+        requires whole { HasWholeRings (M.map map.now) }
+        requires there { place < length (rings_at face.now (M.rings map.now)) }
+        ensures along { IsOnRing (M.map map.now) (ring_at (M.rings map.now) face.now place) []
+            (walking M.map M.view_next result) }
+        // The rings are those of the map, and each is of two points or more.
+        ensures canonical_order { canonical_order (M.rings map.now) ≡ (M.map map.now).boundaries }
+        ensures two { AllByRecursion (λ b. 2 ≤ length b.ring) (M.rings map.now) }
+    {
+        let (from, to) = map.ring_side(*face, place).unwrap();
+        Walk::from(map, from, to)
+    }
+
+    /// The side that it began with.
+    pub fn first_side(&self) -> (PointNo, PointNo)
+        ensures { result ≡ (walking M.map M.view_next self.now).first }
+    {
+        self.first
     }
 }
 

@@ -19,7 +19,7 @@ use Rattle.cad_map.specs.Valid.{EachPair}
 use Rattle.cad_map.proofs.Lists.Elements.{Contains-cases, Contains-first, Contains-later, Contains-at, All-at_each, Contains-flat_map, count-yes, count-no, count-some, count-map, find-only, one-only, get-after, get-next, list_any-Contains}
 use Rattle.cad_map.proofs.Boundaries.OrderedSides.{sides_in-canonical_order, corners_in-canonical_order}
 use Rattle.cad_map.specs.Views.{IsNoSide, ComesAfter}
-use Rattle.cad_map.specs.Walk.{first_side, side_after, walk, Walking, sides_ahead, IsTold, GoesOn, GivesNext}
+use Rattle.cad_map.specs.Walk.{first_side, side_after, walk, Walking, sides_ahead, IsTold, GoesOn, GivesNext, IsOnRing}
 
 -- ---- Sides and corners of a ring
 
@@ -213,15 +213,6 @@ module _ (bs : List Boundary) (distinct : HaveDistinctSides bs) (b : Boundary) (
         ap (walk follower first most) at ∙ walk-rest [] (sides_of b.ring) most refl (omega arith)
 
 -- ---- A walk under way
-
--- the walk has given these sides of the ring, and goes on with the others
-pub record IsOnRing (m : Map) (ring : Ring) (given : List Side) (w : Walking) : Type 0 where
-  pub rest : List Side
-  pub sides : given ++ rest ≡ sides_of ring
-  pub here : w.at ≡ slice_get rest 0
-  pub first : first_side ring ≡ Some w.first
-  pub around : w.map ≡ m
-  pub room : length rest ≤ w.most
 
 -- these are the rings of the map, each written from some point on
 pub record AreRingsOf (m : Map) (bs : List Boundary) : Type 0 where

@@ -13,12 +13,12 @@ use Rattle.cad_map.specs.Boundaries.{bounding, sides_in, corners_in}
 use Rattle.cad_map.specs.Map.{Map, rings_of, face_corners, all_sides, all_corners}
 use Rattle.cad_map.specs.Rings.{HasWholeRings}
 use Rattle.cad_map.specs.Chain.{leaving}
-use Rattle.cad_map.specs.Walk.{first_side, Walking, sides_ahead, GoesOn, GivesNext}
+use Rattle.cad_map.specs.Walk.{first_side, Walking, sides_ahead, GoesOn, GivesNext, IsOnRing}
 use Rattle.cad_map.proofs.Lists.EachElement.{All-map, All-follows, drop-at}
 use Rattle.cad_map.proofs.Lists.Elements.{Contains-map, Contains-in_part, All-at_each, list_any-Contains}
 use Rattle.cad_map.proofs.Lists.ElementFacts.{list_any-none}
 use Rattle.cad_map.proofs.Walks.Counted.{times-permuted}
-use Rattle.cad_map.proofs.Walks.AlongRing.{once-from_pairs, AreRingsOf, IsOnRing, on_ring-begins, on_ring-yields, on_ring-ends, on_ring-Contains}
+use Rattle.cad_map.proofs.Walks.AlongRing.{once-from_pairs, AreRingsOf, on_ring-begins, on_ring-yields, on_ring-ends, on_ring-Contains}
 use Rattle.cad_map.proofs.Boundaries.FacesBeside.{has_side-Contains, Contains-has_side}
 use Rattle.cad_map.proofs.Walks.ChosenCorners.{face-ring}
 use Rattle.cad_map.proofs.Parcels.CutSides.{only-in}

@@ -21,10 +21,10 @@ use Rattle.cad_map.specs.declared.boundary.Boundary.{Boundary}
 use Rattle.cad_map.specs.Boundaries.{canonical_order, sides_in}
 use Rattle.cad_map.specs.Map.{Map, origin, has_point, position_of, rings_at, all_sides}
 use Rattle.cad_map.specs.Valid.{HasSoundRows}
-use Rattle.cad_map.specs.Walk.{first_side, Walking, sides_ahead, GoesOn, GivesNext}
+use Rattle.cad_map.specs.Walk.{first_side, Walking, sides_ahead, GoesOn, GivesNext, IsOnRing}
 use Rattle.cad_map.proofs.Lists.EachElement.{All-map}
 use Rattle.cad_map.proofs.Lists.Elements.{All-at_each, All-from_each, Contains-flat_map}
-use Rattle.cad_map.proofs.Walks.AlongRing.{begins_with, IsOnRing, on_ring-begins, on_ring-yields, on_ring-ends, on_ring-side, on_ring-Contains}
+use Rattle.cad_map.proofs.Walks.AlongRing.{begins_with, first-there, on_ring-begins, on_ring-yields, on_ring-ends, on_ring-side, on_ring-Contains}
 use Rattle.cad_map.specs.Rings.{HasWholeRings, ring_at}
 use Rattle.cad_map.proofs.Boundaries.RingsOfMap.{rings_of_map, ring-there, ring-sides-few, ring-points, side_told}
 
@@ -43,34 +43,42 @@ module _ (m : Map) (bs : List Boundary) (whole : HasWholeRings m) (is : canonica
   found : (b : Boundary) × Contains bs b × (b.ring ≡ ring_at bs f place)
   found = ring-there m bs whole is two f place within
 
-  -- what it has given since it began at the side that was told
-  pub walked : {S : Type 0} (at : S → Walking) (first : Side) (told : Option Side) → told ≡ option_and_then first_side (slice_get (rings_at f bs) place) → told ≡ Some first
-      → (follower : Side → Option ℕ) (begun s : S) → s ≡ begun → at begun ≡ record { map = m; follower = follower; first = first; most = 2 * length m.strings; at = Some first }
-      → (xs : List Side) (t : S) → Yields (λ s r t. GivesNext (at s) r (at t)) s xs t → IsOnRing m (ring_at bs f place) xs (at t)
-  walked at first told same some follower begun s from stands xs t gives =
-      let b = found.0 in
-      let rings = rings_of_map m bs whole is two in
-      let begins : first_side b.ring ≡ Some first = ap first_side found.2 ∙ sym (side_told m bs whole is two f place within) ∙ sym same ∙ some in
-      let e = ap at from ∙ stands in
-      let few = ring-sides-few m bs whole is two b found.1 in
-      let room : length (sides_of b.ring) ≤ (at s).most = let k = ap (λ (w : Walking). w.most) e in omega arith in
-      subst (λ (r : Ring). IsOnRing m r xs (at t)) found.2
-      (on_ring-yields m bs rings b found.1 at [] s xs t gives
-      (on_ring-begins m bs rings b found.1 first (at s) begins room (ap (λ (w : Walking). w.map) e) (ap (λ (w : Walking). w.first) e) (ap (λ (w : Walking). w.at) e)))
-
   on_found : (given : List Side) (w : Walking) → IsOnRing m (ring_at bs f place) given w → IsOnRing m found.0.ring given w
   on_found given w on = subst (λ (r : Ring). IsOnRing m r given w) (sym found.2) on
-
-  -- both ends of the side that it gives are points of the map
-  pub walked-points : (given : List Side) (w : Walking) (s : Side) (v : Walking) → IsOnRing m (ring_at bs f place) given w → GoesOn w s v → IsTrue (has_point m s.0) × IsTrue (has_point m s.1)
-  walked-points given w s v on goes =
-      ring-points m bs whole is two found.0 found.1 s (on_ring-Contains m bs (rings_of_map m bs whole is two) found.0 found.1 given w s (on_found given w on) goes.here)
 
   -- a side of the ring is one of the map
   pub side-in_all : (s : Side) → Contains (sides_of (ring_at bs f place)) s → Contains (all_sides m) s
   side-in_all s has =
       Contains-permutation (sides_in bs) (all_sides m) s (rings_of_map m bs whole is two).sides
       (Contains-flat_map (λ b. sides_of b.ring) bs found.0 s found.1 (subst (λ (r : Ring). Contains (sides_of r) s) (sym found.2) has))
+
+  -- it begins at the side that is told
+  pub walk-begins : (w : Walking) (first : Side) (told : Option Side) → told ≡ option_and_then first_side (slice_get (rings_at f bs) place) → told ≡ Some first
+      → (follower : Side → Option ℕ) → w ≡ record { map = m; follower = follower; first = first; most = 2 * length m.strings; at = Some first } → IsOnRing m (ring_at bs f place) [] w
+  walk-begins w first told same some follower stands =
+      let b = found.0 in
+      let begins : first_side b.ring ≡ Some first = ap first_side found.2 ∙ sym (side_told m bs whole is two f place within) ∙ sym same ∙ some in
+      let few = ring-sides-few m bs whole is two b found.1 in
+      let room : length (sides_of b.ring) ≤ w.most = let k = ap (λ (w : Walking). w.most) stands in omega arith in
+      subst (λ (r : Ring). IsOnRing m r [] w) found.2
+      (on_ring-begins m bs (rings_of_map m bs whole is two) b found.1 first w begins room
+      (ap (λ (w : Walking). w.map) stands) (ap (λ (w : Walking). w.first) stands) (ap (λ (w : Walking). w.at) stands))
+
+  -- what it has given since it began
+  pub walked : {S : Type 0} (at : S → Walking) (begun s : S) → s ≡ begun → IsOnRing m (ring_at bs f place) [] (at begun)
+      → (xs : List Side) (t : S) → Yields (λ s r t. GivesNext (at s) r (at t)) s xs t → IsOnRing m (ring_at bs f place) xs (at t)
+  walked at begun s from begins xs t gives =
+      subst (λ (r : Ring). IsOnRing m r xs (at t)) found.2
+      (on_ring-yields m bs (rings_of_map m bs whole is two) found.0 found.1 at [] s xs t gives (on_found [] (at s) (subst (λ (u : _). IsOnRing m (ring_at bs f place) [] (at u)) (sym from) begins)))
+
+  -- the first of its sides is one of the map
+  pub first-in_all : (given : List Side) (w : Walking) → IsOnRing m (ring_at bs f place) given w → Contains (all_sides m) w.first
+  first-in_all given w on = side-in_all w.first (first-there w.first (ring_at bs f place) on.first)
+
+  -- both ends of the side that it gives are points of the map
+  pub walked-points : (given : List Side) (w : Walking) (s : Side) (v : Walking) → IsOnRing m (ring_at bs f place) given w → GoesOn w s v → IsTrue (has_point m s.0) × IsTrue (has_point m s.1)
+  walked-points given w s v on goes =
+      ring-points m bs whole is two found.0 found.1 s (on_ring-Contains m bs (rings_of_map m bs whole is two) found.0 found.1 given w s (on_found given w on) goes.here)
 
   -- and that side is one of the ring
   pub walked-side : (given : List Side) (w : Walking) (s : Side) (v : Walking) → IsOnRing m (ring_at bs f place) given w → GoesOn w s v → Contains (sides_of (ring_at bs f place)) s

@@ -48,4 +48,4 @@ returns g c =
     let strings = g.M.MapView.view_strings c.args.map.now at in
     let past : length (strings_at m at) ≤ c.loop-place.place = subst (λ (n : ℕ). n ≤ c.loop-place.place) c.degree-place-end.ensures c.loop-place-test.false in
     let all = all-told m at strings c.loop-place.place past c.loop-place.invariant.each in
-    sym (first-chosen m (whole_valid m c.requires.valid) c.args.face.now at c.args.towards (take c.loop-place.place strings) all c.loop-place.chosen c.loop-place.invariant.first)
+    sym (first-chosen m (whole_valid m c.requires) c.args.face.now at c.args.towards (take c.loop-place.place strings) all c.loop-place.chosen c.loop-place.invariant.first)

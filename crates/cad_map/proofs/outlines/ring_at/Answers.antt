@@ -1,24 +1,20 @@
 use Rattle.std.proofs.Common.{◌≡◌, ◌≤◌, sym, subst, ap, ◌∙◌, map, length}
-use Rattle.std.specs.Prelude.{IsSome, IfOk}
+use Rattle.std.specs.Prelude.{IfOk}
 use Rattle.cad_rings.specs.Cycle.{Ring, Side}
 use Rattle.cad_map.specs.Walk.{walking}
 use Rattle.cad_map.specs.Rings.{ring_at}
 use Rattle.cad_map.proofs.Lists.Elements.{All-at_each}
-use Rattle.cad_map.proofs.Boundaries.RingsOfMap.{side_is_told, ring-there}
+use Rattle.cad_map.proofs.Boundaries.RingsOfMap.{ring-there}
 use Rattle.cad_map.proofs.Walks.Walked.{walked, walked-all, first_points}
 use Rattle.cad_map.proofs.outlines.ring_at.Goals as goal
-
-pub unwrap-from-requires : goal.unwrap-from-requires
-unwrap-from-requires g c = subst IsSome (sym c.ring_side.ensures.side) (side_is_told (g.M.MapView.map c.args.map.now) (g.M.MapView.rings c.args.map.now) c.requires.whole c.ring_side.ensures.canonical_order c.ring_side.ensures.two c.args.face.now c.args.place c.requires.there)
 
 pub from_points-requires : goal.from_points-requires
 from_points-requires g c =
     let m = g.M.MapView.map c.args.map.now in
     let bs = g.M.MapView.rings c.args.map.now in
     let at = walking g.M.MapView.map g.M.MapView.view_next in
-    let told = c.ring_side.ensures in
-    let on = walked m bs c.requires.whole told.canonical_order told.two c.args.face.now c.args.place c.requires.there at c.unwrap-from.result c.ring_side.result told.side c.unwrap-from.ensures (g.M.MapView.view_next c.args.map.now)
-    c.from-point-items.result c.into_iter-point-iterator.result c.into_iter-point-iterator.ensures.into_iter_gives c.from-point-items.ensures c.loop-point.yielded c.loop-point.point-iterator c.loop-point.yielded_by in
+    let told = c.of_ring-point-items.ensures in
+    let on = walked m bs c.requires.whole told.canonical_order told.two c.args.face.now c.args.place c.requires.there at c.of_ring-point-items.result c.into_iter-point-iterator.result c.into_iter-point-iterator.ensures.into_iter_gives told.along c.loop-point.yielded c.loop-point.point-iterator c.loop-point.yielded_by in
     let none = rw c.in-None.is at c.next.ensures.steps in
     let all = walked-all m bs c.requires.whole told.canonical_order told.two c.args.face.now c.args.place c.requires.there c.loop-point.yielded (at c.loop-point.point-iterator) on none.first.0 in
     let ring = ring_at bs c.args.face.now c.args.place in
@@ -32,9 +28,8 @@ returns g c =
     let m = g.M.MapView.map c.args.map.now in
     let bs = g.M.MapView.rings c.args.map.now in
     let at = walking g.M.MapView.map g.M.MapView.view_next in
-    let told = c.ring_side.ensures in
-    let on = walked m bs c.requires.whole told.canonical_order told.two c.args.face.now c.args.place c.requires.there at c.unwrap-from.result c.ring_side.result told.side c.unwrap-from.ensures (g.M.MapView.view_next c.args.map.now)
-    c.from-point-items.result c.into_iter-point-iterator.result c.into_iter-point-iterator.ensures.into_iter_gives c.from-point-items.ensures c.loop-point.yielded c.loop-point.point-iterator c.loop-point.yielded_by in
+    let told = c.of_ring-point-items.ensures in
+    let on = walked m bs c.requires.whole told.canonical_order told.two c.args.face.now c.args.place c.requires.there at c.of_ring-point-items.result c.into_iter-point-iterator.result c.into_iter-point-iterator.ensures.into_iter_gives told.along c.loop-point.yielded c.loop-point.point-iterator c.loop-point.yielded_by in
     let none = rw c.in-None.is at c.next.ensures.steps in
     let all = walked-all m bs c.requires.whole told.canonical_order told.two c.args.face.now c.args.place c.requires.there c.loop-point.yielded (at c.loop-point.point-iterator) on none.first.0 in
     let ring = ring_at bs c.args.face.now c.args.place in

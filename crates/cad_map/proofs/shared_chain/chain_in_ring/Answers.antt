@@ -1,18 +1,14 @@
-use Rattle.std.proofs.Common.{◌≡◌, refl, sym, subst, ap, ◌∙◌, Bool, true, false, Some, None}
+use Rattle.std.proofs.Common.{◌≡◌, refl, sym, subst, ap, ◌∙◌, Bool, true, false, [], ◌∷◌, Some, None}
 use Rattle.std.specs.List.{list_any}
+use Rattle.std.proofs.lemmas.List.Folds.{list_any-append}
 use Rattle.cad_rings.specs.Cycle.{Side, sides_of}
 use Rattle.cad_map.specs.Rings.{ring_at}
 use Rattle.cad_map.specs.Steps.{next_side, chain_along, is_before_chain, IsFoundAlong}
-use Rattle.std.specs.Prelude.{◌||◌, IsSome, if◌then◌else◌}
+use Rattle.std.specs.Prelude.{◌||◌, if◌then◌else◌}
 use Rattle.cad_map.specs.Walk.{walking}
-use Rattle.cad_map.proofs.Boundaries.RingsOfMap.{whole_valid, side_is_told}
+use Rattle.cad_map.proofs.Boundaries.RingsOfMap.{whole_valid}
 use Rattle.cad_map.proofs.Walks.Walked.{walked, walked-side, walked-all, side-in_all}
 use Rattle.cad_map.proofs.shared_chain.chain_in_ring.Goals as goal
-
-pub unwrap-from-requires : goal.unwrap-from-requires
-unwrap-from-requires g c =
-    let m = g.M.MapView.map c.args.map.now in
-    subst IsSome (sym c.ring_side.ensures.side) (side_is_told m (g.M.MapView.rings c.args.map.now) (whole_valid m c.requires.valid) c.ring_side.ensures.canonical_order c.ring_side.ensures.two c.args.face.now c.args.place c.requires.there)
 
 pub chain_after-requires-clause-there : goal.chain_after-requires-clause-there
 chain_after-requires-clause-there g c =
@@ -20,12 +16,25 @@ chain_after-requires-clause-there g c =
     let bs = g.M.MapView.rings c.args.map.now in
     let whole = whole_valid m c.requires.valid in
     let at = walking g.M.MapView.map g.M.MapView.view_next in
-    let told = c.ring_side.ensures in
-    let on = walked m bs whole told.canonical_order told.two c.args.face.now c.args.place c.requires.there at c.unwrap-from.result c.ring_side.result told.side c.unwrap-from.ensures (g.M.MapView.view_next c.args.map.now)
-    c.from-a-items.result c.into_iter-a-iterator.result c.into_iter-a-iterator.ensures.into_iter_gives c.from-a-items.ensures c.loop-a.yielded c.loop-a.a-iterator c.loop-a.yielded_by in
+    let told = c.of_ring-walk.ensures in
+    let on = walked m bs whole told.canonical_order told.two c.args.face.now c.args.place c.requires.there at c.of_ring-walk.result c.into_iter-a-iterator.result c.into_iter-a-iterator.ensures.into_iter_gives told.along c.loop-a.yielded c.loop-a.a-iterator c.loop-a.yielded_by in
     let goes = (rw c.in-Some.is at c.next.ensures.steps).goes_on in
     side-in_all m bs whole told.canonical_order told.two c.args.face.now c.args.place c.requires.there (c.in-Some.a, c.in-Some.b)
     (walked-side m bs whole told.canonical_order told.two c.args.face.now c.args.place c.requires.there c.loop-a.yielded (at c.loop-a.a-iterator) (c.in-Some.a, c.in-Some.b) _ on goes)
+
+-- where there is no value, the test fails
+if_none : {X : Type 0} (b : Bool) (x : X) → None ≡ (if b then Some x else None) → b ≡ false
+if_none true x is = cc
+if_none false x is = refl
+
+pub loop-a-preserved : goal.loop-a-preserved
+loop-a-preserved g c =
+    let m = g.M.MapView.map c.args.map.now in
+    let side : Side = (c.in-Some.a, c.in-Some.b) in
+    let test = is_before_chain m c.args.other.now c.args.count in
+    let chain = chain_along (next_side m) (next_side m side) c.args.count in
+    let passed = if_none (test side) chain (sym c.in_default.is ∙ c.chain_after.ensures) in
+    list_any-append test c.loop-a.yielded (side ∷ []) ∙ (λ i. c.loop-a.invariant i || (passed i || false))
 
 -- where the test passes, the value is this one
 if_some : {X : Type 0} (b : Bool) (x y : X) → Some y ≡ (if b then Some x else None) → (b ≡ true) × (y ≡ x)
@@ -38,9 +47,8 @@ returns-in-Some-chain_after-clause-some g c =
     let bs = g.M.MapView.rings c.args.map.now in
     let whole = whole_valid m c.requires.valid in
     let at = walking g.M.MapView.map g.M.MapView.view_next in
-    let told = c.ring_side.ensures in
-    let on = walked m bs whole told.canonical_order told.two c.args.face.now c.args.place c.requires.there at c.unwrap-from.result c.ring_side.result told.side c.unwrap-from.ensures (g.M.MapView.view_next c.args.map.now)
-    c.from-a-items.result c.into_iter-a-iterator.result c.into_iter-a-iterator.ensures.into_iter_gives c.from-a-items.ensures c.loop-a.yielded c.loop-a.a-iterator c.loop-a.yielded_by in
+    let told = c.of_ring-walk.ensures in
+    let on = walked m bs whole told.canonical_order told.two c.args.face.now c.args.place c.requires.there at c.of_ring-walk.result c.into_iter-a-iterator.result c.into_iter-a-iterator.ensures.into_iter_gives told.along c.loop-a.yielded c.loop-a.a-iterator c.loop-a.yielded_by in
     let goes = (rw c.in-Some.is at c.next.ensures.steps).goes_on in
     let side : Side = (c.in-Some.a, c.in-Some.b) in
     let ring = ring_at bs c.args.face.now c.args.place in
@@ -55,9 +63,8 @@ returns-clause-none g c =
     let bs = g.M.MapView.rings c.args.map.now in
     let whole = whole_valid m c.requires.valid in
     let at = walking g.M.MapView.map g.M.MapView.view_next in
-    let told = c.ring_side.ensures in
-    let on = walked m bs whole told.canonical_order told.two c.args.face.now c.args.place c.requires.there at c.unwrap-from.result c.ring_side.result told.side c.unwrap-from.ensures (g.M.MapView.view_next c.args.map.now)
-    c.from-a-items.result c.into_iter-a-iterator.result c.into_iter-a-iterator.ensures.into_iter_gives c.from-a-items.ensures c.loop-a.yielded c.loop-a.a-iterator c.loop-a.yielded_by in
+    let told = c.of_ring-walk.ensures in
+    let on = walked m bs whole told.canonical_order told.two c.args.face.now c.args.place c.requires.there at c.of_ring-walk.result c.into_iter-a-iterator.result c.into_iter-a-iterator.ensures.into_iter_gives told.along c.loop-a.yielded c.loop-a.a-iterator c.loop-a.yielded_by in
     let ring = ring_at bs c.args.face.now c.args.place in
     let none = rw c.in-None.is at c.next.ensures.steps in
     let all = walked-all m bs whole told.canonical_order told.two c.args.face.now c.args.place c.requires.there c.loop-a.yielded (at c.loop-a.a-iterator) on none.first.0 in

@@ -1,17 +1,11 @@
 use Rattle.std.proofs.Common.{sym, subst, ap, ◌∙◌, List, [], ◌∷◌, ◌++◌, filter, length, arith}
 use Rattle.cad_rings.specs.Cycle.{Side}
 use Rattle.cad_map.specs.Steps.{has_twin_in}
-use Rattle.std.specs.Prelude.{IsSome}
 use Rattle.cad_map.specs.Walk.{walking}
-use Rattle.cad_map.proofs.Boundaries.RingsOfMap.{whole_valid, side_is_told}
+use Rattle.cad_map.proofs.Boundaries.RingsOfMap.{whole_valid}
 use Rattle.cad_map.proofs.Boundaries.SideCounts.{filter-push, filter-few}
 use Rattle.cad_map.proofs.Walks.Walked.{walked, walked-few, walked-all}
 use Rattle.cad_map.proofs.shared_chain.shared_in_ring.Goals as goal
-
-pub unwrap-from-requires : goal.unwrap-from-requires
-unwrap-from-requires g c =
-    let m = g.M.MapView.map c.args.map.now in
-    subst IsSome (sym c.ring_side.ensures.side) (side_is_told m (g.M.MapView.rings c.args.map.now) (whole_valid m c.requires.valid) c.ring_side.ensures.canonical_order c.ring_side.ensures.two c.args.face.now c.args.place c.requires.there)
 
 pub loop-a-preserved : goal.loop-a-preserved
 loop-a-preserved g c =
@@ -23,9 +17,8 @@ overflow_add-count g c =
     let bs = g.M.MapView.rings c.args.map.now in
     let whole = whole_valid m c.requires.valid in
     let at = walking g.M.MapView.map g.M.MapView.view_next in
-    let told = c.ring_side.ensures in
-    let on = walked m bs whole told.canonical_order told.two c.args.face.now c.args.place c.requires.there at c.unwrap-from.result c.ring_side.result told.side c.unwrap-from.ensures (g.M.MapView.view_next c.args.map.now)
-    c.from-a-items.result c.into_iter-a-iterator.result c.into_iter-a-iterator.ensures.into_iter_gives c.from-a-items.ensures c.loop-a.yielded c.loop-a.a-iterator c.loop-a.yielded_by in
+    let told = c.of_ring-a-items.ensures in
+    let on = walked m bs whole told.canonical_order told.two c.args.face.now c.args.place c.requires.there at c.of_ring-a-items.result c.into_iter-a-iterator.result c.into_iter-a-iterator.ensures.into_iter_gives told.along c.loop-a.yielded c.loop-a.a-iterator c.loop-a.yielded_by in
     let goes = (rw c.in-Some.is at c.next.ensures.steps).goes_on in
     let side : Side = (c.in-Some.a, c.in-Some.b) in
     let few = walked-few m bs whole told.canonical_order told.two c.args.face.now c.args.place c.requires.there c.loop-a.yielded (at c.loop-a.a-iterator) side _ on goes in
@@ -39,9 +32,8 @@ returns g c =
     let bs = g.M.MapView.rings c.args.map.now in
     let whole = whole_valid m c.requires.valid in
     let at = walking g.M.MapView.map g.M.MapView.view_next in
-    let told = c.ring_side.ensures in
-    let on = walked m bs whole told.canonical_order told.two c.args.face.now c.args.place c.requires.there at c.unwrap-from.result c.ring_side.result told.side c.unwrap-from.ensures (g.M.MapView.view_next c.args.map.now)
-    c.from-a-items.result c.into_iter-a-iterator.result c.into_iter-a-iterator.ensures.into_iter_gives c.from-a-items.ensures c.loop-a.yielded c.loop-a.a-iterator c.loop-a.yielded_by in
+    let told = c.of_ring-a-items.ensures in
+    let on = walked m bs whole told.canonical_order told.two c.args.face.now c.args.place c.requires.there at c.of_ring-a-items.result c.into_iter-a-iterator.result c.into_iter-a-iterator.ensures.into_iter_gives told.along c.loop-a.yielded c.loop-a.a-iterator c.loop-a.yielded_by in
     let none = rw c.in-None.is at c.next.ensures.steps in
     let all = walked-all m bs whole told.canonical_order told.two c.args.face.now c.args.place c.requires.there c.loop-a.yielded (at c.loop-a.a-iterator) on none.first.0 in
     c.loop-a.invariant ∙ ap (λ (sides : List Side). length (filter (has_twin_in m c.args.other.now) sides)) all

@@ -1,16 +1,10 @@
 use Rattle.std.proofs.Common.{sym, subst, ap, ◌∙◌, [], ◌∷◌, length, length-append, arith}
 use Rattle.cad_rings.proofs.CallerLemmas.{length-sides_of}
 use Rattle.cad_map.specs.Rings.{ring_at}
-use Rattle.std.specs.Prelude.{IsSome}
 use Rattle.cad_map.specs.Walk.{walking}
-use Rattle.cad_map.proofs.Boundaries.RingsOfMap.{whole_valid, side_is_told}
+use Rattle.cad_map.proofs.Boundaries.RingsOfMap.{whole_valid}
 use Rattle.cad_map.proofs.Walks.Walked.{walked, walked-few, walked-all}
 use Rattle.cad_map.proofs.shared_chain.side_count.Goals as goal
-
-pub unwrap-from-requires : goal.unwrap-from-requires
-unwrap-from-requires g c =
-    let m = g.M.MapView.map c.args.map.now in
-    subst IsSome (sym c.ring_side.ensures.side) (side_is_told m (g.M.MapView.rings c.args.map.now) (whole_valid m c.requires.valid) c.ring_side.ensures.canonical_order c.ring_side.ensures.two c.args.face.now c.args.place c.requires.there)
 
 pub overflow_add-count : goal.overflow_add-count
 overflow_add-count g c =
@@ -18,9 +12,8 @@ overflow_add-count g c =
     let bs = g.M.MapView.rings c.args.map.now in
     let whole = whole_valid m c.requires.valid in
     let at = walking g.M.MapView.map g.M.MapView.view_next in
-    let told = c.ring_side.ensures in
-    let on = walked m bs whole told.canonical_order told.two c.args.face.now c.args.place c.requires.there at c.unwrap-from.result c.ring_side.result told.side c.unwrap-from.ensures (g.M.MapView.view_next c.args.map.now)
-    c.from-items.result c.into_iter-iterator.result c.into_iter-iterator.ensures.into_iter_gives c.from-items.ensures c.loop.yielded c.loop.iterator' c.loop.yielded_by in
+    let told = c.of_ring-items.ensures in
+    let on = walked m bs whole told.canonical_order told.two c.args.face.now c.args.place c.requires.there at c.of_ring-items.result c.into_iter-iterator.result c.into_iter-iterator.ensures.into_iter_gives told.along c.loop.yielded c.loop.iterator' c.loop.yielded_by in
     let goes = (rw c.in-Some.is at c.next.ensures.steps).goes_on in
     let few = walked-few m bs whole told.canonical_order told.two c.args.face.now c.args.place c.requires.there c.loop.yielded (at c.loop.iterator') c.in-Some.field-0 _ on goes in
     let one = length-append c.loop.yielded (c.in-Some.field-0 ∷ []) in
@@ -33,9 +26,8 @@ returns g c =
     let bs = g.M.MapView.rings c.args.map.now in
     let whole = whole_valid m c.requires.valid in
     let at = walking g.M.MapView.map g.M.MapView.view_next in
-    let told = c.ring_side.ensures in
-    let on = walked m bs whole told.canonical_order told.two c.args.face.now c.args.place c.requires.there at c.unwrap-from.result c.ring_side.result told.side c.unwrap-from.ensures (g.M.MapView.view_next c.args.map.now)
-    c.from-items.result c.into_iter-iterator.result c.into_iter-iterator.ensures.into_iter_gives c.from-items.ensures c.loop.yielded c.loop.iterator' c.loop.yielded_by in
+    let told = c.of_ring-items.ensures in
+    let on = walked m bs whole told.canonical_order told.two c.args.face.now c.args.place c.requires.there at c.of_ring-items.result c.into_iter-iterator.result c.into_iter-iterator.ensures.into_iter_gives told.along c.loop.yielded c.loop.iterator' c.loop.yielded_by in
     let none = rw c.in-None.is at c.next.ensures.steps in
     let all = walked-all m bs whole told.canonical_order told.two c.args.face.now c.args.place c.requires.there c.loop.yielded (at c.loop.iterator') on none.first.0 in
     c.loop.invariant ∙ ap length all ∙ length-sides_of (ring_at bs c.args.face.now c.args.place)
