@@ -2,7 +2,7 @@
 -- lists: elements, tests of them, and rows as they grow and shrink
 pub use Rattle.cad_map.proofs.Lists.EachElement.{All-Contains, All-append, All-filter, All-flat_map, All-follows, All-from_Contains, All-map, All-permuted, All-push, drop-at, filter-at, filter-past, found-again, found-number, found-with_row, map-with_row, map-with_row-same, others-from_none}
 pub use Rattle.cad_map.proofs.Lists.Elements.{All-at_each, All-from_each, Contains-at, Contains-cases, Contains-first, Contains-flat_map, Contains-in_part, Contains-later, Contains-map, count-map, count-no, count-some, count-yes, find-none, list_all-IsPermutation, list_all-same, list_any-Contains, one-only}
-pub use Rattle.cad_map.proofs.Lists.ElementFacts.{Contains-filter, Contains-one, EachPair-from_test, filter-Contains, find-Contains, find-nothing, list_all-at, list_all-from, list_any-none, map-Contains}
+pub use Rattle.cad_map.proofs.Lists.ElementFacts.{Contains-filter, Contains-one, EachPair-from_test, EachPair-two, filter-Contains, find-Contains, find-nothing, list_all-at, list_all-from, list_any-none, map-Contains}
 pub use Rattle.cad_map.proofs.Lists.TakenOut.{EachPair-append}
 pub use Rattle.cad_map.proofs.Lists.RowsLeft.{none-filter, none-push, sum-without}
 pub use Rattle.cad_map.proofs.Lists.RowsInTurn.{row_with-there}
@@ -21,11 +21,11 @@ pub use Rattle.cad_map.proofs.Walks.AlongRing.{corner-found, corner-only, is_sid
 pub use Rattle.cad_map.proofs.Walks.Walked.{anchor-there, inside-more, least-all, least-more, position-on_map, sum-fits, sum-more, walked, walked-all, walked-points}
 pub use Rattle.cad_map.proofs.Walks.Counted.{counted-Contains, permuted-from_times, times, times-append, times-cons, times-flat_map, times-permuted}
 pub use Rattle.cad_map.proofs.Walks.CornersAt.{corners_at, new_side, old_sides, sides-without, through-corners}
-pub use Rattle.cad_map.proofs.Walks.FirstCorners.{corner-points, distinct-whole, two-each}
+pub use Rattle.cad_map.proofs.Walks.FirstCorners.{corner-all_sides, corner-points, distinct-whole, two-each}
 pub use Rattle.cad_map.proofs.Walks.ChosenCorners.{IsChosen, chosen, face-ring}
 -- ends of strings: where strings meet, and in which directions they lead
 pub use Rattle.cad_map.proofs.Ends.SharedEnds.{only_start-is}
-pub use Rattle.cad_map.proofs.Ends.Meetings.{ends, far_end-away, is_end-from, is_end-of, meet-at_end, meet-no_end, other_end, placed-at}
+pub use Rattle.cad_map.proofs.Ends.Meetings.{all-placed, ends, far_end-away, is_end-from, is_end-of, meet-at_end, meet-no_end, other_end, placed-at, positions-differ}
 pub use Rattle.cad_map.proofs.Ends.Parallel.{all_sides-once, is_side-is, pairs-IsPermutation, string_sides-once}
 pub use Rattle.cad_map.proofs.Ends.StringEnds.{IsString, Joins, first_met, joins-end, joins-far, joins-far_end, side-joins, two_ends}
 pub use Rattle.cad_map.proofs.Ends.StarFacts.{IsSpoke, IsSpoke-all, far-star, length-star}

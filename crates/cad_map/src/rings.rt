@@ -20,7 +20,7 @@ pub fn position<M: MapView>(map: &M, no: PointNo) -> Pt
 }
 
 /// Whether a face is the outside or a parcel of the map.
-pub(crate) fn has_face<M: MapView>(map: &M, face: &Face) -> bool
+pub fn has_face<M: MapView>(map: &M, face: &Face) -> bool
     ensures { result ≡ has_face_of (M.map map.now) face.now }
 {
     match face {

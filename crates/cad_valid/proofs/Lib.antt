@@ -12,3 +12,9 @@ mod InsideBox
 mod Sweeping
 mod RingsInMap
 mod OutlineCounts
+mod Passed
+mod RowsByNumber
+mod NearPoints
+mod NearStrings
+mod NearCorners
+mod NearFaces

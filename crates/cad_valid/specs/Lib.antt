@@ -1,6 +1,7 @@
 pub mod Boxes
 pub mod Corners
 pub mod Holes
+pub mod Near
 pub mod Outlines
 pub mod Extents
 pub mod Shapes

@@ -62,7 +62,7 @@ fn is_empty_corner<M: MapView>(map: &M, before: PointNo, at: PointNo, after: Poi
 }
 
 /// Whether a string doesn't lie in the sector of the corner at a point of a ring.
-fn is_clear_of<M: MapView>(
+pub(crate) fn is_clear_of<M: MapView>(
     map: &M,
     before: PointNo,
     at: PointNo,

@@ -7,6 +7,7 @@ mod crossings;
 mod extents;
 mod holes;
 mod holes_swept;
+mod near;
 mod outlines;
 mod outlines_by_runs;
 mod placed;
@@ -29,6 +30,7 @@ use crate::points::has_distinct_positions;
 use crate::swept::{has_distinct_positions_swept, has_no_crossing_swept};
 use cad_map::{MapView, PlainMap};
 use cad_rows::{Memory, Rule};
+pub use near::{Touched, first_broken_near};
 use std::alloc::Global;
 
 /// The first rule that a map breaks, of V3, V4, V6, V7 and V8 in this order, or `None` where it keeps them all. Takes no

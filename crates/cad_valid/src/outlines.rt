@@ -68,7 +68,7 @@ pub(crate) fn has_one_outline_each<M: MapView>(map: &M) -> bool
 }
 
 /// Whether so many rings of a face have positive doubled area, and all others negative.
-fn has_outlines<M: MapView>(map: &M, face: &Face, wanted: usize) -> bool
+pub(crate) fn has_outlines<M: MapView>(map: &M, face: &Face, wanted: usize) -> bool
     requires { HasWholeRings (M.map map.now) }
     ensures { result ≡ has_outlines_of wanted (M.map map.now) (rings_of (M.map map.now) face.now) }
 {

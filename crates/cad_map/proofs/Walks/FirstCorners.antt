@@ -131,7 +131,7 @@ module _ (m : Map) (whole : HasWholeRings m) where
   in_ring : (c : Corner) → Contains (all_corners m) c → (b : Boundary) × Contains m.boundaries b × Contains (corners_of b.ring) c
   in_ring c h = Contains-in_part (λ b. corners_of b.ring) m.boundaries c h
 
-  corner-all_sides : (c : Corner) → Contains (all_corners m) c → Contains (all_sides m) (side_before c) × Contains (all_sides m) (side_behind c)
+  pub corner-all_sides : (c : Corner) → Contains (all_corners m) c → Contains (all_sides m) (side_before c) × Contains (all_sides m) (side_behind c)
   corner-all_sides c h =
       let ring = in_ring c h in
       let sides = corner-sides ring.0.ring (All-at_each (λ b. 2 ≤ length b.ring) m.boundaries ring.0 two-each ring.1) c ring.2 in

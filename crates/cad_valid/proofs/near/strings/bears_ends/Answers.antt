@@ -1,0 +1,22 @@
+use Rattle.std.proofs.Common.{rules, tests, ◌≡◌, ℕ, refl, sym, subst}
+use Rattle.std.specs.Prelude.{IsTrue, ◌↔◌}
+use Rattle.std.proofs.lemmas.Iterator.{cases_from_all}
+use Rattle.std.proofs.lemmas.Iterator.Consumers.{YieldsList-from_first}
+use Rattle.geo_exact.specs.Position.{Position}
+use Rattle.geo_exact.specs.Segment.{HaveCommonLocation, IsOnSegment}
+use Rattle.geo_exact.proofs.CallerLemmas.{HaveCommonLocation-exchanged}
+use Rattle.cad_rows.specs.declared.rows.PointRow.{PointRow}
+use Rattle.cad_map.specs.Map.{position_of}
+use Rattle.cad_map.specs.Valid.{HaveCommon, LiesOnlyAsEnd}
+use Rattle.cad_valid.specs.Near.{OfPoint, MeetsIfOther}
+use Rattle.cad_valid.proofs.Passed.{passed-points}
+use Rattle.cad_valid.proofs.near.strings.bears_ends.Goals as goal
+
+pub returns : goal.returns
+returns g c =
+    let m = g.M.MapView.map c.args.map.now in
+    passed-points m (λ p. LiesOnlyAsEnd m p c.args.string.now) (λ p. IsOnSegment (position_of m c.args.string.now.from) (position_of m c.args.string.now.to) p.position) c.point_candidates.result _
+    (cases_from_all _ _ _ (OfPoint m (λ p. LiesOnlyAsEnd m p c.args.string.now)) (λ n. ¬ OfPoint m (λ p. LiesOnlyAsEnd m p c.args.string.now) n) c.all.ensures.ran (YieldsList-from_first (λ x. x) (λ w. w) c.point_candidates.result refl)
+    (λ x q k. search (rules, tests)) (λ x q k. search (rules, tests)))
+    (λ p h on. (rw c.requires.here at c.point_candidates.ensures.all) p.number p.position (c.requires.held.points p h) on)
+    (λ p near on. near on on)

@@ -1,0 +1,22 @@
+use Rattle.std.proofs.Common.{rules, tests, ◌≡◌, ℕ, refl, sym, subst}
+use Rattle.std.specs.Prelude.{IsTrue, ◌↔◌}
+use Rattle.std.proofs.lemmas.Iterator.{cases_from_all}
+use Rattle.std.proofs.lemmas.Iterator.Consumers.{YieldsList-from_first}
+use Rattle.geo_exact.specs.Position.{Position}
+use Rattle.geo_exact.specs.Segment.{HaveCommonLocation, IsOnSegment}
+use Rattle.geo_exact.proofs.CallerLemmas.{HaveCommonLocation-exchanged}
+use Rattle.cad_rows.specs.declared.rows.StringRow.{StringRow}
+use Rattle.cad_map.specs.Map.{position_of}
+use Rattle.cad_map.specs.Valid.{HaveCommon, LiesOnlyAsEnd}
+use Rattle.cad_valid.specs.Near.{OfString, MeetsIfOther}
+use Rattle.cad_valid.proofs.Passed.{passed-strings}
+use Rattle.cad_valid.proofs.near.strings.meets_at_ends.Goals as goal
+
+pub returns : goal.returns
+returns g c =
+    let m = g.M.MapView.map c.args.map.now in
+    passed-strings m (MeetsIfOther m c.args.string.now) (λ t. HaveCommon m c.args.string.now t) c.candidates.result _
+    (cases_from_all _ _ _ (OfString m (MeetsIfOther m c.args.string.now)) (λ n. ¬ OfString m (MeetsIfOther m c.args.string.now) n) c.all.ensures.ran (YieldsList-from_first (λ x. x) (λ w. w) c.candidates.result refl)
+    (λ x q k. search (rules, tests)) (λ x q k. search (rules, tests)))
+    (λ t h common. (rw c.requires.here at c.candidates.ensures.all) t.number (position_of m t.from) (position_of m t.to) (c.requires.held.strings t h) common)
+    (λ t near ne common. near common ne common)

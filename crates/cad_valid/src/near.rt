@@ -1,0 +1,118 @@
+//! The first rule that a map breaks, looked for near an edit.
+ghost use Rattle.std.specs.Prelude.{◌↔◌, IsTrue, IfSome, IfNone};
+ghost use Rattle.cad_rows.specs.declared.refusals.Rule.TheVariants.{V3, V4, V6, V7, V8};
+ghost use Rattle.cad_map.specs.Valid.{HasSoundRows, HasTwoEnds};
+ghost use Rattle.cad_map.specs.Valid.{CanBeTested, Keeps, KeepsAll, FirstBroken};
+ghost use Rattle.cad_map.specs.Crossings.{HasPlacedRows};
+ghost use Rattle.cad_map.specs.Rings.{HasWholeRings};
+ghost use Rattle.cad_valid.specs.Near.{HoldsMap, ComesFromValid, touched_of};
+
+mod corners;
+mod faces;
+mod points;
+mod strings;
+
+use crate::near::corners::{are_empty_at, are_empty_at_ends};
+use crate::near::faces::{have_outlines, have_sound_holes};
+use crate::near::points::are_alone;
+use crate::near::strings::{are_uncrossed, lie_at_ends};
+use cad_map::MapView;
+use cad_rows::{Face, PointNo, Rule, StringNo};
+use cell_grid::CellGrid;
+
+/// What an edit touched. More may be named than was.
+///
+/// The points are those that are new, lie elsewhere, or have other strings or corners. The strings
+/// are those that are new, have other ends, or an end that lies elsewhere. The faces are those that
+/// are new, have other rings, or a point that lies elsewhere.
+#[derive(Drop)]
+pub struct Touched {
+    pub points: Vec<PointNo>,
+    pub strings: Vec<StringNo>,
+    pub faces: Vec<Face>,
+}
+
+/// The first rule that a map breaks, as [`first_broken`](crate::first_broken) tells it, of a map
+/// that an edit made of a valid one. It looks at what the edit touched, and at what the grid holds
+/// near it. Takes no memory.
+///
+/// The grid holds the map's strings and points at their positions. It may hold others as well: a
+/// candidate is tested where the map has it, and one that the map doesn't have is passed over.
+#[tactic(auto, using(crate::proofs::Whole::whole, crate::proofs::Whole::placed))]
+pub fn first_broken_near<M: MapView>(map: &M, grid: &CellGrid, touched: &Touched) -> Option<Rule>
+    requires tested { CanBeTested (M.map map.now) }
+    requires held { HoldsMap grid.now (M.map map.now) }
+    requires touched { ComesFromValid (touched_of touched.now) (M.map map.now) }
+    ensures broken { IfSome result (FirstBroken (M.map map.now)) }
+    ensures kept { IfNone result (KeepsAll (M.map map.now)) }
+{
+    if !has_distinct_positions(map, grid, touched) {
+        return Some(Rule::V3);
+    }
+    if !has_no_crossing(map, grid, touched) {
+        return Some(Rule::V4);
+    }
+    if !has_empty_corners(map, grid, touched) {
+        return Some(Rule::V6);
+    }
+    if !has_one_outline_each(map, touched) {
+        return Some(Rule::V7);
+    }
+    if !has_holes_in_place(map, touched) {
+        return Some(Rule::V8);
+    }
+    None
+}
+
+/// Whether no two points have the same position. Two that weren't touched had others before.
+fn has_distinct_positions<M: MapView>(map: &M, grid: &CellGrid, touched: &Touched) -> bool
+    requires sound { HasSoundRows (M.map map.now) }
+    requires two { HasTwoEnds (M.map map.now) }
+    requires held { HoldsMap grid.now (M.map map.now) }
+    requires touched { ComesFromValid (touched_of touched.now) (M.map map.now) }
+    ensures { IsTrue result ↔ Keeps (M.map map.now) V3 }
+{
+    are_alone(map, grid, touched.points.as_slice())
+}
+
+/// Whether strings and points meet only at ends. Those that weren't touched did before.
+fn has_no_crossing<M: MapView>(map: &M, grid: &CellGrid, touched: &Touched) -> bool
+    requires rows { HasPlacedRows (M.map map.now) }
+    requires held { HoldsMap grid.now (M.map map.now) }
+    requires touched { ComesFromValid (touched_of touched.now) (M.map map.now) }
+    ensures { IsTrue result ↔ Keeps (M.map map.now) V4 }
+{
+    are_uncrossed(map, grid, touched.strings.as_slice())
+        && lie_at_ends(map, grid, touched.points.as_slice())
+}
+
+/// Whether corners are empty. One at a point that wasn't touched, and where no touched string ends,
+/// was empty before.
+fn has_empty_corners<M: MapView>(map: &M, grid: &CellGrid, touched: &Touched) -> bool
+    requires whole { HasWholeRings (M.map map.now) }
+    requires held { HoldsMap grid.now (M.map map.now) }
+    requires touched { ComesFromValid (touched_of touched.now) (M.map map.now) }
+    ensures { IsTrue result ↔ Keeps (M.map map.now) V6 }
+{
+    are_empty_at(map, grid, touched.points.as_slice())
+        && are_empty_at_ends(map, grid, touched.strings.as_slice())
+}
+
+/// Whether each parcel has one outline and the outside none. A face that wasn't touched has its own
+/// from before.
+fn has_one_outline_each<M: MapView>(map: &M, touched: &Touched) -> bool
+    requires whole { HasWholeRings (M.map map.now) }
+    requires touched { ComesFromValid (touched_of touched.now) (M.map map.now) }
+    ensures { IsTrue result ↔ Keeps (M.map map.now) V7 }
+{
+    have_outlines(map, touched.faces.as_slice())
+}
+
+/// Whether the holes of each face are in place. Those of a face that wasn't touched were before.
+fn has_holes_in_place<M: MapView>(map: &M, touched: &Touched) -> bool
+    requires whole { HasWholeRings (M.map map.now) }
+    requires touched { ComesFromValid (touched_of touched.now) (M.map map.now) }
+    ensures { IsTrue result ↔ Keeps (M.map map.now) V8 }
+{
+    have_sound_holes(map, touched.faces.as_slice())
+}
