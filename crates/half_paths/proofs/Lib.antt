@@ -1,0 +1,4 @@
+pub mod Redirected
+mod Along
+mod Apart
+mod TwoEnds

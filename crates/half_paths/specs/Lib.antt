@@ -1,0 +1,4 @@
+pub mod Redirect
+pub mod Path
+pub mod Strung
+pub mod Ends
