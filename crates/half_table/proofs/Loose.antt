@@ -1,9 +1,13 @@
 -- A string that comes or goes.
-use Rattle.std.proofs.Common.{◌≡◌, ℕ, [], ◌∷◌, ◌++◌, Bool, true, false, not, cond, refl, sym, ap, ◌∙◌, subst, Option, Some, None, is_some, option_map, true≢false, nat_eq, if◌then◌else◌}
+use Rattle.std.proofs.Common.{arith, ◌≡◌, ◌<◌, ◌+◌, ◌-◌, ℕ, suc, length, take, nat_lt, [], ◌∷◌, ◌++◌, Bool, true, false, not, cond, refl, sym, ap, ◌∙◌, subst, Option, Some, None, is_some, option_map, true≢false, nat_eq, if◌then◌else◌}
 use Rattle.std.proofs.lemmas.Bool.Decides.{Decides-eqb}
-use Rattle.std.specs.List.{IsDistinct}
+use Rattle.std.specs.List.{IsDistinct, AllByRecursion, position, position_or_len}
 use Rattle.std.specs.List.Sorted.{IsPermutation}
 use Rattle.indexmap.specs.IndexMap.{swap_remove_entry}
+use Rattle.indexmap.proofs.MapLemmas.{swap_remove_entry-found, swap_remove_last}
+use Rattle.std.proofs.lemmas.Bool.{lt-ltb}
+use Rattle.std.proofs.lemmas.List.{length-map}
+use Rattle.std.proofs.Math.Seq.{take-append_seam}
 use Rattle.std.specs.Map.{lookup}
 use Rattle.std.specs.Option.{option_map_or}
 use Rattle.cad_rows.specs.declared.names.Face.TheVariants.{Outside}
@@ -16,7 +20,7 @@ use Rattle.half_table.specs.Surgery.{AddsLoose, RemovesLoose, IsLoose, loose_end
 use Rattle.half_table.proofs.Halves.{twin-twin}
 use Rattle.half_table.proofs.Strings.{swapped-out}
 
-nat_eq-symm : (a b : ℕ) → nat_eq a b ≡ nat_eq b a
+pub nat_eq-symm : (a b : ℕ) → nat_eq a b ≡ nat_eq b a
 nat_eq-symm a b = same (nat_eq a b) (nat_eq b a) (λ e. (Decides-eqb b a).1 (sym ((Decides-eqb a b).0 e))) (λ e. (Decides-eqb a b).1 (sym ((Decides-eqb b a).0 e)))
   where
     same : (x y : Bool) → (x ≡ true → y ≡ true) → (y ≡ true → x ≡ true) → x ≡ y
@@ -132,6 +136,41 @@ removed old new s there swapped put = record {
   face = λ g. read old new s None put (λ o. option_map_or (λ (l : Links). l.face) o Outside) g;
   has = λ g. read old new s None put is_some g;
 }
+
+-- ---- The last string
+
+all-last : (P : ℕ → Type 0) (before : HalfRows) (s : ℕ) (e : Ends) → AllByRecursion P (strings (before ++ (s, e) ∷ [])) → P s
+all-last P [] s e all = all.0
+all-last P (x ∷ before) s e all = all-last P before s e all.1
+
+pub others-differ : (before : HalfRows) (s : ℕ) (e : Ends) → IsDistinct nat_eq (strings (before ++ (s, e) ∷ [])) → AllByRecursion (λ t. nat_eq s t ≡ false) (strings before)
+unfolding IsDistinct
+others-differ [] s e d = tt
+others-differ (x ∷ before) s e d = (nat_eq-symm s x.0 ∙ all-last (λ t. nat_eq x.0 t ≡ false) before s e d.0, others-differ before s e d.1)
+
+place-last : (before : HalfRows) (s : ℕ) (e : Ends) → AllByRecursion (λ t. nat_eq s t ≡ false) (strings before) → position_or_len (nat_eq s) (strings (before ++ (s, e) ∷ [])) ≡ length before
+place-last [] s e d = ap (λ b. cond (not b) 1 0) ((Decides-eqb s s).1 refl)
+place-last (x ∷ before) s e d =
+    let later : position_or_len (nat_eq s) (strings (before ++ (s, e) ∷ [])) ≡ length before = place-last before s e d.1 in
+    let more : 1 + position_or_len (nat_eq s) (strings (before ++ (s, e) ∷ [])) ≡ suc (length before) = omega (arith, later) in
+    ap (λ b. cond (not b) (1 + position_or_len (nat_eq s) (strings (before ++ (s, e) ∷ []))) 0) d.0 ∙ more
+
+length-last : (before : HalfRows) (s : ℕ) (e : Ends) → length (before ++ (s, e) ∷ []) ≡ suc (length before)
+length-last [] s e = refl
+length-last (x ∷ before) s e = ap suc (length-last before s e)
+
+-- the last string taken out leaves the others in their order
+pub swapped-last : (before : HalfRows) (s : ℕ) (e : Ends) → IsDistinct nat_eq (strings (before ++ (s, e) ∷ [])) → swap_remove_entry (nat_eq s) (before ++ (s, e) ∷ []) ≡ before
+swapped-last before s e d =
+    let rows : HalfRows = before ++ (s, e) ∷ [] in
+    let n : ℕ = length rows - 1 in
+    let is_n : n ≡ length before = omega (arith, length-last before s e) in
+    let keys : length (strings rows) ≡ length rows = length-map rows (λ (x : ℕ × Ends). x.0) in
+    let at : position_or_len (nat_eq s) (strings rows) ≡ n = place-last before s e (others-differ before s e d) ∙ sym is_n in
+    let within : n < length (strings rows) = omega (arith, keys, length-last before s e) in
+    let found : position (nat_eq s) (strings rows) ≡ Some n =
+    ap (λ k. cond (nat_lt k (length (strings rows))) (Some k) None) at ∙ ap (λ b. cond b (Some n) None) (lt-ltb n _ within) in
+    swap_remove_entry-found (nat_eq s) rows n (s, e) found ∙ swap_remove_last rows (s, e) ∙ ap (λ k. take k rows) is_n ∙ take-append_seam before ((s, e) ∷ [])
 
 -- what follows a half of a loose string
 pub loose-follows : (rows : HalfRows) (s : ℕ) → IsLoose s rows → (g : Half) → nat_eq g.string s ≡ true → (f : Bool) → g.forward ≡ f → next rows g ≡ record { string = s; forward = not f }

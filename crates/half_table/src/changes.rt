@@ -1,9 +1,10 @@
 //! Surgery on the rows of a table.
-ghost use Rattle.std.specs.Prelude.{◌≡◌, ◌≤◌, true, false, length, OnOk, OnErr};
+ghost use Rattle.std.specs.Prelude.{◌≡◌, ◌≤◌, ◌++◌, ◌∷◌, [], true, false, length, OnOk, OnErr};
 ghost use Rattle.half_table.specs.Count.{ticked};
 ghost use Rattle.half_table.specs.Half.{half_of};
-ghost use Rattle.half_table.specs.Rows.{has_halves, has, cycle, IsLinked};
-ghost use Rattle.half_table.specs.Surgery.{IsUnchanged, IsSpliced, SplicesBack, SplicesCycles, Relabels, AddsLoose, AddsCycle, IsLoose, links_to, RemovesLoose, RemovesCycle};
+ghost use Rattle.half_table.specs.Rows.{HalfRows, has_halves, has, cycle, IsLinked};
+ghost use Rattle.half_table.specs.declared.links.Ends.{Ends as StringEnds};
+ghost use Rattle.half_table.specs.Surgery.{IsUnchanged, IsSpliced, SplicesBack, SplicesCycles, Relabels, AddsLoose, AddsCycle, IsLoose, links_to, loose_ends, RemovesLoose, RemovesCycle};
 
 use crate::half::{Half, is_same};
 use crate::links::{Ends, Links};
@@ -60,6 +61,8 @@ pub(crate) fn put_loose(
     requires linked { IsLinked rows.old.entries }
     ensures adds { OnOk result (AddsLoose string.now from.now to.now rows.old.entries rows.new.entries) }
     ensures cycle { OnOk result (AddsCycle string.now rows.old.entries rows.new.entries) }
+    ensures entry { OnOk result (rows.new.entries
+        ≡ rows.old.entries ++ (string.now, loose_ends string.now from.now to.now) ∷ []) }
     ensures linked { IsLinked rows.new.entries }
     ensures err { OnErr result (rows.new.entries ≡ rows.old.entries) }
 {
@@ -94,6 +97,8 @@ pub(crate) fn take_loose(rows: &mut Rows, string: &StringNo)
     requires linked { IsLinked rows.old.entries }
     ensures removes { RemovesLoose string.now rows.old.entries rows.new.entries }
     ensures cycle { RemovesCycle string.now rows.old.entries rows.new.entries }
+    ensures last { (before : HalfRows) (ends : StringEnds) → rows.old.entries ≡ before ++ (string.now, ends) ∷ []
+        → rows.new.entries ≡ before }
     ensures linked { IsLinked rows.new.entries }
 {
     rows.swap_remove(string);

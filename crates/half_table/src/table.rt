@@ -1,9 +1,10 @@
 //! The table of half-edges.
-ghost use Rattle.std.specs.Prelude.{◌≡◌, ◌≤◌, Bool, [], ◌∷◌, true, false, List, Some, length, OnOk, OnErr};
+ghost use Rattle.std.specs.Prelude.{◌≡◌, ◌≤◌, ◌++◌, Bool, [], ◌∷◌, true, false, List, Some, length, OnOk, OnErr};
 ghost use Rattle.half_table.specs.Count.{one_more, ticked};
 ghost use Rattle.half_table.specs.Half.{half_of, twin};
-ghost use Rattle.half_table.specs.Rows.{has_halves, links_of, has, next, prev, origin_of, face, IsLinked, cycle, HasCycle};
-ghost use Rattle.half_table.specs.Surgery.{IsUnchanged, IsSpliced, SplicesBack, SplicesCycles, Relabels, AddsLoose, AddsCycle, IsLoose, RemovesLoose, RemovesCycle};
+ghost use Rattle.half_table.specs.declared.links.Ends.{Ends as StringEnds};
+ghost use Rattle.half_table.specs.Rows.{HalfRows, has_halves, links_of, has, next, prev, origin_of, face, IsLinked, cycle, HasCycle};
+ghost use Rattle.half_table.specs.Surgery.{IsUnchanged, IsSpliced, SplicesBack, SplicesCycles, Relabels, AddsLoose, AddsCycle, IsLoose, loose_ends, RemovesLoose, RemovesCycle};
 
 use crate::changes::{exchange, put_loose, relabel_cycle, take_loose};
 use crate::half::Half;
@@ -127,6 +128,8 @@ impl<T: Tally> HalfTable<T> {
         requires { has_halves self.old.rows string ≡ false }
         ensures adds { OnOk result (AddsLoose string from to self.old.rows self.new.rows) }
         ensures cycle { OnOk result (AddsCycle string self.old.rows self.new.rows) }
+        ensures entry { OnOk result (self.new.rows
+            ≡ self.old.rows ++ (string, loose_ends string from to) ∷ []) }
         ensures linked { IsLinked self.new.rows }
         ensures work { OnOk result (self.new.work ≡ one_more self.old.work) }
         ensures grows { self.old.work ≤ self.new.work }
@@ -142,6 +145,11 @@ impl<T: Tally> HalfTable<T> {
         requires { IsLoose string self.old.rows }
         ensures removes { RemovesLoose string self.old.rows self.new.rows }
         ensures cycle { RemovesCycle string self.old.rows self.new.rows }
+
+        // The string that was added last leaves the rows that there were before.
+        ensures last { (before : HalfRows) (ends : StringEnds) → self.old.rows ≡ before ++ (string, ends) ∷ []
+            → self.new.rows ≡ before }
+
         ensures linked { IsLinked self.new.rows }
         ensures work { self.new.work ≡ one_more self.old.work }
         ensures grows { self.old.work ≤ self.new.work }
