@@ -22,7 +22,8 @@ pub record IsLabel (bytes : List ℕ) : Type 0 where
 
 -- the label that a text makes
 abbrev pub label_of : List ℕ → Option (List ℕ)
-label_of bytes = if nat_le 1 (length bytes) && nat_le (length bytes) label_limit then Some bytes else None
+label_of bytes =
+    if nat_le 1 (length bytes) && nat_le (length bytes) label_limit then Some bytes else None
 
 -- the most points, parcels, sources and retired numbers, each
 abbrev pub row_limit : ℕ

@@ -1,4 +1,5 @@
-//! Numbers, labels, rows, edits and refusals of a cadastral map: values that are in range by their type.
+//! Numbers, labels, rows, edits and refusals of a cadastral map: values that are in range by their
+//! type.
 #![tactic(auto)]
 
 mod edits;
@@ -17,7 +18,10 @@ pub use limits::{ROW_LIMIT, SOURCE_LIMIT, STRING_LIMIT};
 pub use list::Numbers;
 pub use memory::Memory;
 pub use names::{Face, Item, Name};
-pub use numbers::{GREATEST_NUMBER, ParcelNo, PointNo, SourceNo, StringNo};
+pub use numbers::{
+    GREATEST_NUMBER, Number, ParcelNo, Parcels, PointNo, Points, SourceNo, Sources, StringNo,
+    Strings,
+};
 pub use refusals::{Refusal, Rule};
 pub use rows::{ParcelRow, PointRow, SourceRow, StringRow};
 

@@ -1,25 +1,33 @@
 //! The numbers of points, strings, parcels and sources.
-ghost use Rattle.std.specs.Prelude.{◌≡◌, ◌↔◌, IsTrue, IsSome, IfSome};
+ghost use Rattle.std.specs.Prelude.{◌≡◌, ◌↔◌, IsSome, IfSome};
 ghost use Rattle.cad_rows.specs.Limits.{IsNumber};
 
-use std::marker::Model;
+use std::marker::{Model, PhantomData};
 
 /// The greatest number that a row may have.
 pub const GREATEST_NUMBER: u32 = 999_999_999;
 
-fn is_number(no: u32) -> bool
-    ensures { IsTrue result ↔ IsNumber no }
-{
-    1 <= no && no <= GREATEST_NUMBER
-}
+/// Points, as the kind of a number.
+pub struct Points;
 
-/// The number of a point, from 1 to 999,999,999.
-#[derive(Clone, Copy, Debug, PartialEq, Eq, PartialOrd, Ord, Hash)]
-pub struct PointNo {
+/// Strings, as the kind of a number.
+pub struct Strings;
+
+/// Parcels, as the kind of a number.
+pub struct Parcels;
+
+/// Sources, as the kind of a number.
+pub struct Sources;
+
+/// The number of one of a kind, from 1 to 999,999,999. Numbers of two kinds are of two types.
+#[derive_where(Clone, Copy, Debug, PartialEq, Eq, PartialOrd, Ord, Hash)]
+pub struct Number<Kind> {
     no: u32,
+    #[derive_where(skip)]
+    of: PhantomData<Kind>,
 }
 
-impl Model for PointNo {
+impl<Kind> Model for Number<Kind> {
     ghost use Rattle.std.specs.Prelude.{ℕ};
     ghost use Rattle.cad_rows.specs.Limits.{IsNumber};
 
@@ -29,17 +37,20 @@ impl Model for PointNo {
 
     ghost invariant = { λ a. IsNumber a.no };
 
-    ghost inverse = { λ n. record { no = n } };
+    ghost inverse = { λ n. record { no = n; of = record {} } };
 }
 
-impl PointNo {
+impl<Kind> Number<Kind> {
     /// The number, or `None` where it is 0 or past the greatest.
-    pub fn new(no: u32) -> Option<PointNo>
+    pub fn new(no: u32) -> Option<Number<Kind>>
         ensures some { IsSome result ↔ IsNumber no }
         ensures value { IfSome result (λ n. n ≡ no) }
     {
-        if is_number(no) {
-            Some(PointNo { no })
+        if 1 <= no && no <= GREATEST_NUMBER {
+            Some(Number {
+                no,
+                of: PhantomData,
+            })
         } else {
             None
         }
@@ -54,125 +65,14 @@ impl PointNo {
     }
 }
 
-/// The number of a string, from 1 to 999,999,999.
-#[derive(Clone, Copy, Debug, PartialEq, Eq, PartialOrd, Ord, Hash)]
-pub struct StringNo {
-    no: u32,
-}
+/// The number of a point.
+pub type PointNo = Number<Points>;
 
-impl Model for StringNo {
-    ghost use Rattle.std.specs.Prelude.{ℕ};
-    ghost use Rattle.cad_rows.specs.Limits.{IsNumber};
+/// The number of a string.
+pub type StringNo = Number<Strings>;
 
-    ghost Value = { ℕ };
+/// The number of a parcel.
+pub type ParcelNo = Number<Parcels>;
 
-    ghost view = { λ a. a.no };
-
-    ghost invariant = { λ a. IsNumber a.no };
-
-    ghost inverse = { λ n. record { no = n } };
-}
-
-impl StringNo {
-    /// The number, or `None` where it is 0 or past the greatest.
-    pub fn new(no: u32) -> Option<StringNo>
-        ensures some { IsSome result ↔ IsNumber no }
-        ensures value { IfSome result (λ n. n ≡ no) }
-    {
-        if is_number(no) {
-            Some(StringNo { no })
-        } else {
-            None
-        }
-    }
-
-    /// The number as an integer.
-    pub fn get(&self) -> u32
-        ensures value { result ≡ self.now }
-        ensures within { IsNumber result }
-    {
-        self.no
-    }
-}
-
-/// The number of a parcel, from 1 to 999,999,999.
-#[derive(Clone, Copy, Debug, PartialEq, Eq, PartialOrd, Ord, Hash)]
-pub struct ParcelNo {
-    no: u32,
-}
-
-impl Model for ParcelNo {
-    ghost use Rattle.std.specs.Prelude.{ℕ};
-    ghost use Rattle.cad_rows.specs.Limits.{IsNumber};
-
-    ghost Value = { ℕ };
-
-    ghost view = { λ a. a.no };
-
-    ghost invariant = { λ a. IsNumber a.no };
-
-    ghost inverse = { λ n. record { no = n } };
-}
-
-impl ParcelNo {
-    /// The number, or `None` where it is 0 or past the greatest.
-    pub fn new(no: u32) -> Option<ParcelNo>
-        ensures some { IsSome result ↔ IsNumber no }
-        ensures value { IfSome result (λ n. n ≡ no) }
-    {
-        if is_number(no) {
-            Some(ParcelNo { no })
-        } else {
-            None
-        }
-    }
-
-    /// The number as an integer.
-    pub fn get(&self) -> u32
-        ensures value { result ≡ self.now }
-        ensures within { IsNumber result }
-    {
-        self.no
-    }
-}
-
-/// The number of a source, from 1 to 999,999,999.
-#[derive(Clone, Copy, Debug, PartialEq, Eq, PartialOrd, Ord, Hash)]
-pub struct SourceNo {
-    no: u32,
-}
-
-impl Model for SourceNo {
-    ghost use Rattle.std.specs.Prelude.{ℕ};
-    ghost use Rattle.cad_rows.specs.Limits.{IsNumber};
-
-    ghost Value = { ℕ };
-
-    ghost view = { λ a. a.no };
-
-    ghost invariant = { λ a. IsNumber a.no };
-
-    ghost inverse = { λ n. record { no = n } };
-}
-
-impl SourceNo {
-    /// The number, or `None` where it is 0 or past the greatest.
-    pub fn new(no: u32) -> Option<SourceNo>
-        ensures some { IsSome result ↔ IsNumber no }
-        ensures value { IfSome result (λ n. n ≡ no) }
-    {
-        if is_number(no) {
-            Some(SourceNo { no })
-        } else {
-            None
-        }
-    }
-
-    /// The number as an integer.
-    pub fn get(&self) -> u32
-        ensures value { result ≡ self.now }
-        ensures within { IsNumber result }
-    {
-        self.no
-    }
-}
+/// The number of a source.
+pub type SourceNo = Number<Sources>;
