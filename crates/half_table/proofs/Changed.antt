@@ -10,8 +10,8 @@ use Rattle.half_table.specs.declared.half.Half.{Half}
 use Rattle.half_table.specs.declared.links.Links.{Links}
 use Rattle.half_table.specs.declared.links.Ends.{Ends}
 use Rattle.half_table.specs.Half.{is_half}
-use Rattle.half_table.specs.Rows.{HalfRows, strings, links_at, links_of}
-use Rattle.half_table.specs.Writes.{changed_at, with_links_at, ChangesNext, ChangesPrev, ChangesFace}
+use Rattle.half_table.specs.Rows.{HalfRows, links_at, links_of}
+use Rattle.half_table.specs.Writes.{changed_at, with_links_at, ChangesLinks, ChangesNext, ChangesPrev, ChangesFace}
 use Rattle.half_table.proofs.Halves.{is_half-self, cases_half}
 
 -- the links on the other side stay
@@ -62,48 +62,51 @@ module _ (old new : HalfRows) (h : Half) (l to : Links) (there : links_of old h 
   made : {V : Type 0} (F : Option Links → V) (g : Half) → F (links_of new g) ≡ (if is_half g h then F (Some to) else F (links_of old g))
   made F g = ap F (put g) ∙ push F (is_half g h) (links_of old g)
 
-module _ (old new : HalfRows) (h : Half) (e : Ends) (there : lookup (nat_eq h.string) old ≡ Some e) where
-  held : links_of old h ≡ Some (links_at h.forward e)
-  held = ap (option_map (links_at h.forward)) there
+module _ (old new : HalfRows) (h : Half) (l : Links) (held : links_of old h ≡ Some l) where
+  abbrev next_at : Half → Option Links → Half
+  next_at g o = option_map_or (λ l. l.next) o g
 
-  pub next-put : (to : Half) → strings new ≡ strings old → ((q : ℕ) → lookup (nat_eq q) new ≡ cond (nat_eq h.string q) (Some (with_links_at h.forward (record (links_at h.forward e) { next = to }) e)) (lookup (nat_eq q) old)) → ChangesNext h to old new
-  next-put to same put =
-      let l = links_at h.forward e in
+  abbrev prev_at : Half → Option Links → Half
+  prev_at g o = option_map_or (λ l. l.prev) o g
+
+  abbrev origin_at : Option Links → ℕ
+  origin_at o = option_map_or (λ l. l.origin) o 0
+
+  abbrev face_at : Option Links → Face
+  face_at o = option_map_or (λ l. l.face) o Outside
+
+  pub next-put : (to : Half) → ChangesLinks h (record l { next = to }) old new → ChangesNext h to old new
+  next-put to c =
       let t : Links = record l { next = to } in
-      let p = changed-put old new h t e there put in
       record {
-        strings = same;
-        next = λ g. made old new h l t held p (λ o. option_map_or (λ l. l.next) o g) g;
-        prev = λ g. left old new h l t held p (λ o. option_map_or (λ l. l.prev) o g) g refl;
-        origin = λ g. left old new h l t held p (λ o. option_map_or (λ l. l.origin) o 0) g refl;
-        face = λ g. left old new h l t held p (λ o. option_map_or (λ l. l.face) o Outside) g refl;
-        has = λ g. left old new h l t held p is_some g refl;
+        strings = c.strings;
+        has = λ g. left old new h l t held c.links is_some g refl;
+        next = λ g. made old new h l t held c.links (next_at g) g;
+        prev = λ g. left old new h l t held c.links (prev_at g) g refl;
+        origin = λ g. left old new h l t held c.links origin_at g refl;
+        face = λ g. left old new h l t held c.links face_at g refl;
       }
 
-  pub prev-put : (to : Half) → strings new ≡ strings old → ((q : ℕ) → lookup (nat_eq q) new ≡ cond (nat_eq h.string q) (Some (with_links_at h.forward (record (links_at h.forward e) { prev = to }) e)) (lookup (nat_eq q) old)) → ChangesPrev h to old new
-  prev-put to same put =
-      let l = links_at h.forward e in
+  pub prev-put : (to : Half) → ChangesLinks h (record l { prev = to }) old new → ChangesPrev h to old new
+  prev-put to c =
       let t : Links = record l { prev = to } in
-      let p = changed-put old new h t e there put in
       record {
-        strings = same;
-        next = λ g. left old new h l t held p (λ o. option_map_or (λ l. l.next) o g) g refl;
-        prev = λ g. made old new h l t held p (λ o. option_map_or (λ l. l.prev) o g) g;
-        origin = λ g. left old new h l t held p (λ o. option_map_or (λ l. l.origin) o 0) g refl;
-        face = λ g. left old new h l t held p (λ o. option_map_or (λ l. l.face) o Outside) g refl;
-        has = λ g. left old new h l t held p is_some g refl;
+        strings = c.strings;
+        has = λ g. left old new h l t held c.links is_some g refl;
+        next = λ g. left old new h l t held c.links (next_at g) g refl;
+        prev = λ g. made old new h l t held c.links (prev_at g) g;
+        origin = λ g. left old new h l t held c.links origin_at g refl;
+        face = λ g. left old new h l t held c.links face_at g refl;
       }
 
-  pub face-put : (to : Face) → strings new ≡ strings old → ((q : ℕ) → lookup (nat_eq q) new ≡ cond (nat_eq h.string q) (Some (with_links_at h.forward (record (links_at h.forward e) { face = to }) e)) (lookup (nat_eq q) old)) → ChangesFace h to old new
-  face-put to same put =
-      let l = links_at h.forward e in
+  pub face-put : (to : Face) → ChangesLinks h (record l { face = to }) old new → ChangesFace h to old new
+  face-put to c =
       let t : Links = record l { face = to } in
-      let p = changed-put old new h t e there put in
       record {
-        strings = same;
-        next = λ g. left old new h l t held p (λ o. option_map_or (λ l. l.next) o g) g refl;
-        prev = λ g. left old new h l t held p (λ o. option_map_or (λ l. l.prev) o g) g refl;
-        origin = λ g. left old new h l t held p (λ o. option_map_or (λ l. l.origin) o 0) g refl;
-        face = λ g. made old new h l t held p (λ o. option_map_or (λ l. l.face) o Outside) g;
-        has = λ g. left old new h l t held p is_some g refl;
+        strings = c.strings;
+        has = λ g. left old new h l t held c.links is_some g refl;
+        next = λ g. left old new h l t held c.links (next_at g) g refl;
+        prev = λ g. left old new h l t held c.links (prev_at g) g refl;
+        origin = λ g. left old new h l t held c.links origin_at g refl;
+        face = λ g. made old new h l t held c.links face_at g;
       }

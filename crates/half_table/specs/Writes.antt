@@ -5,7 +5,7 @@ use Rattle.half_table.specs.declared.half.Half.{Half}
 use Rattle.half_table.specs.declared.links.Links.{Links}
 use Rattle.half_table.specs.declared.links.Ends.{Ends}
 use Rattle.half_table.specs.Half.{is_half}
-use Rattle.half_table.specs.Rows.{HalfRows, strings, has, next, prev, origin_of, face}
+use Rattle.half_table.specs.Rows.{HalfRows, strings, links_of, has, next, prev, origin_of, face}
 
 -- the ends with other links at one of them
 abbrev pub with_links_at : Bool → Links → Ends → Ends
@@ -14,6 +14,11 @@ with_links_at forward to ends = if forward then record ends { forward = to } els
 -- the links with those of h changed
 abbrev pub changed_at : Half → Links → (Half → Option Links) → Half → Option Links
 changed_at h to links g = if is_half g h then Some to else links g
+
+-- the links of h are changed, and nothing else
+pub record ChangesLinks (h : Half) (to : Links) (old new : HalfRows) : Type 0 where
+  pub strings : strings new ≡ strings old
+  pub links : (g : Half) → links_of new g ≡ changed_at h to (links_of old) g
 
 -- the value at h changed to v
 abbrev pub set_at : {V : Type 0} → Half → V → (Half → V) → Half → V

@@ -15,41 +15,6 @@ pub struct Links {
     pub face: Face,
 }
 
-impl Links {
-    pub(crate) fn with_next(self, to: Half) -> Links
-        ensures { result ≡ record self { next = to } }
-    {
-        Links {
-            origin: self.origin,
-            next: to,
-            prev: self.prev,
-            face: self.face,
-        }
-    }
-
-    pub(crate) fn with_prev(self, to: Half) -> Links
-        ensures { result ≡ record self { prev = to } }
-    {
-        Links {
-            origin: self.origin,
-            next: self.next,
-            prev: to,
-            face: self.face,
-        }
-    }
-
-    pub(crate) fn with_face(self, to: Face) -> Links
-        ensures { result ≡ record self { face = to } }
-    {
-        Links {
-            origin: self.origin,
-            next: self.next,
-            prev: self.prev,
-            face: to,
-        }
-    }
-}
-
 /// The links of both halves of a string.
 #[derive(Clone, Copy, Drop)]
 pub struct Ends {

@@ -2,7 +2,7 @@
 ghost use Rattle.std.specs.Prelude.{◌≡◌, true, Some, nat_eq};
 ghost use Rattle.indexmap.specs.IndexMap.{ContainsKey, Updates};
 ghost use Rattle.half_table.specs.Rows.{strings, links_of, has, next};
-ghost use Rattle.half_table.specs.Writes.{ChangesNext, ChangesPrev, ChangesFace};
+ghost use Rattle.half_table.specs.Writes.{ChangesLinks, ChangesNext, ChangesPrev, ChangesFace};
 
 use crate::half::Half;
 use crate::links::{Ends, Links};
@@ -39,14 +39,23 @@ fn put_ends(rows: &mut Rows, string: StringNo, to: Ends)
     }
 }
 
+// Writes other links of a half.
+fn put_links(rows: &mut Rows, h: &Half, to: Links)
+    requires { has rows.old.entries h.now ≡ true }
+    ensures { ChangesLinks h.now to rows.old.entries rows.new.entries }
+{
+    if let Some(ends) = rows.get(&h.string).copied() {
+        put_ends(rows, h.string, ends.with(h.forward, to));
+    }
+}
+
 /// Links a half to another next.
 pub(crate) fn set_next(rows: &mut Rows, h: &Half, to: &Half)
     requires { has rows.old.entries h.now ≡ true }
     ensures { ChangesNext h.now to.now rows.old.entries rows.new.entries }
 {
-    if let Some(ends) = rows.get(&h.string).copied() {
-        let links = ends.at(h.forward);
-        put_ends(rows, h.string, ends.with(h.forward, links.with_next(*to)));
+    if let Some(links) = find_links(rows, h) {
+        put_links(rows, h, Links { next: *to, ..links });
     }
 }
 
@@ -55,9 +64,8 @@ pub(crate) fn set_prev(rows: &mut Rows, h: &Half, to: &Half)
     requires { has rows.old.entries h.now ≡ true }
     ensures { ChangesPrev h.now to.now rows.old.entries rows.new.entries }
 {
-    if let Some(ends) = rows.get(&h.string).copied() {
-        let links = ends.at(h.forward);
-        put_ends(rows, h.string, ends.with(h.forward, links.with_prev(*to)));
+    if let Some(links) = find_links(rows, h) {
+        put_links(rows, h, Links { prev: *to, ..links });
     }
 }
 
@@ -66,8 +74,7 @@ pub(crate) fn set_face(rows: &mut Rows, h: &Half, to: &Face)
     requires { has rows.old.entries h.now ≡ true }
     ensures { ChangesFace h.now to.now rows.old.entries rows.new.entries }
 {
-    if let Some(ends) = rows.get(&h.string).copied() {
-        let links = ends.at(h.forward);
-        put_ends(rows, h.string, ends.with(h.forward, links.with_face(*to)));
+    if let Some(links) = find_links(rows, h) {
+        put_links(rows, h, Links { face: *to, ..links });
     }
 }
