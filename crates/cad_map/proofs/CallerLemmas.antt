@@ -52,7 +52,8 @@ pub use Rattle.cad_map.proofs.Parcels.Enclosed.{CanEnclose, enclosed-sound, is_d
 pub use Rattle.cad_map.proofs.Mergers.Merged.{gone, in_both_ways, new, of_both_ways, of_face, once-merged, shared-chain, sides-parted, stays, three-merged, two_out, was-beside}
 pub use Rattle.cad_map.proofs.Mergers.MergedRows.{CanMerge, faces-differ, merge-is, merged-sound, rows, shared_chain-there}
 -- the chain that two faces share: it is found by steps along the rings, and it is the only one
-pub use Rattle.cad_map.proofs.SharedChains.FoundChains.{IsChainInRings, along-found, along-passed, around-back, around-found, common-along, ring-there, shared_chain-found}
+pub use Rattle.cad_map.proofs.SharedChains.FoundChains.{IsChainInRings, along-passed, around-back, common-along, ring-there, shared_chain-found}
+unfoldable pub use Rattle.cad_map.proofs.SharedChains.FoundChains.{along-found, around-found}
 pub use Rattle.cad_map.proofs.SharedChains.StepsOfRings.{IsWalked, first-is, has_first, side-same}
 pub use Rattle.cad_map.proofs.SharedChains.WholeSides.{one_boundary, opposite-in_all}
 pub use Rattle.cad_map.proofs.SharedChains.NextSides.{ring-walked}
