@@ -21,7 +21,7 @@ use Rattle.cad_map.specs.Effects.{after}
 use Rattle.cad_map.specs.Refusals.{first_refusal}
 use Rattle.cad_map.specs.Asked.{GivesInRange}
 use Rattle.cad_map.specs.Valid.{IsValid}
-use Rattle.cad_map.proofs.CallerLemmas.{allowed, can-divide, IsChosen, face-ring, IsOnlyIn, CanDivide, IsCutRing, cut_ring, Contains-in_part, All-at_each, has_side-Contains, sides-once, corner-sides, corners_in-canonical_order, one_boundary, ring-walked, IsWalked, once-from_pairs}
+use Rattle.cad_map.proofs.CallerLemmas.{allowed, can-divide, IsChosen, face-ring, IsOnlyIn, CanDivide, IsCutRing, cut_ring, Contains-in_part, All-at_each, has_side-Contains, sides-once, corner-sides, corners_in-canonical_order, one_boundary, ring-walked, whole_valid, IsWalked, once-from_pairs}
 use Rattle.cad_map.proofs.CallerLemmas as maps
 use Rattle.cad_map.specs.Steps.{next_side}
 use Rattle.cad_laws.specs.Parting.{IsOn, IsParted}
@@ -88,7 +88,7 @@ module _ (m : Map) (valid : IsValid m) (face : Face) (chain strings : List ℕ) 
       (subst (λ (l : List ℕ). Contains (corners_of l) c) (sym k.round) h)
 
   abbrev walked : IsWalked (next_side m) b.ring
-  walked = ring-walked m valid b ring.there
+  walked = ring-walked m (whole_valid m valid) b ring.there
 
   first-is : first ≡ can.first
   first-is =

@@ -1,23 +1,24 @@
 -- What crates above cite of maps, in one import.
 -- lists: elements, tests of them, and rows as they grow and shrink
-pub use Rattle.cad_map.proofs.Lists.EachElement.{All-Contains, All-append, All-filter, All-flat_map, All-follows, All-from_Contains, All-map, All-permuted, All-push, drop-at, filter-at, filter-past, found-again, found-number, found-with_row, map-with_row, map-with_row-same, others-from_none}
+pub use Rattle.cad_map.proofs.Lists.EachElement.{All-Contains, All-append, All-filter, All-flat_map, All-follows, All-from_Contains, All-map, All-permuted, All-push, drop-at, filter-at, filter-past, found-again, found-number, found-with_row, map-push, map-with_row, map-with_row-same, others-from_none}
 pub use Rattle.cad_map.proofs.Lists.Elements.{All-at_each, All-from_each, Contains-at, Contains-cases, Contains-first, Contains-flat_map, Contains-in_part, Contains-later, Contains-map, count-map, count-no, count-some, count-yes, find-none, list_all-IsPermutation, list_all-same, list_any-Contains, one-only}
 pub use Rattle.cad_map.proofs.Lists.ElementFacts.{Contains-filter, Contains-one, EachPair-from_test, EachPair-two, filter-Contains, find-Contains, find-nothing, list_all-at, list_all-from, list_any-none, map-Contains}
 pub use Rattle.cad_map.proofs.Lists.TakenOut.{EachPair-append}
 pub use Rattle.cad_map.proofs.Lists.RowsLeft.{none-filter, none-push, sum-without}
-pub use Rattle.cad_map.proofs.Lists.RowsInTurn.{row_with-there}
+pub use Rattle.cad_map.proofs.Lists.RowsInTurn.{row_with-earlier, row_with-there}
+pub use Rattle.cad_map.proofs.Lists.Entries.{AreNumbered-push, lookup-row, take-more, values_of-push}
 pub use Rattle.cad_map.proofs.Lists.PairsByPlace.{AllPairs-from_EachPair, EachPair-from_AllPairs}
 -- boundaries: their canonical order, and the faces on both hands of their sides
-pub use Rattle.cad_map.proofs.Boundaries.CanonicalOrder.{IsPermutation-canonical_order, canonical_order-canonical_order, canonical_order-permuted, each_canonical}
-pub use Rattle.cad_map.proofs.Boundaries.OrderedSides.{corners_in-canonical_order, sides_in-canonical_order}
+pub use Rattle.cad_map.proofs.Boundaries.CanonicalOrder.{IsPermutation-canonical_order, canonical_order-canonical_order, canonical_order-permuted, each_canonical, is_face-place, map-canonical_form}
+pub use Rattle.cad_map.proofs.Boundaries.OrderedSides.{corners_in-canonical_order, front_exchanged, sides_in-canonical_order}
 pub use Rattle.cad_map.proofs.Boundaries.OrderedRings.{IsOfRing, IsOfTwoRings, TestAlike, each_pair-filter, list_all-filter, list_all-none, rings_at-canonical_order}
 pub use Rattle.cad_map.proofs.Boundaries.OrderedParts.{canonical_order-filter}
 pub use Rattle.cad_map.proofs.Boundaries.FacesBeside.{Contains-has_side, IsBeside, IsSideOf, beside, both_sides, face-told, faces-told, has_side-Contains, in_all, is_face-same, of_string, one_face, one_ring, row-found, side-face, sides-once, some-faces, string_side}
 pub use Rattle.cad_map.proofs.Boundaries.TwoFaces.{apart-valid, beside-canonical_order, complete}
-pub use Rattle.cad_map.proofs.Boundaries.Looks.{first_face-some, is_face-refl}
+pub use Rattle.cad_map.proofs.Boundaries.Looks.{first_face-some, is_face-refl, point_after-none, point_after-some}
 pub use Rattle.cad_map.proofs.Boundaries.RingsOfMap.{ring-sides-few, rings_of_map, side_is_told, side_told, string-side-points, whole_valid}
 -- walks along rings, and the corners that are met
-pub use Rattle.cad_map.proofs.Walks.AlongRing.{corner-found, corner-only, is_side-refl, once-from_pairs, side_before, side_behind, sides-before, sides-behind, sides_in-before}
+pub use Rattle.cad_map.proofs.Walks.AlongRing.{begins_with, corner-found, corner-only, is_side-refl, once-from_pairs, side_before, side_behind, sides-before, sides-behind, sides_in-before}
 pub use Rattle.cad_map.proofs.Walks.Walked.{anchor-there, inside-more, least-all, least-more, position-on_map, sum-fits, sum-more, walked, walked-all, walked-points}
 pub use Rattle.cad_map.proofs.Walks.Counted.{counted-Contains, permuted-from_times, times, times-append, times-cons, times-flat_map, times-permuted}
 pub use Rattle.cad_map.proofs.Walks.CornersAt.{corners_at, new_side, old_sides, sides-without, through-corners}
@@ -54,9 +55,9 @@ pub use Rattle.cad_map.proofs.Mergers.MergedRows.{CanMerge, faces-differ, merge-
 -- the chain that two faces share: it is found by steps along the rings, and it is the only one
 pub use Rattle.cad_map.proofs.SharedChains.FoundChains.{IsChainInRings, along-passed, around-back, common-along, ring-there, shared_chain-found}
 unfoldable pub use Rattle.cad_map.proofs.SharedChains.FoundChains.{along-found, around-found}
-pub use Rattle.cad_map.proofs.SharedChains.StepsOfRings.{IsWalked, first-is, has_first, side-same}
-pub use Rattle.cad_map.proofs.SharedChains.WholeSides.{one_boundary, opposite-in_all}
-pub use Rattle.cad_map.proofs.SharedChains.NextSides.{ring-walked}
+pub use Rattle.cad_map.proofs.SharedChains.Steps.{points_along}
+pub use Rattle.cad_map.proofs.SharedChains.StepsOfRings.{IsWalked, first-is, has_first, next-there, points_along-ring, round-least, side-place, side-same, steps-round, walked-same}
+pub use Rattle.cad_map.proofs.SharedChains.WholeSides.{comes_from, next-in_all, next-is, one_boundary, opposite-in_all, ring-walked}
 pub use Rattle.cad_map.proofs.SharedChains.ChainsOfMap.{list_any-found}
 pub use Rattle.cad_map.proofs.SharedChains.OneChain.{IsFound, found, merged-any, same-turned, turned-walked, two-of_shared_chain}
 -- worked maps, on which the definitions are computed

@@ -1,0 +1,84 @@
+-- What the stars tell of the sides of the map.
+use Rattle.std.proofs.Common.{◌≡◌, ◌≢◌, ℕ, ◌+◌, ◌≤◌, ◌⊎◌, ◌==◌, Bool, true, false, List, [], ◌∷◌, ◌++◌, length, map, find, filter, refl, sym, ap, ◌∙◌, subst, arith, inl, inr, Option, Some, None, true≢false, cond, length-append}
+use Rattle.std.specs.Prelude.{IsPermutation, flat_map, IfSome, IfNone, ◌||◌, if◌then◌else◌, option_map}
+use Rattle.std.specs.List.{AllByRecursion, Contains}
+use Rattle.std.proofs.lemmas.Bool.{eqb-true}
+use Rattle.std.proofs.lemmas.Cmp.{nat_eq_equiv}
+use Rattle.std.proofs.lemmas.List.Sorted.{IsPermutation-sym, Contains-permutation, length_permutation}
+use Rattle.cad_rows.specs.declared.names.Face.{Face}
+use Rattle.cad_rows.specs.declared.rows.StringRow.{StringRow}
+use Rattle.cad_rings.specs.Cycle.{Side, has_side}
+use Rattle.cad_map.specs.Map.{Map, is_end, degree, string_of, all_sides, side_of}
+use Rattle.cad_map.specs.Views.{HasSide, IsNoSide, ComesAfter, HasFaces, HasNoFaces}
+use Rattle.cad_map.proofs.CallerLemmas.{Contains-cases, Contains-first, Contains-later, Contains-flat_map, Contains-in_part, All-at_each, find-Contains, has_side-Contains}
+use Rattle.half_table.specs.declared.half.Half.{Half}
+use Rattle.half_table.specs.Half.{twin, forward_of, backward_of, half_of}
+use Rattle.half_table.specs.Rows.{HalfRows, has, next, origin_of, face}
+use Rattle.cad_surgery.specs.declared.stars.Spoke.{Spoke}
+use Rattle.key_lists.specs.Held.{items_at}
+use Rattle.cad_laws.specs.Local.{IsShown, side_by}
+use Rattle.cad_surgery.specs.Stars.{spoke, spokes_of, spokes_at}
+use Rattle.cad_surgery.specs.Parts.{Parts, FitTogether, HasHalves, rows_of, map_of}
+use Rattle.cad_surgery.specs.Stars.{half_along}
+use Rattle.cad_surgery.specs.Views.{view_half, view_face, view_next, view_faces}
+use Rattle.cad_surgery.specs.Labels.{IsAlong}
+use Rattle.cad_surgery.proofs.StarHalves.{along-some, half-told}
+use Rattle.cad_surgery.proofs.PartsRings.{ends-of, shown-string, half-side, half-corner, side-half}
+
+-- a star has one spoke for each string at its point
+pub length-star : (p : ℕ) (strings : List StringRow) → length (spokes_at p strings) ≡ length (filter (λ s. is_end s p) strings)
+length-star p [] = refl
+length-star p (s ∷ strings) = by (s.from == p) (s.to == p) refl refl (length-star p strings)
+  where
+    by : (t u : Bool) → (s.from == p) ≡ t → (s.to == p) ≡ u → length (spokes_at p strings) ≡ length (filter (λ s. is_end s p) strings) → length (spokes_at p (s ∷ strings)) ≡ length (filter (λ s. is_end s p) (s ∷ strings))
+    by true u is is_to rest = rw is (omega (arith, rest))
+    by false true is is_to rest = rw (is, is_to) (omega (arith, rest))
+    by false false is is_to rest = rw (is, is_to) rest
+
+module _ (d : Parts) (is : FitTogether d) where
+  abbrev rows : HalfRows
+  rows = d.table.rows
+
+  -- ---- What is told
+
+  pub star-degree : (p : ℕ) → length (items_at d.stars p) ≡ degree (map_of d) p
+  star-degree p = length_permutation (spokes_at p d.strings) (items_at d.stars p) (is.stars p) ∙ length-star p d.strings
+
+  pub half-some : (s : Side) (o : Option Half) → o ≡ view_half d s → IfSome o (IsAlong (rows_of d) d.table.rows s)
+  half-some s o told = along-some d is.ends is.two_ends is.stars s o told
+
+  pub half-none : (s : Side) (o : Option Half) → o ≡ view_half d s → IfNone o (IsNoSide (map_of d) s)
+  half-none s (Some h) told = tt
+  half-none s None told = by (has_side s (all_sides (map_of d))) refl
+    where
+      by : (b : Bool) → has_side s (all_sides (map_of d)) ≡ b → b ≡ false
+      by false has = refl
+      by true has = let it = side-half d is s (has_side-Contains s (all_sides (map_of d)) has) in absurd (half-told d is.ends is.two_ends is.stars s it.0 it.1 it.2 None told refl)
+
+  pub along-face : (s : Side) (h : Half) → IsAlong (rows_of d) d.table.rows s h → HasSide (map_of d) (face rows h) s
+  along-face s h along = subst (HasSide (map_of d) (face rows h)) along.side (half-side d is h along.shown)
+
+  pub along-after : (s : Side) (h : Half) → IsAlong (rows_of d) d.table.rows s h → ComesAfter (map_of d) s (origin_of rows (twin (next rows h)))
+  along-after s h along = subst (λ (t : Side). ComesAfter (map_of d) t (origin_of rows (twin (next rows h)))) along.side (half-corner d is h along.shown)
+
+  -- the faces of a string's halves
+  pub string-faces : (n : ℕ) (s : StringRow) → string_of (map_of d) n ≡ Some s → HasFaces (map_of d) n (face rows (forward_of s.number)) (face rows (backward_of s.number))
+  string-faces n s found =
+      let there = (find-Contains (λ r. r.number == n) d.strings s found).0 in
+      let e = ends-of d is s there in
+      record {
+        string = s;
+        there = found;
+        on_left = subst (HasSide (map_of d) (face rows (forward_of s.number))) (λ i. (e.from i, e.to i)) (half-side d is (forward_of s.number) (shown-string d is s there true));
+        on_right = subst (HasSide (map_of d) (face rows (backward_of s.number))) (λ i. (e.to i, e.from i)) (half-side d is (backward_of s.number) (shown-string d is s there false));
+      }
+
+  pub no_string-faces : (n : ℕ) → string_of (map_of d) n ≡ None → HasNoFaces (map_of d) n
+  no_string-faces n none left right has = let e : Some has.string ≡ None = sym has.there ∙ none in cc
+
+  -- the halves of a string that is found are in the table
+  pub found-there : (n : ℕ) (s : StringRow) → string_of (map_of d) n ≡ Some s → has rows (forward_of s.number) ≡ true
+  found-there n s found = (ends-of d is s (find-Contains (λ r. r.number == n) d.strings s found).0).there
+
+  pub found-back : (n : ℕ) (s : StringRow) → string_of (map_of d) n ≡ Some s → has rows (backward_of s.number) ≡ true
+  found-back n s found = (ends-of d is s (find-Contains (λ r. r.number == n) d.strings s found).0).back

@@ -1,0 +1,64 @@
+-- The strings of a point, by its star.
+use Rattle.std.proofs.Common.{◌≡◌, ℕ, ◌==◌, Bool, true, false, List, [], ◌∷◌, map, filter, refl, sym, ap, ◌∙◌, subst, Option, Some, None, true≢false, slice_get}
+use Rattle.std.specs.Prelude.{IsPermutation, is_some, unwrap_or, option_map}
+use Rattle.std.specs.List.{Contains}
+use Rattle.std.proofs.lemmas.List.Sorted.{IsPermutation-map, IsPermutation-sym, Contains-permutation}
+use Rattle.std.proofs.lemmas.Option.{slice_get-map}
+use Rattle.cad_rows.specs.declared.rows.StringRow.{StringRow}
+use Rattle.cad_map.specs.Map.{is_end, string_of, strings_at}
+use Rattle.cad_map.proofs.CallerLemmas.{Contains-first, Contains-later, Contains-at, row-found}
+use Rattle.half_table.specs.declared.half.Half.{Half}
+use Rattle.key_lists.specs.Held.{items_at}
+use Rattle.cad_surgery.specs.declared.stars.Spoke.{Spoke}
+use Rattle.cad_surgery.specs.Stars.{spokes_at}
+use Rattle.cad_surgery.specs.Parts.{Parts, FitTogether, rows_of, map_of}
+use Rattle.cad_surgery.specs.Views.{string_row, view_strings}
+use Rattle.cad_surgery.proofs.StarHalves.{spoke-is}
+
+module _ (d : Parts) (fit : FitTogether d) where
+  abbrev row_of : Spoke → StringRow
+  row_of x = string_row d x.half.string
+
+  row-is : (s : StringRow) → Contains d.strings s → string_row d s.number ≡ s
+  row-is s there = ap (λ (o : Option StringRow). unwrap_or o (record { number = s.number; from = 0; to = 0; sources = [] })) (row-found d.strings s fit.numbers there)
+
+  star-rows : (p : ℕ) (ss : List StringRow) → ((s : StringRow) → Contains ss s → Contains d.strings s) → map row_of (spokes_at p ss) ≡ filter (λ s. is_end s p) ss
+  star-rows p [] sub = refl
+  star-rows p (s ∷ ss) sub = by (s.from == p) (s.to == p) refl refl (star-rows p ss (λ t later. sub t (Contains-later s ss t later)))
+    where
+      by : (t u : Bool) → (s.from == p) ≡ t → (s.to == p) ≡ u → map row_of (spokes_at p ss) ≡ filter (λ s. is_end s p) ss → map row_of (spokes_at p (s ∷ ss)) ≡ filter (λ s. is_end s p) (s ∷ ss)
+      by true u is is_to rest = rw is (λ i. row-is s (sub s (Contains-first s ss)) i ∷ rest i)
+      by false true is is_to rest = rw (is, is_to) (λ i. row-is s (sub s (Contains-first s ss)) i ∷ rest i)
+      by false false is is_to rest = rw (is, is_to) rest
+
+  -- the strings that are told are those of the point, each once
+  pub strings-each : (p : ℕ) → IsPermutation (strings_at (map_of d) p) (view_strings d p)
+  strings-each p =
+      subst (λ (l : List StringRow). IsPermutation l (view_strings d p)) (star-rows p d.strings (λ s there. there))
+      (IsPermutation-map row_of (spokes_at p d.strings) (items_at d.stars p) (fit.stars p))
+
+  -- the half at a place of the star, and the row of its string
+  abbrev half_at : ℕ → ℕ → Option Half
+  half_at p place = option_map (λ (x : Spoke). x.half) (slice_get (items_at d.stars p) place)
+
+  pub string-told : (p place : ℕ) (h : Half) → half_at p place ≡ Some h → string_of (rows_of d) h.string ≡ slice_get (view_strings d p) place
+  string-told p place h at = by (slice_get (items_at d.stars p) place) refl at
+    where
+      row : (x : Spoke) → Contains (items_at d.stars p) x → (o : Option StringRow) → string_of (rows_of d) x.half.string ≡ o → string_of (rows_of d) x.half.string ≡ Some (row_of x)
+      row x among None none = absurd (true≢false (sym (spoke-is d fit.ends fit.two_ends fit.stars p x among).shown ∙ ap is_some none))
+      row x among (Some r) is = is ∙ ap (λ (o : Option StringRow). Some (unwrap_or o (record { number = x.half.string; from = 0; to = 0; sources = [] }))) (sym is)
+
+      by : (o : Option Spoke) → slice_get (items_at d.stars p) place ≡ o → option_map (λ (x : Spoke). x.half) o ≡ Some h → string_of (rows_of d) h.string ≡ slice_get (view_strings d p) place
+      by None is none = cc
+      by (Some x) is some =
+          let same : x.half ≡ h = cc in
+          ap (λ (k : Half). string_of (rows_of d) k.string) (sym same)
+          ∙ row x (Contains-at (items_at d.stars p) place x is) (string_of (rows_of d) x.half.string) refl
+          ∙ sym (slice_get-map row_of (items_at d.stars p) place ∙ ap (option_map row_of) is)
+
+  pub none-told : (p place : ℕ) → half_at p place ≡ None → slice_get (view_strings d p) place ≡ None
+  none-told p place none = slice_get-map row_of (items_at d.stars p) place ∙ ap (option_map row_of) (by (slice_get (items_at d.stars p) place) none)
+    where
+      by : (o : Option Spoke) → option_map (λ (x : Spoke). x.half) o ≡ None → o ≡ None
+      by None e = refl
+      by (Some x) e = cc

@@ -1,0 +1,12 @@
+use Rattle.std.proofs.Common.{sym, subst}
+use Rattle.cad_map.specs.Views.{ComesAfter}
+use Rattle.cad_surgery.specs.Parts.{Parts, rows_of, map_of}
+use Rattle.cad_surgery.specs.Labels.{IsAlong}
+use Rattle.cad_surgery.proofs.PartsStars.{along-after}
+use Rattle.cad_surgery.proofs.draft.DraftMapView.after.Goals as goal
+
+pub returns-clause-some : goal.returns-clause-some
+returns-clause-some g c =
+    subst (λ (d : Parts). ComesAfter (map_of d) (c.args.from, c.args.to) c.origin.result) c.self.view_is
+    (rw (c.origin.ensures, c.twin.ensures.is, c.next-after.ensures.is) (along-after _ c.self.invariant (c.args.from, c.args.to) c.in_ok-half.half
+    (subst (λ (d : Parts). IsAlong (rows_of d) d.table.rows (c.args.from, c.args.to) c.in_ok-half.half) (sym c.self.view_is) c.in_ok-half.ensures.some)))

@@ -1,0 +1,25 @@
+use Rattle.std.proofs.Common.{◌≡◌, ◌∙◌, subst, sym, ap}
+use Rattle.cad_map.specs.Map.{Map, has_string}
+use Rattle.cad_map.specs.Rings.{HasWholeRings}
+use Rattle.cad_map.proofs.CallerLemmas.{whole_valid}
+use Rattle.half_table.specs.declared.half.Half.{Half}
+use Rattle.half_table.specs.Rows.{has}
+use Rattle.cad_surgery.specs.Parts.{rows_of, map_of, kept_at}
+use Rattle.cad_surgery.specs.Proper.{IsProper}
+use Rattle.cad_surgery.proofs.ProperParts.{proper}
+use Rattle.cad_surgery.proofs.half_map.HalfMap.of.Goals as goal
+
+pub invariant_of-result : goal.invariant_of-result
+invariant_of-result g c =
+    let d = c.in_ok-draft.draft in
+    let is = c.in_ok-draft.ensures.is in
+    let whole = subst HasWholeRings (sym is) (whole_valid c.args.map.now c.requires) in
+    proper d c.in_ok-draft.ensures.fit whole (λ h. c.in_ok-draft.ensures.halves h ∙ ap (λ (m : Map). has_string m h.string) (sym is))
+
+pub returns-clause-proper : goal.returns-clause-proper
+returns-clause-proper g c =
+    let d = c.in_ok-draft.draft in
+    let is = c.in_ok-draft.ensures.is in
+    let whole = subst HasWholeRings (sym is) (whole_valid c.args.map.now c.requires) in
+    subst (λ (m : Map). IsProper m d.table.rows (kept_at d)) is
+    (proper d c.in_ok-draft.ensures.fit whole (λ h. c.in_ok-draft.ensures.halves h ∙ ap (λ (m : Map). has_string m h.string) (sym is)))

@@ -1,0 +1,9 @@
+pub mod Rows
+pub mod KeptRings
+pub mod Stars
+pub mod Parts
+pub mod Views
+pub mod Fits
+pub mod Building
+pub mod Labels
+pub mod Proper

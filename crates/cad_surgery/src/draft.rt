@@ -1,0 +1,202 @@
+//! A map on half-edges that is looked at, whether it keeps the rules or not.
+ghost use Rattle.std.specs.Prelude.{◌≡◌, true, IfSome, IfNone, IfOk};
+ghost use Rattle.cad_map.specs.Valid.{IsValid};
+ghost use Rattle.cad_map.specs.Views.{IsNoSide};
+ghost use Rattle.cad_map.specs.Map.{has_string};
+ghost use Rattle.half_table.specs.declared.half.Half.{Half as HalfOf};
+ghost use Rattle.half_table.specs.Rows.{has};
+ghost use Rattle.cad_laws.specs.Local.{side_by};
+ghost use Rattle.cad_surgery.specs.Labels.{IsAlong};
+ghost use Rattle.cad_surgery.specs.Parts.{rows_of, map_of, FitTogether};
+ghost use Rattle.cad_surgery.specs.Views.{view_half};
+
+use crate::building::{add_strings, keep_rings, label_rings, link_rings};
+use crate::kept::kept_half;
+use crate::map_rows::MapRows;
+use crate::stars::{Spoke, find_half, half_at, star_of};
+use cad_map::{Counts, MapView, PlainMap};
+use cad_rows::{
+    Face, Memory, ParcelNo, ParcelRow, PointNo, PointRow, SourceNo, SourceRow, StringNo, StringRow,
+};
+use half_table::{Half, HalfTable, Tally};
+use key_lists::KeyLists;
+use std::alloc::Global;
+use std::marker::Model;
+
+/// A map whose rings are the cycles of a table of half-edges.
+#[derive(Drop)]
+pub(crate) struct Draft<T: Tally> {
+    rows: MapRows,
+    table: HalfTable<T>,
+    kept: KeyLists<Half>,
+    stars: KeyLists<Spoke>,
+}
+
+impl<T: Tally> Model for Draft<T> {
+    ghost use Rattle.cad_surgery.specs.Parts.{Parts, FitTogether};
+    ghost use Rattle.cad_surgery.specs.Building.{parts_of};
+    ghost use Rattle.cad_surgery.specs.Rows.{map_in};
+
+    ghost Value = { Parts };
+
+    ghost view = { λ a. parts_of (map_in a.rows) a.table a.kept a.stars };
+
+    ghost invariant = { λ a. FitTogether (parts_of (map_in a.rows) a.table a.kept a.stars) };
+}
+
+// The side along a half.
+fn side<T: Tally>(table: &HalfTable<T>, half: &Half) -> (PointNo, PointNo)
+    requires { has table.now.rows half.now ≡ true }
+    ensures { result ≡ side_by table.now.rows half.now }
+{
+    let twin = table.twin(*half);
+    (table.origin(*half), table.origin(twin))
+}
+
+impl<T: Tally> Draft<T> {
+    /// The map on half-edges of a valid map. It takes time by the map's rows and sides, and by the
+    /// strings at a point for each side that begins there.
+    pub(crate) fn of(alloc: Global, map: &PlainMap, tally: T) -> Result<Draft<T>, Memory>
+        requires { IsValid map.now }
+        ensures is { IfOk result (λ made. map_of made ≡ map.now) }
+        ensures fit { IfOk result FitTogether }
+        ensures halves { IfOk result (λ made. (h : HalfOf) → has made.table.rows h ≡ has_string map.now h.string) }
+    {
+        let rows = MapRows::of(alloc, map)?;
+        let mut table = HalfTable::new(alloc, tally);
+        let mut stars = KeyLists::new(alloc);
+        add_strings(map, &mut table, &mut stars)?;
+        link_rings(map, &mut table, &stars);
+        label_rings(map, &mut table, &stars);
+        let kept = keep_rings(alloc, map, &stars)?;
+        Ok(Draft {
+            rows,
+            table,
+            kept,
+            stars,
+        })
+    }
+
+    /// The table of half-edges.
+    pub(crate) fn table(&self) -> &HalfTable<T>
+        ensures is { result.now ≡ self.now.table }
+        ensures fit { FitTogether self.now }
+    {
+        &self.table
+    }
+
+    /// The half along the side from one point to another.
+    pub(crate) fn half(&self, from: PointNo, to: PointNo) -> Option<Half>
+        ensures told { result ≡ view_half self.now (from, to) }
+        ensures some { IfSome result (IsAlong (rows_of self.now) self.now.table.rows (from, to)) }
+        ensures none { IfNone result (IsNoSide (map_of self.now) (from, to)) }
+    {
+        find_half(&self.stars, from, to)
+    }
+}
+
+impl<T: Tally> MapView for Draft<T> {
+    ghost use Rattle.cad_surgery.specs.Parts.{map_of, rings_kept};
+    ghost use Rattle.cad_surgery.specs.Views.{view_face, view_next, view_faces, view_strings};
+
+    ghost map = { λ d. map_of d };
+
+    ghost rings = { λ d. rings_kept d };
+
+    ghost view_face = { λ d s. view_face d s };
+
+    ghost view_next = { λ d s. view_next d s };
+
+    ghost view_faces = { λ d n. view_faces d n };
+
+    ghost view_strings = { λ d p. view_strings d p };
+
+    fn counts(&self) -> Counts {
+        Counts {
+            sources: self.rows.sources.len(),
+            points: self.rows.points.len(),
+            parcels: self.rows.parcels.len(),
+            strings: self.rows.strings.len(),
+            retired: self.rows.retired.len(),
+        }
+    }
+
+    fn source_at(&self, place: usize) -> Option<&SourceRow> {
+        self.rows.sources.at(place)
+    }
+
+    fn point_at(&self, place: usize) -> Option<&PointRow> {
+        self.rows.points.at(place)
+    }
+
+    fn parcel_at(&self, place: usize) -> Option<&ParcelRow> {
+        self.rows.parcels.at(place)
+    }
+
+    fn string_at(&self, place: usize) -> Option<&StringRow> {
+        self.rows.strings.at(place)
+    }
+
+    fn retired_at(&self, place: usize) -> Option<ParcelNo> {
+        let row = self.rows.retired.at(place)?;
+        Some(row.number)
+    }
+
+    fn source(&self, no: SourceNo) -> Option<&SourceRow> {
+        self.rows.sources.get(no.get())
+    }
+
+    fn point(&self, no: PointNo) -> Option<&PointRow> {
+        self.rows.points.get(no.get())
+    }
+
+    fn parcel(&self, no: ParcelNo) -> Option<&ParcelRow> {
+        self.rows.parcels.get(no.get())
+    }
+
+    fn string(&self, no: StringNo) -> Option<&StringRow> {
+        self.rows.strings.get(no.get())
+    }
+
+    fn is_retired(&self, no: ParcelNo) -> bool {
+        self.rows.retired.has(no.get())
+    }
+
+    fn string_with(&self, point: PointNo, place: usize) -> Option<&StringRow> {
+        let half = half_at(&self.stars, point, place)?;
+        self.rows.strings.get(half.string.get())
+    }
+
+    fn degree(&self, no: PointNo) -> usize {
+        star_of(&self.stars, no).len()
+    }
+
+    fn left_right(&self, no: StringNo) -> Option<(Face, Face)> {
+        let row = self.rows.strings.get(no.get())?;
+        let forward = Half {
+            string: row.number,
+            forward: true,
+        };
+        let backward = Half {
+            string: row.number,
+            forward: false,
+        };
+        Some((self.table.face(forward), self.table.face(backward)))
+    }
+
+    fn face_of(&self, from: PointNo, to: PointNo) -> Option<Face> {
+        let half = self.half(from, to)?;
+        Some(self.table.face(half))
+    }
+
+    fn after(&self, from: PointNo, to: PointNo) -> Option<PointNo> {
+        let half = self.half(from, to)?;
+        let after = self.table.next(half);
+        Some(self.table.origin(self.table.twin(after)))
+    }
+
+    fn ring_side(&self, face: Face, place: usize) -> Option<(PointNo, PointNo)> {
+        let half = kept_half(&self.kept, face, place)?;
+        Some(side(&self.table, &half))
+    }
+}

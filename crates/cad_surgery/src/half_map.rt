@@ -1,0 +1,139 @@
+//! A map on half-edges.
+ghost use Rattle.std.specs.Prelude.{◌≡◌, IfOk};
+ghost use Rattle.cad_map.specs.Valid.{IsValid};
+ghost use Rattle.cad_surgery.specs.Parts.{map_of, kept_at};
+ghost use Rattle.cad_surgery.specs.Proper.{IsProper};
+
+use crate::draft::Draft;
+use cad_map::{Counts, MapView, PlainMap};
+use cad_rows::{
+    Face, Memory, ParcelNo, ParcelRow, PointNo, PointRow, SourceNo, SourceRow, StringNo, StringRow,
+};
+use half_table::{HalfTable, Tally};
+use std::alloc::Global;
+use std::marker::Model;
+
+/// A map whose rings are the cycles of a table of half-edges: what follows a side, and the face that
+/// has it, are read off the table. Beside the table it keeps the rows, one half of each ring, and
+/// the halves that begin at each point.
+#[derive(Drop)]
+pub struct HalfMap<T: Tally> {
+    draft: Draft<T>,
+}
+
+impl<T: Tally> Model for HalfMap<T> {
+    ghost use Rattle.cad_surgery.specs.Parts.{Parts, map_of, kept_at};
+    ghost use Rattle.cad_surgery.specs.Proper.{IsProper};
+
+    ghost Value = { Parts };
+
+    ghost view = { λ a. a.draft };
+
+    ghost invariant = { λ a. IsProper (map_of a.draft) a.draft.table.rows (kept_at a.draft) };
+}
+
+impl<T: Tally> HalfMap<T> {
+    /// The map on half-edges of a valid map; the tally counts the work on its table. It takes time
+    /// by the map's rows and sides, and by the strings at a point for each side that begins there.
+    pub fn of(alloc: Global, map: &PlainMap, tally: T) -> Result<HalfMap<T>, Memory>
+        requires { IsValid map.now }
+        ensures is { IfOk result (λ made. map_of made ≡ map.now) }
+        ensures proper { IfOk result (λ made. IsProper map.now made.table.rows (kept_at made)) }
+    {
+        let draft = Draft::of(alloc, map, tally)?;
+        Ok(HalfMap { draft })
+    }
+
+    /// The doubly connected edge list of the map. It takes no memory.
+    pub fn table(&self) -> &HalfTable<T>
+        ensures is { result.now ≡ self.now.table }
+        ensures proper { IsProper (map_of self.now) result.now.rows (kept_at self.now) }
+    {
+        self.draft.table()
+    }
+}
+
+impl<T: Tally> MapView for HalfMap<T> {
+    ghost use Rattle.cad_surgery.specs.Parts.{map_of, rings_kept};
+    ghost use Rattle.cad_surgery.specs.Views.{view_face, view_next, view_faces, view_strings};
+
+    ghost map = { λ d. map_of d };
+
+    ghost rings = { λ d. rings_kept d };
+
+    ghost view_face = { λ d s. view_face d s };
+
+    ghost view_next = { λ d s. view_next d s };
+
+    ghost view_faces = { λ d n. view_faces d n };
+
+    ghost view_strings = { λ d p. view_strings d p };
+
+    fn counts(&self) -> Counts {
+        self.draft.counts()
+    }
+
+    fn source_at(&self, place: usize) -> Option<&SourceRow> {
+        self.draft.source_at(place)
+    }
+
+    fn point_at(&self, place: usize) -> Option<&PointRow> {
+        self.draft.point_at(place)
+    }
+
+    fn parcel_at(&self, place: usize) -> Option<&ParcelRow> {
+        self.draft.parcel_at(place)
+    }
+
+    fn string_at(&self, place: usize) -> Option<&StringRow> {
+        self.draft.string_at(place)
+    }
+
+    fn retired_at(&self, place: usize) -> Option<ParcelNo> {
+        self.draft.retired_at(place)
+    }
+
+    fn source(&self, no: SourceNo) -> Option<&SourceRow> {
+        self.draft.source(no)
+    }
+
+    fn point(&self, no: PointNo) -> Option<&PointRow> {
+        self.draft.point(no)
+    }
+
+    fn parcel(&self, no: ParcelNo) -> Option<&ParcelRow> {
+        self.draft.parcel(no)
+    }
+
+    fn string(&self, no: StringNo) -> Option<&StringRow> {
+        self.draft.string(no)
+    }
+
+    fn is_retired(&self, no: ParcelNo) -> bool {
+        self.draft.is_retired(no)
+    }
+
+    fn string_with(&self, point: PointNo, place: usize) -> Option<&StringRow> {
+        self.draft.string_with(point, place)
+    }
+
+    fn degree(&self, no: PointNo) -> usize {
+        self.draft.degree(no)
+    }
+
+    fn left_right(&self, no: StringNo) -> Option<(Face, Face)> {
+        self.draft.left_right(no)
+    }
+
+    fn face_of(&self, from: PointNo, to: PointNo) -> Option<Face> {
+        self.draft.face_of(from, to)
+    }
+
+    fn after(&self, from: PointNo, to: PointNo) -> Option<PointNo> {
+        self.draft.after(from, to)
+    }
+
+    fn ring_side(&self, face: Face, place: usize) -> Option<(PointNo, PointNo)> {
+        self.draft.ring_side(face, place)
+    }
+}
