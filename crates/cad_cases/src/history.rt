@@ -24,7 +24,7 @@ struct List {
 }
 
 /// The map of a plan.
-fn map_of(alloc: Global, plan: &[u8]) -> Result<PlainMap, Fail>
+pub(crate) fn map_of(alloc: Global, plan: &[u8]) -> Result<PlainMap, Fail>
     ensures { IfOk result IsValid }
 {
     let mut reader = ReaderBuilder::new()
