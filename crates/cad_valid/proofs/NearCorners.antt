@@ -1,5 +1,5 @@
 -- Where the corners at touched points and at the ends of touched strings are empty, all are.
-use Rattle.std.proofs.Common.{◌≡◌, ◌≢◌, ℕ, refl, sym, ap, subst, ◌∙◌, List, [], ◌∷◌, map, filter, Option, Some, None, Bool, true, false, true≢false, not, ◌⊎◌, inl, inr, eqb-true, eq-eqb, arith}
+use Rattle.std.proofs.Common.{◌≡◌, ◌≢◌, ℕ, refl, sym, ap, subst, ◌∙◌, List, filter, Option, Some, None, Bool, true, false, true≢false, not, ◌⊎◌, inl, inr, eqb-true, eq-eqb, arith}
 use Rattle.std.proofs.lemmas.Bool.{and_parts, eqb-false}
 use Rattle.std.proofs.lemmas.List.Sorted.{Contains-permutation, IsPermutation-sym}
 use Rattle.std.specs.Prelude.{IsTrue, ◌↔◌, is_some, ◌==◌, ◌||◌, if◌then◌else◌, flat_map}
@@ -8,12 +8,12 @@ use Rattle.geo_exact.specs.Position.{Position}
 use Rattle.geo_exact.specs.Sector.{in_sector}
 use Rattle.cad_rows.specs.declared.rows.PointRow.{PointRow}
 use Rattle.cad_rows.specs.declared.rows.StringRow.{StringRow}
-use Rattle.cad_rings.specs.Cycle.{Corner, Side, is_side, opposite}
-use Rattle.cad_map.specs.Map.{Map, has_point, point_of, position_of, all_corners, all_sides, string_sides, strings_at, is_end, far_end, side_of}
+use Rattle.cad_rings.specs.Cycle.{Corner, is_side}
+use Rattle.cad_map.specs.Map.{Map, has_point, point_of, position_of, all_corners, all_sides, string_sides, strings_at, is_end, far_end}
 use Rattle.cad_map.specs.Rings.{HasWholeRings}
 use Rattle.cad_map.specs.Valid.{IsValid, is_empty_corner, has_empty_corners}
 use Rattle.cad_map.specs.Touched.{Touched, IsTouched, PointStands, StringStands, corners_at}
-use Rattle.cad_map.proofs.CallerLemmas.{All-at_each, All-from_each, Contains-cases, Contains-in_part, find-Contains, list_all-at, list_all-from, filter-Contains, Contains-filter, corner-points, corner-all_sides, ends as ends_with, is_end-of}
+use Rattle.cad_map.proofs.CallerLemmas.{All-at_each, All-from_each, find-Contains, list_all-at, list_all-from, filter-Contains, Contains-filter, corner-points, corner-all_sides, ends as ends_with, is_end-of, Joins, side-joins, string_side}
 use Rattle.geo_exact.specs.Segment.{HaveCommonLocation, IsOnSegment}
 use Rattle.geo_exact.proofs.CallerLemmas.{HaveCommonLocation-exchanged, IsOnSegment-first, IsOnSegment-last}
 use Rattle.cad_valid.specs.Corners.{corner_after, is_clear_of, is_empty_after}
@@ -25,22 +25,12 @@ use Rattle.cad_valid.specs.Near.{OfString, HasEmptyCornersAt, HasEmptyEnds, IsEm
 pub record IsBetween (m : Map) (a b : ℕ) : Type 0 where
   pub string : StringRow
   pub there : Contains m.strings string
-  pub ends : ((string.from ≡ a) × (string.to ≡ b)) ⊎ ((string.from ≡ b) × (string.to ≡ a))
+  pub joins : Joins string a b
 
 pub string-of_side : (m : Map) → HasWholeRings m → (a b : ℕ) → Contains (all_sides m) (a, b) → IsBetween m a b
 string-of_side m whole a b h =
-    let s = Contains-permutation (all_sides m) (string_sides m) (a, b) (IsPermutation-sym (string_sides m) (all_sides m) whole.v5.once) h in
-    let f = Contains-in_part (λ s. side_of s ∷ opposite (side_of s) ∷ []) m.strings (a, b) s in
-    record { string = f.0; there = f.1; ends = of f.0 f.2 }
-  where
-    of : (s : StringRow) → Contains (side_of s ∷ opposite (side_of s) ∷ []) (a, b) → ((s.from ≡ a) × (s.to ≡ b)) ⊎ ((s.from ≡ b) × (s.to ≡ a))
-    of s h = elim (Contains-cases (side_of s) (opposite (side_of s) ∷ []) (a, b) h) [
-      | inl e ↦ inl (ap (λ (x : Side). x.0) e, ap (λ (x : Side). x.1) e)
-      | inr k ↦ elim (Contains-cases (opposite (side_of s)) [] (a, b) k) [
-        | inl e ↦ inr (ap (λ (x : Side). x.1) e, ap (λ (x : Side). x.0) e)
-        | inr n ↦ let low = n.1 in absurd (omega arith)
-      ]
-    ]
+    let k = string_side m (a, b) (Contains-permutation (all_sides m) (string_sides m) (a, b) (IsPermutation-sym (string_sides m) (all_sides m) whole.v5.once) h) in
+    record { string = k.string; there = k.there; joins = side-joins (a, b) m.strings k }
 
 either : {A B C D : Type 0} → (A × B) ⊎ (C × D) → A ⊎ C
 either (inl h) = inl h.0
@@ -51,7 +41,7 @@ either (inr h) = inr h.0
 module _ (m : Map) (whole : HasWholeRings m) where
   -- the other end of a string between two points
   far-between : (a b : ℕ) → (between : IsBetween m a b) → (is_end between.string b ≡ true) × (far_end between.string b ≡ a)
-  far-between a b between = elim between.ends [
+  far-between a b between = elim between.joins.ends [
     | inl e ↦ (is_end-of between.string b (inr e.1), by (between.string.from == b) refl (λ is. e.1 ∙ sym is ∙ e.0) (λ _. e.0))
     | inr e ↦ (is_end-of between.string b (inl e.0), by (between.string.from == b) refl (λ _. e.1) (λ no_end. absurd (no_end e.0)))
   ]
@@ -142,8 +132,8 @@ module _ (old new : Map) (t : Touched) (valid : IsValid old) (whole : HasWholeRi
     -- the corner is empty, or the far point of this string stands
     beside : (a : ℕ) → IsBetween new a c.at → IsTrue (is_empty_corner new c) ⊎ (position_of new a ≡ position_of old a)
     beside a b = elim (named_or b.string b.there) [
-      | inl named ↦ elim b.ends [ inl e ↦ inl (by_string b.string b.there (inr e.1) named) | inr e ↦ inl (by_string b.string b.there (inl e.0) named) ]
-      | inr s ↦ elim b.ends [
+      | inl named ↦ elim b.joins.ends [ inl e ↦ inl (by_string b.string b.there (inr e.1) named) | inr e ↦ inl (by_string b.string b.there (inl e.0) named) ]
+      | inr s ↦ elim b.joins.ends [
         | inl e ↦ inr (subst (λ (q : ℕ). position_of new q ≡ position_of old q) e.0 s.from_position)
         | inr e ↦ inr (subst (λ (q : ℕ). position_of new q ≡ position_of old q) e.1 s.to_position)
       ]
@@ -186,7 +176,7 @@ module _ (old new : Map) (t : Touched) (valid : IsValid old) (whole : HasWholeRi
     ]
       where
         turned : IsBetween new c.at c.after → IsBetween new c.after c.at
-        turned b = record { string = b.string; there = b.there; ends = elim b.ends [ inl e ↦ inr e | inr e ↦ inl e ] }
+        turned b = record { string = b.string; there = b.there; joins = record { ends = elim b.joins.ends [ inl e ↦ inr e | inr e ↦ inl e ] } }
 
 pub near-corners : (old new : Map) (t : Touched) → IsValid old → HasWholeRings new → IsTouched old new t → AllByRecursion (HasEmptyCornersAt new) t.points × AllByRecursion (OfString new (HasEmptyEnds new)) t.strings ↔ IsTrue (has_empty_corners new)
 unfolding OfString

@@ -9,7 +9,8 @@ use Rattle.cad_map.specs.Crossings.{HasPlacedRows}
 use Rattle.cad_map.specs.Touched.{Touched, IsTouched, PointStands}
 use Rattle.cad_map.proofs.CallerLemmas.{All-at_each, All-from_each, positions-differ}
 use Rattle.cad_valid.specs.Near.{OfPoint, IsAlone}
-use Rattle.cad_valid.proofs.RowsByNumber.{pairs-from, test-from, point-position, point-there, other-position}
+use Rattle.cad_valid.proofs.SweptPairs.{each_pair-true}
+use Rattle.cad_valid.proofs.RowsByNumber.{pairs-from, point-position, point-there, other-position}
 
 placed-rows : (m : Map) → IsValid m → HasPlacedRows m
 placed-rows m valid = record { v1 = valid.sound.v1; v2 = valid.sound.v2; v3 = valid.keeps.v3 }
@@ -32,7 +33,7 @@ module _ (old new : Map) (t : Touched) (valid : IsValid old) (sound : HasSoundRo
   pub near-points : AllByRecursion (OfPoint new (IsAlone new)) t.points ↔ IsTrue (has_distinct_positions new)
   unfolding OfPoint
   near-points = (
-    (λ alone. test-from (λ (q : PointRow). q.number) (λ (a b : PointRow). not (is_same_position a.position b.position)) new.points
+    (λ alone. each_pair-true (λ (a b : PointRow). not (is_same_position a.position b.position)) new.points
         (pairs-from (λ (q : PointRow). q.number) (λ (a b : PointRow). not (is_same_position a.position b.position) ≡ true) new.points sound.points.distinct
         (λ p q hp hq ne. other-position p.position q.position (apart alone p q hp hq ne)))),
     (λ v3. All-from_each (OfPoint new (IsAlone new)) t.points (λ n _ p hp is q hq other. λ e.

@@ -1,9 +1,7 @@
 -- Rows by their numbers.
 use Rattle.std.proofs.Common.{◌≡◌, ◌≢◌, ℕ, refl, sym, ap, subst, ◌∙◌, List, [], ◌∷◌, map, Option, Some, None, Bool, true, false, not, true≢false, eqb-true, eq-eqb, arith, ◌⊎◌, inl, inr}
 use Rattle.std.proofs.lemmas.Bool.{false_from_ne_true}
-use Rattle.std.proofs.lemmas.Bool.Decides.{Decides-int_eq}
 use Rattle.std.specs.Prelude.{IsTrue, ◌↔◌, is_some, ◌&&◌, ◌==◌}
-use Rattle.std.specs.Ordering.{int_eq}
 use Rattle.std.specs.List.{AllByRecursion, Contains}
 use Rattle.geo_exact.specs.Position.{Position}
 use Rattle.cad_rows.specs.declared.rows.PointRow.{PointRow}
@@ -11,9 +9,10 @@ use Rattle.cad_rows.specs.declared.rows.StringRow.{StringRow}
 use Rattle.cad_map.specs.Crossings.{HasPlacedRows, HasTwoPoints}
 use Rattle.cad_map.specs.Map.{Map, has_point, position_of, point_of, string_of}
 use Rattle.cad_map.specs.Table.{row_with}
-use Rattle.cad_map.specs.Valid.{EachPair, each_pair, HasSoundRows, is_same_position}
-use Rattle.cad_map.proofs.CallerLemmas.{Contains-cases, Contains-first, Contains-later, All-at_each, All-from_each, Contains-map, find-Contains, list_all-from, all-placed}
+use Rattle.cad_map.specs.Valid.{EachPair, HasSoundRows, is_same_position}
+use Rattle.cad_map.proofs.CallerLemmas.{Contains-cases, Contains-first, Contains-later, All-at_each, All-from_each, Contains-map, find-Contains, all-placed}
 use Rattle.cad_valid.specs.Near.{OfPoint, OfString}
+use Rattle.cad_valid.proofs.SweptRules.{same_position}
 
 module _ {R : Type 0} (number : R → ℕ) where
   -- a row of a table without repeated numbers is the one that its number finds
@@ -58,10 +57,6 @@ module _ {R : Type 0} (number : R → ℕ) where
     All-from_each (P r) rows (λ s h. each r s (Contains-first r rows) (Contains-later r rows s h) (All-at_each (λ b. number r ≢ b) (map number rows) (number s) apart.0 (Contains-map number rows s h))),
     pairs-from P rows apart.1 (λ s t h k. each s t (Contains-later r rows s h) (Contains-later r rows t k)),
   )
-
-  pub test-from : (test : R → R → Bool) (rows : List R) → EachPair (λ a b. test a b ≡ true) rows → each_pair test rows ≡ true
-  test-from test [] all = refl
-  test-from test (r ∷ rows) all = rw (list_all-from (test r) rows (λ s h. All-at_each (λ b. test r b ≡ true) rows s all.0 h)) (test-from test rows all.1)
 
 -- ---- Points and strings of a map
 
@@ -114,19 +109,5 @@ row-of m p some = by (point_of m p) refl
 
 -- ---- Positions
 
-pub same-position : (a b : Position) → is_same_position a b ≡ true → a ≡ b
-same-position a b is =
-    let x = (Decides-int_eq a.x b.x).0 (first (int_eq a.x b.x) (int_eq a.y b.y) is) in
-    let y = (Decides-int_eq a.y b.y).0 (second (int_eq a.x b.x) (int_eq a.y b.y) is) in
-    λ i. record { x = x i; y = y i }
-  where
-    first : (s t : Bool) → (s && t) ≡ true → s ≡ true
-    first true t h = refl
-    first false t h = h
-
-    second : (s t : Bool) → (s && t) ≡ true → t ≡ true
-    second true t h = h
-    second false t h = absurd (true≢false (sym h))
-
 pub other-position : (a b : Position) → ¬ (a ≡ b) → not (is_same_position a b) ≡ true
-other-position a b ne = ap not (false_from_ne_true (is_same_position a b) (λ t. ne (same-position a b t)))
+other-position a b ne = ap not (false_from_ne_true (is_same_position a b) (λ t. ne (same_position a b t)))

@@ -33,7 +33,7 @@ either_order i j apart = elim (cases_lt i j) [
 
 -- ---- V3
 
-same_position : (p q : Position) → is_same_position p q ≡ true → p ≡ q
+pub same_position : (p q : Position) → is_same_position p q ≡ true → p ≡ q
 same_position p q same =
     let both = and_parts (int_eq p.x q.x) (int_eq p.y q.y) same in
     let x = (Decides-int_eq p.x q.x).0 both.0 in
