@@ -44,9 +44,9 @@ pub(crate) fn anchor_of<M: MapView>(map: &M, face: &Face, place: usize) -> Point
     ensures value { result ≡ anchor_of_ring (ring_at (M.rings map.now) face.now place) }
     ensures point { IsTrue (has_point (M.map map.now) result) }
 {
-    let (from, to) = map.ring_side(*face, place).unwrap();
-    let mut least = from;
-    for (point, _) in Walk::from(map, from, to) {
+    let walk = Walk::of_ring(map, face, place);
+    let (mut least, _) = walk.first_side();
+    for (point, _) in walk {
         if point.get() < least.get() {
             least = point;
         }
@@ -60,9 +60,8 @@ pub(crate) fn is_in_ring<M: MapView>(map: &M, face: &Face, place: usize, at: Pt)
     requires there { place < length (rings_at face.now (M.rings map.now)) }
     ensures { result ≡ is_inside (placed (position_of (M.map map.now)) (sides_of (ring_at (M.rings map.now) face.now place))) at }
 {
-    let (from, to) = map.ring_side(*face, place).unwrap();
     let mut inside = false;
-    for (a, b) in Walk::from(map, from, to) {
+    for (a, b) in Walk::of_ring(map, face, place) {
         if crosses(position(map, a), position(map, b), at) {
             inside = !inside;
         }

@@ -15,20 +15,6 @@ use Rattle.cad_edit.proofs.placing.doubled_area.Goals as goal
 pub loop-from-init : goal.loop-from-init
 loop-from-init c = record { whole = ap sides_left c.into_iter-from-iterator.ensures.into_iter_gives ∙ c.sides-from-items.ensures; value = refl }
 
-pub position-requires : goal.position-requires
-position-requires c =
-    let m = c.args.map.now in
-    let b = c.args.boundary.now in
-    let there = given-there b.ring c.loop-from.yielded _ _ (c.in-Some.from, c.in-Some.to) c.loop-from.invariant.whole c.in-Some.ensures.steps in
-    (ends-of_ring (λ p. IsTrue (has_point m p)) b.ring (points-there m c.requires.whole b c.requires.there) (c.in-Some.from, c.in-Some.to) there).0
-
-pub position-requires-in-loop-from : goal.position-requires-in-loop-from
-position-requires-in-loop-from c =
-    let m = c.args.map.now in
-    let b = c.args.boundary.now in
-    let there = given-there b.ring c.loop-from.yielded _ _ (c.in-Some.from, c.in-Some.to) c.loop-from.invariant.whole c.in-Some.ensures.steps in
-    (ends-of_ring (λ p. IsTrue (has_point m p)) b.ring (points-there m c.requires.whole b c.requires.there) (c.in-Some.from, c.in-Some.to) there).1
-
 pub overflow_add-sum : goal.overflow_add-sum
 overflow_add-sum c =
     let m = c.args.map.now in

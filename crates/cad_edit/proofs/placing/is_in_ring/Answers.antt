@@ -12,16 +12,6 @@ use Rattle.cad_edit.proofs.placing.is_in_ring.Goals as goal
 pub loop-from-init : goal.loop-from-init
 loop-from-init c = record { whole = ap sides_left c.into_iter-from-iterator.ensures.into_iter_gives ∙ c.sides-from-items.ensures; value = refl }
 
-pub position-requires : goal.position-requires
-position-requires c =
-    let there = given-there c.args.ring.now c.loop-from.yielded _ _ (c.in-Some.from, c.in-Some.to) c.loop-from.invariant.whole c.in-Some.ensures.steps in
-    (ends-of_ring (λ p. IsTrue (has_point c.args.map.now p)) c.args.ring.now c.requires.points (c.in-Some.from, c.in-Some.to) there).0
-
-pub position-requires-in-loop-from : goal.position-requires-in-loop-from
-position-requires-in-loop-from c =
-    let there = given-there c.args.ring.now c.loop-from.yielded _ _ (c.in-Some.from, c.in-Some.to) c.loop-from.invariant.whole c.in-Some.ensures.steps in
-    (ends-of_ring (λ p. IsTrue (has_point c.args.map.now p)) c.args.ring.now c.requires.points (c.in-Some.from, c.in-Some.to) there).1
-
 pub loop-from-preserved-then-crosses : goal.loop-from-preserved-then-crosses
 loop-from-preserved-then-crosses c =
     let side : Side = (c.in-Some.from, c.in-Some.to) in

@@ -1,18 +1,15 @@
 use Rattle.std.proofs.Common.{◌≡◌, sym, subst, ap, ◌∙◌, ℕ, List, min, fold, map, Some, arith}
-use Rattle.std.specs.Prelude.{IsSome, IsTrue}
+use Rattle.std.specs.Prelude.{IsTrue}
 use Rattle.cad_map.specs.Map.{has_point}
 use Rattle.cad_rings.specs.Cycle.{Side}
 use Rattle.cad_map.specs.Walk.{walking, first_side}
 use Rattle.cad_map.specs.Rings.{ring_at}
-use Rattle.cad_map.proofs.CallerLemmas.{walked, walked-all, least-more, least-all, anchor-there, side_is_told, side_told}
+use Rattle.cad_map.proofs.CallerLemmas.{walked, walked-all, least-more, least-all, anchor-there}
 use Rattle.cad_valid.proofs.rings.anchor_of.Goals as goal
-
-pub unwrap-from-requires : goal.unwrap-from-requires
-unwrap-from-requires g c = subst IsSome (sym c.ring_side.ensures.side) (side_is_told (g.M.MapView.map c.args.map.now) (g.M.MapView.rings c.args.map.now) c.requires.whole c.ring_side.ensures.canonical_order c.ring_side.ensures.two c.args.face.now c.args.place c.requires.there)
 
 pub loop-point-preserved : goal.loop-point-preserved
 loop-point-preserved g c =
-    let more = least-more c.unwrap-from.result.0 c.loop-point.yielded (c.in-Some.point, c.in-Some.field-0-1) in
+    let more = least-more c.first_side-least.result.0 c.loop-point.yielded (c.in-Some.point, c.in-Some.field-0-1) in
     let so_far = c.loop-point.invariant in
     omega arith
 
@@ -21,19 +18,18 @@ returns-clause-value g c =
     let m = g.M.MapView.map c.args.map.now in
     let bs = g.M.MapView.rings c.args.map.now in
     let at = walking g.M.MapView.map g.M.MapView.view_next in
-    let told = c.ring_side.ensures in
-    let on = walked m bs c.requires.whole told.canonical_order told.two c.args.face.now c.args.place c.requires.there at c.unwrap-from.result c.ring_side.result told.side c.unwrap-from.ensures (g.M.MapView.view_next c.args.map.now)
-    c.from-point-items.result c.into_iter-point-iterator.result c.into_iter-point-iterator.ensures.into_iter_gives c.from-point-items.ensures c.loop-point.yielded c.loop-point.point-iterator c.loop-point.yielded_by in
+    let told = c.of_ring-walk.ensures in
+    let on = walked m bs c.requires.whole told.canonical_order told.two c.args.face.now c.args.place c.requires.there at c.of_ring-walk.result c.into_iter-point-iterator.result c.into_iter-point-iterator.ensures.into_iter_gives told.along c.loop-point.yielded c.loop-point.point-iterator c.loop-point.yielded_by in
     let none = rw c.in-None.is at c.next.ensures.steps in
     let all = walked-all m bs c.requires.whole told.canonical_order told.two c.args.face.now c.args.place c.requires.there c.loop-point.yielded (at c.loop-point.point-iterator) on none.first.0 in
-    let begins : first_side (ring_at bs c.args.face.now c.args.place) ≡ Some c.unwrap-from.result = sym (side_told m bs c.requires.whole told.canonical_order told.two c.args.face.now c.args.place c.requires.there) ∙ sym told.side ∙ c.unwrap-from.ensures in
+    let begins : first_side (ring_at bs c.args.face.now c.args.place) ≡ Some c.first_side-least.result = told.along.first ∙ ap Some (sym c.first_side-least.ensures) in
     c.loop-point.invariant
-    ∙ ap (λ (sides : List Side). fold min c.unwrap-from.result.0 (map (λ (s : Side). s.0) sides)) all
-    ∙ least-all c.unwrap-from.result (ring_at bs c.args.face.now c.args.place) begins
+    ∙ ap (λ (sides : List Side). fold min c.first_side-least.result.0 (map (λ (s : Side). s.0) sides)) all
+    ∙ least-all c.first_side-least.result (ring_at bs c.args.face.now c.args.place) begins
 
 pub returns-clause-point : goal.returns-clause-point
 returns-clause-point g c =
     let m = g.M.MapView.map c.args.map.now in
-    let told = c.ring_side.ensures in
+    let told = c.of_ring-walk.ensures in
     subst (λ (p : ℕ). IsTrue (has_point m p)) (sym (returns-clause-value g c))
     (anchor-there m (g.M.MapView.rings c.args.map.now) c.requires.whole told.canonical_order told.two c.args.face.now c.args.place c.requires.there)

@@ -1,37 +1,11 @@
 use Rattle.std.proofs.Common.{sym, subst, ap, ◌∙◌, List, false}
-use Rattle.std.specs.Prelude.{IsSome}
 use Rattle.cad_rings.specs.Cycle.{Side}
 use Rattle.cad_map.specs.Walk.{walking}
 use Rattle.cad_rings.specs.Cycle.{placed}
 use Rattle.geo_exact.specs.Inside.{is_inside, is_counted}
 use Rattle.cad_map.specs.Map.{position_of}
-use Rattle.cad_map.proofs.CallerLemmas.{walked, walked-points, walked-all, inside-more, side_is_told}
+use Rattle.cad_map.proofs.CallerLemmas.{walked, walked-all, inside-more}
 use Rattle.cad_valid.proofs.rings.is_in_ring.Goals as goal
-
-pub unwrap-from-requires : goal.unwrap-from-requires
-unwrap-from-requires g c = subst IsSome (sym c.ring_side.ensures.side) (side_is_told (g.M.MapView.map c.args.map.now) (g.M.MapView.rings c.args.map.now) c.requires.whole c.ring_side.ensures.canonical_order c.ring_side.ensures.two c.args.face.now c.args.place c.requires.there)
-
-pub position-requires : goal.position-requires
-position-requires g c =
-    let m = g.M.MapView.map c.args.map.now in
-    let bs = g.M.MapView.rings c.args.map.now in
-    let at = walking g.M.MapView.map g.M.MapView.view_next in
-    let told = c.ring_side.ensures in
-    let on = walked m bs c.requires.whole told.canonical_order told.two c.args.face.now c.args.place c.requires.there at c.unwrap-from.result c.ring_side.result told.side c.unwrap-from.ensures (g.M.MapView.view_next c.args.map.now)
-    c.from-a-items.result c.into_iter-a-iterator.result c.into_iter-a-iterator.ensures.into_iter_gives c.from-a-items.ensures c.loop-a.yielded c.loop-a.a-iterator c.loop-a.yielded_by in
-    let goes = (rw c.in-Some.is at c.next.ensures.steps).goes_on in
-    (walked-points m bs c.requires.whole told.canonical_order told.two c.args.face.now c.args.place c.requires.there c.loop-a.yielded (at c.loop-a.a-iterator) (c.in-Some.a, c.in-Some.b) _ on goes).0
-
-pub position-requires-in-loop-a : goal.position-requires-in-loop-a
-position-requires-in-loop-a g c =
-    let m = g.M.MapView.map c.args.map.now in
-    let bs = g.M.MapView.rings c.args.map.now in
-    let at = walking g.M.MapView.map g.M.MapView.view_next in
-    let told = c.ring_side.ensures in
-    let on = walked m bs c.requires.whole told.canonical_order told.two c.args.face.now c.args.place c.requires.there at c.unwrap-from.result c.ring_side.result told.side c.unwrap-from.ensures (g.M.MapView.view_next c.args.map.now)
-    c.from-a-items.result c.into_iter-a-iterator.result c.into_iter-a-iterator.ensures.into_iter_gives c.from-a-items.ensures c.loop-a.yielded c.loop-a.a-iterator c.loop-a.yielded_by in
-    let goes = (rw c.in-Some.is at c.next.ensures.steps).goes_on in
-    (walked-points m bs c.requires.whole told.canonical_order told.two c.args.face.now c.args.place c.requires.there c.loop-a.yielded (at c.loop-a.a-iterator) (c.in-Some.a, c.in-Some.b) _ on goes).1
 
 pub loop-a-preserved : goal.loop-a-preserved
 loop-a-preserved g c =
@@ -44,9 +18,8 @@ returns g c =
     let m = g.M.MapView.map c.args.map.now in
     let bs = g.M.MapView.rings c.args.map.now in
     let at = walking g.M.MapView.map g.M.MapView.view_next in
-    let told = c.ring_side.ensures in
-    let on = walked m bs c.requires.whole told.canonical_order told.two c.args.face.now c.args.place c.requires.there at c.unwrap-from.result c.ring_side.result told.side c.unwrap-from.ensures (g.M.MapView.view_next c.args.map.now)
-    c.from-a-items.result c.into_iter-a-iterator.result c.into_iter-a-iterator.ensures.into_iter_gives c.from-a-items.ensures c.loop-a.yielded c.loop-a.a-iterator c.loop-a.yielded_by in
+    let told = c.of_ring-a-items.ensures in
+    let on = walked m bs c.requires.whole told.canonical_order told.two c.args.face.now c.args.place c.requires.there at c.of_ring-a-items.result c.into_iter-a-iterator.result c.into_iter-a-iterator.ensures.into_iter_gives told.along c.loop-a.yielded c.loop-a.a-iterator c.loop-a.yielded_by in
     let none = rw c.in-None.is at c.next.ensures.steps in
     let all = walked-all m bs c.requires.whole told.canonical_order told.two c.args.face.now c.args.place c.requires.there c.loop-a.yielded (at c.loop-a.a-iterator) on none.first.0 in
     c.loop-a.invariant ∙ ap (λ (sides : List Side). is_inside (placed (position_of m) sides) c.args.at) all

@@ -20,9 +20,3 @@ loop-from-init c =
       ends = subst (λ (sides : List Side). AllByRecursion (λ s. IsTrue (has_point m s.0) × IsTrue (has_point m s.1)) sides) (sym all)
           (ends_of (λ p. IsTrue (has_point m p)) ring (All-from_recursion (λ p. IsTrue (has_point m p)) ring c.requires.points));
     }
-
-pub position-anchor-requires : goal.position-anchor-requires
-position-anchor-requires c =
-    let three = c.requires.three in
-    let there = All-Contains (λ p. IsTrue (has_point c.args.map.now p)) c.args.ring.now (anchor_of c.args.ring.now) c.requires.points (anchor_of-Contains c.args.ring.now (omega arith)) in
-    subst (λ (p : _). IsTrue (has_point c.args.map.now p)) (sym c.anchor.ensures) there
