@@ -21,7 +21,8 @@ fn half_map_of(alloc: Global, map: &PlainMap) -> Result<HalfMap<Ticks>, Fail>
     requires { IsValid map.now }
     ensures { IfOk result (λ made. IsValid (map_that_stands made)) }
 {
-    Ok(HalfMap::of(alloc, map, Ticks::new())?)
+    let made = HalfMap::of(alloc, map, Ticks::new())?;
+    Ok(made)
 }
 
 // Whether the outlines of a face are the same.
@@ -42,14 +43,21 @@ fn are_outlines_same(
 // Compares all that a plan's map shows with what it shows on half-edges.
 fn compare<R: Abort + AllocGlobal>(rt: &R, plan: &[&str]) -> Result<(), Fail> {
     let alloc = rt.alloc();
-    let map = map_of(alloc, lines(alloc, plan)?.as_slice())?;
+    let plan = lines(alloc, plan)?;
+    let map = map_of(alloc, plan.as_slice())?;
     let halves = half_map_of(alloc, &map)?;
-    assert!(rt; plan_text(alloc, &map)?.as_slice() == plan_text(alloc, &halves)?.as_slice());
-    assert!(rt; area_text(alloc, &map)?.as_slice() == area_text(alloc, &halves)?.as_slice());
-    assert!(rt; are_outlines_same(alloc, &map, &halves, Face::Outside)?);
+    let text = plan_text(alloc, &map)?;
+    let again = plan_text(alloc, &halves)?;
+    assert!(rt; text.as_slice() == again.as_slice());
+    let areas = area_text(alloc, &map)?;
+    let too = area_text(alloc, &halves)?;
+    assert!(rt; areas.as_slice() == too.as_slice());
+    let same = are_outlines_same(alloc, &map, &halves, Face::Outside)?;
+    assert!(rt; same);
     for place in 0..map.counts().parcels {
-        let face = Face::Parcel(map.parcel_at(place).unwrap().number);
-        assert!(rt; are_outlines_same(alloc, &map, &halves, face)?);
+        let parcel = map.parcel_at(place).unwrap().number;
+        let same = are_outlines_same(alloc, &map, &halves, Face::Parcel(parcel))?;
+        assert!(rt; same);
     }
     Ok(())
 }
@@ -68,8 +76,9 @@ fn the_area_of_the_square(rt: HostRuntime) -> Result<(), Fail> {
     let plan = lines(rt.alloc(), &[PLAN, SQUARE, OPEN])?;
     let map = map_of(rt.alloc(), plan.as_slice())?;
     let halves = half_map_of(rt.alloc(), &map)?;
+    let text = area_text(rt.alloc(), &halves)?;
     let areas = lines(rt.alloc(), &["area,1,A,2000000,1.00; end"])?;
-    assert!(rt; area_text(rt.alloc(), &halves)?.as_slice() == areas.as_slice());
+    assert!(rt; text.as_slice() == areas.as_slice());
     Ok(())
 }
 
