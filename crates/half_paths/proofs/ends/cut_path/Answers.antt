@@ -28,3 +28,9 @@ returns-clause-back g c =
 
 pub returns-clause-halves : goal.returns-clause-halves
 returns-clause-halves g c = keeps-on _ _ _ c.splice.ensures.spliced.halves c.splice-2.ensures.spliced.halves
+
+pub splice-requires-2-clause-a_in : goal.splice-requires-2-clause-a_in
+splice-requires-2-clause-a_in g c = c.splice.ensures.spliced.halves.has _ ∙ c.prev-before.ensures.inside
+
+pub splice-requires-2-clause-b_in : goal.splice-requires-2-clause-b_in
+splice-requires-2-clause-b_in g c = c.splice.ensures.spliced.halves.has _ ∙ c.twin-back.ensures.inside ∙ c.requires.first_in
