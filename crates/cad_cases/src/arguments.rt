@@ -31,10 +31,23 @@ fn arguments_that_are_none(rt: HostRuntime) -> Result<(), Fail> {
         (["cadedit", "--depth", "x"].as_slice(), 64),
         (["cadedit", "F", "G"].as_slice(), 64),
         (["cadedit", "--help"].as_slice(), 0),
+        (["cadedit", "--version"].as_slice(), 0),
     ] {
         match read_args(rt.alloc(), words) {
             Ok(_) => panic!(rt; "arguments were read"),
             Err(error) => assert_eq!(rt; args_status(&error), status),
+        }
+    }
+    Ok(())
+}
+
+#[test]
+fn version(rt: HostRuntime) -> Result<(), Fail> {
+    match read_args(rt.alloc(), &["cadedit", "--version"]) {
+        Ok(_) => panic!(rt; "arguments were read"),
+        Err(error) => {
+            let told = format!(in rt.alloc(); "{error}")?;
+            assert!(rt; told.as_str() == "cadedit 0.4.0\n");
         }
     }
     Ok(())

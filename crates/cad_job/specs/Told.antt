@@ -22,8 +22,9 @@ status_of fault.Write = 3
 status_of fault.Long = 4
 status_of fault.Memory = 5
 
--- the status after arguments that were not read: help that was asked for is none
+-- the status after arguments that were not read: help or the version that was asked for is no fault
 abbrev pub status_of_kind : ErrorKind → ℕ
 status_of_kind kinds.DisplayHelp = 0
+status_of_kind kinds.DisplayVersion = 0
 status_of_kind kinds.OutOfMemory = 5
 status_of_kind _ = 64

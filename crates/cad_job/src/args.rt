@@ -1,13 +1,55 @@
 //! The program's arguments.
 ghost use Rattle.std.specs.Prelude.{◌≡◌, IfOk, map, option_map};
 ghost use Rattle.clap.specs.Values.{kind_of};
-ghost use Rattle.cad_job.specs.Arguments.{ReadsArgs};
+ghost use Rattle.clap.specs.Words.{app_of};
+ghost use Rattle.cad_job.specs.Arguments.{ReadsArgs, cadedit};
 ghost use Rattle.cad_job.specs.Told.{status_of_kind};
 
 use cad_history::Depth;
 use clap::error::ErrorKind;
 use clap::{Arg, Command, Error};
-use std::alloc::Global;
+use std::alloc::{AllocError, Global};
+
+/// The program's version, as `--version` tells it. CHANGELOG.md says what each brought.
+const VERSION: &str = "0.4.0";
+
+const ABOUT: &str = "\
+Edits a cadastral map. A job is a plan and a script; each record of the script is done and answered, in order.";
+
+const FILE_HELP: &str = "The job; standard input where it is left out";
+
+const DEPTH_HELP: &str = "How many edits can be undone, from 1 to 1000";
+
+/// What stands below the arguments in the text of `--help`.
+const AFTER_HELP: &str = "\
+Records have seven fields, parted by commas. The plan ends with `open`; what comes after it is the script.
+
+Answers:
+  ok                        done
+  nothing                   there is no edit to undo, or none to redo
+  refused, number, name ..  not done, and nothing has changed: docs/TUTORIAL.md says what to do about it
+  syntax                    not a record of a script; nothing has changed
+  area .. end               the parcels, to `areas`
+  ring .. end               the boundary of a parcel, to `outline`
+  plan .. open              the plan as it is now, to `print`
+
+Status: 0 the job is done, 2 the plan is at fault, 3 the job can't be read or the answers not written, 4 the script has
+more than 1,000,000 records, 5 memory ran out, 64 the arguments aren't as above. Standard error says more.
+
+Example, a job and its answers:
+  plan,2,,,,,
+  source,1,Survey 7,,,,
+  point,1,0,0,1,,
+  point,2,60000,0,1,,
+  point,3,60000,40000,1,,
+  open,,,,,,
+  enclose,0,1 2 3,11 12 13,101,Mill Lane 2,1     ok,,,,,,
+  areas,,,,,,                                    area,101,Mill Lane 2,2400000000,1200.00,,
+                                                 end,,,,,,
+  move,3,0,0,,,                                  refused,18,breaks,V3,,,
+  undo,,,,,,                                     ok,,,,,,
+
+docs/FORMATS.md has all records, answers and statuses.";
 
 /// What the arguments say: how many edits can be undone, and the file that has the job, if one is named.
 #[derive(Clone, Copy, Debug)]
@@ -16,17 +58,31 @@ pub struct Args<'a> {
     pub file: Option<&'a str>,
 }
 
-/// Reads the arguments `[--depth N] [FILE]`, the program's name first. N is from 1 to 1000, and 100 where it is
-/// left out. Fails as `clap` does, also for `--help`.
-pub fn read_args<'a>(alloc: Global, words: &'a [&'a str]) -> Result<Args<'a>, Error>
-    ensures { IfOk result (λ args. ReadsArgs (map (λ w. w.now) words.entry.now) args.depth (option_map (λ f. f.now) args.file)) }
+/// The program's command line, with the texts of its help.
+fn command_line<'a>(alloc: Global) -> Result<Command<'a>, AllocError>
+    ensures { IfOk result (λ c. app_of c ≡ cadedit) }
 {
     let depth = Arg::new(alloc, "depth")
         .long("depth")
+        .value_name("N")
         .value_parser(clap::value_parser!(u16).range(1..=1000))
-        .default_value("100");
-    let file = Arg::new(alloc, "file");
-    let mut command = Command::new(alloc, "cadedit").arg(depth)?.arg(file)?;
+        .default_value("100")
+        .help(DEPTH_HELP);
+    let file = Arg::new(alloc, "file").value_name("FILE").help(FILE_HELP);
+    Command::new(alloc, "cadedit")
+        .version(VERSION)
+        .about(ABOUT)
+        .after_help(AFTER_HELP)
+        .arg(depth)?
+        .arg(file)
+}
+
+/// Reads the arguments `[--depth N] [FILE]`, the program's name first. N is from 1 to 1000, and 100 where it is
+/// left out. Fails as `clap` does, also for `--help` and `--version`.
+pub fn read_args<'a>(alloc: Global, words: &'a [&'a str]) -> Result<Args<'a>, Error>
+    ensures { IfOk result (λ args. ReadsArgs (map (λ w. w.now) words.entry.now) args.depth (option_map (λ f. f.now) args.file)) }
+{
+    let mut command = command_line(alloc)?;
     let matches = command.try_get_matches_from_mut(words)?;
     let file = matches.get_str("file");
     if let Some(edits) = matches.get_one::<u16>("depth") {
@@ -40,13 +96,13 @@ pub fn read_args<'a>(alloc: Global, words: &'a [&'a str]) -> Result<Args<'a>, Er
 /// The status with which the program ends where its arguments aren't as they should be.
 pub const ARGUMENTS_STATUS: u8 = 64;
 
-/// The status with which the program ends after these arguments: 0 for help, 5 where memory ran out, else
+/// The status with which the program ends after these arguments: 0 for help and the version, 5 where memory ran out, else
 /// [`ARGUMENTS_STATUS`].
 pub fn args_status(error: &Error) -> u8
     ensures { result ≡ status_of_kind (kind_of error.now) }
 {
     match error.kind() {
-        ErrorKind::DisplayHelp => 0,
+        ErrorKind::DisplayHelp | ErrorKind::DisplayVersion => 0,
         ErrorKind::OutOfMemory => 5,
         _ => ARGUMENTS_STATUS,
     }

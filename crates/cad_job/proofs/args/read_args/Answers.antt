@@ -17,13 +17,7 @@ there (Some t) h = (t, refl)
 
 pub returns-in-Some-new : goal.returns-in-Some-new
 returns-in-Some-new c =
-    let given = c.value_parser-2.ensures.given in
-    let made : c.range.result ≡ parsers.Signed (pos 1) (pos 1000) = rw (c.value_parser.ensures, c.new-2.ensures.start, c.new-2.ensures.end) at c.range.ensures in
-    let parser_is : c.value_parser-2.result.value_parser ≡ Some (parsers.Signed (pos 1) (pos 1000)) = given.1 ∙ ap (λ q. Some q) (given.2 ∙ made) in
-    let depth_is : rule_of c.default_value-depth.result ≡ depth_rule = search rules in
-    let file_is : rule_of c.new-file.result ≡ new_rule (codes "file") = search rules in
-    let app_is : app_of c.in_ok-command.command ≡ cadedit = c.in_ok-command.ensures.shape (search rules)
-    ∙ ap₂ with_rule (c.in_ok-arg.ensures.shape (search rules) ∙ ap₂ with_rule c.new-3.ensures.app depth_is) file_is in
+    let app_is : app_of c.in_ok-command.command ≡ cadedit = c.in_ok-command.ensures in
     let words = map (λ w. w.now) c.args.words.now in
     let m = c.in_ok-matches.matches in
     let found = c.in_ok-matches.ensures.ok.2 (ap is_simple app_is ∙ cadedit_simple) in
