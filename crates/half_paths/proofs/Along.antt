@@ -1,5 +1,6 @@
 -- A path strung up and taken apart, point by point.
-use Rattle.std.proofs.Common.{◌≡◌, false, List, [], ◌∷◌, if◌then◌else◌, refl, sym, ap, ◌∙◌}
+use Rattle.std.proofs.Common.{arith, ℕ, zero, suc, ◌+◌, ◌≡◌, false, List, [], ◌∷◌, if◌then◌else◌, refl, sym, ap, ◌∙◌}
+use Rattle.half_table.specs.Count.{one_more, ticked}
 use Rattle.half_table.specs.declared.half.Half.{Half}
 use Rattle.half_table.specs.Half.{twin, is_half}
 use Rattle.half_table.specs.Cycle.{holds, exchanged, IsOnce}
@@ -24,7 +25,7 @@ abbrev pub IsPath : Half → List Half → Type 0
 IsPath a rest = IsOnce (seams_of a rest)
 
 -- the same values at these halves
-abbrev Agree : (E f : Half → Half) → List Half → Type 0
+abbrev pub Agree : (E f : Half → Half) → List Half → Type 0
 Agree E f [] = Unit {0}
 Agree E f (k ∷ ks) = (E k ≡ f k) × Agree E f ks
 
@@ -39,7 +40,7 @@ loose-kept : (E f : Half → Half) (a : Half) (rest : List Half) → Agree E f (
 loose-kept E f a [] g l = tt
 loose-kept E f a (b ∷ rest) (g0, (g1, g2)) (l0, l1, l2) = (g1 ∙ l0, g0 ∙ l1, loose-kept E f b rest g2 l2)
 
-strung-kept : (E f : Half → Half) (a : Half) (rest : List Half) → Agree E f (seams_of a rest) → IsStrung f a rest → IsStrung E a rest
+pub strung-kept : (E f : Half → Half) (a : Half) (rest : List Half) → Agree E f (seams_of a rest) → IsStrung f a rest → IsStrung E a rest
 strung-kept E f a [] g l = tt
 strung-kept E f a (b ∷ rest) (g0, (g1, g2)) (l0, l1, l2) = (g1 ∙ l0, g0 ∙ l1, strung-kept E f b rest g2 l2)
 
@@ -71,11 +72,11 @@ pub sources-unstrung : (a : Half) (rest : List Half) → sources (unstrung a res
 sources-unstrung a [] = refl
 sources-unstrung a (b ∷ rest) = ap (λ l. twin b ∷ a ∷ l) (sources-unstrung b rest)
 
-unstrung-of : (f : Half → Half) (a : Half) (rest : List Half) → IsUnstrung f a rest → AreOf f (unstrung a rest)
+pub unstrung-of : (f : Half → Half) (a : Half) (rest : List Half) → IsUnstrung f a rest → AreOf f (unstrung a rest)
 unstrung-of f a [] l = tt
 unstrung-of f a (b ∷ rest) (l0, l1, l2) = (l1, (l0, unstrung-of f b rest l2))
 
-strung-of : (f : Half → Half) (a : Half) (rest : List Half) → IsStrung f a rest → AreOf f (strung a rest)
+pub strung-of : (f : Half → Half) (a : Half) (rest : List Half) → IsStrung f a rest → AreOf f (strung a rest)
 strung-of f a [] l = tt
 strung-of f a (b ∷ rest) (l0, l1, l2) = (l1, (l0, strung-of f b rest l2))
 
@@ -99,3 +100,12 @@ in-kept r s (h ∷ halves) k (i0, i1) = (k.has h ∙ i0, in-kept r s halves k i1
 
 pub keeps-itself : (r : HalfRows) → KeepsHalves r r
 keeps-itself r = record { strings = refl; has = λ g. refl; origin = λ g. refl; face = λ g. refl }
+
+-- so many ticks after others
+pub ticked-add : (n m w : ℕ) → ticked (n + m) w ≡ ticked m (ticked n w)
+ticked-add zero m w =
+    let none : zero + m ≡ m = omega arith in
+    ap (λ k. ticked k w) none
+ticked-add (suc n) m w =
+    let more : suc n + m ≡ suc (n + m) = omega arith in
+    ap (λ k. ticked k w) more ∙ ticked-add n m (one_more w)

@@ -13,14 +13,14 @@ use Rattle.half_paths.proofs.Along.{seams_of, IsPath, sources-strung, sources-un
 use Rattle.half_paths.proofs.Redirected.{redirect-kept}
 
 -- a half of another string is another half
-other : (g h : Half) → nat_eq g.string h.string ≡ false → is_half g h ≡ false
+pub other : (g h : Half) → nat_eq g.string h.string ≡ false → is_half g h ≡ false
 other g h e = is_half-other g h (λ same. true≢false (sym ((Decides-eqb g.string h.string).1 (ap (λ (x : Half). x.string) same)) ∙ e))
 
-neither-in : (a b c : Bool) → a ≡ false → b ≡ false → c ≡ false → (a || (b || c)) ≡ false
+pub neither-in : (a b c : Bool) → a ≡ false → b ≡ false → c ≡ false → (a || (b || c)) ≡ false
 neither-in a b c p q r = (λ i. p i || (q i || r i))
 
 -- a half whose string is elsewhere is none of the shared chains
-elsewhere : (g a : Half) (rest : List Half) → AreElsewhere g (a ∷ rest) → holds (seams_of a rest) g ≡ false
+pub elsewhere : (g a : Half) (rest : List Half) → AreElsewhere g (a ∷ rest) → holds (seams_of a rest) g ≡ false
 elsewhere g a [] e = refl
 elsewhere g a (b ∷ rest) (e0, (e1, e2)) =
     neither-in (is_half g (twin b)) (is_half g a) (holds (seams_of b rest) g) (other g (twin b) e1) (other g a e0) (elsewhere g b rest (e1, e2))
@@ -43,21 +43,24 @@ path-of a (b ∷ rest) ((e0, e1), d) =
     or-both : (p q : Bool) → p ≡ false → q ≡ false → (p || q) ≡ false
     or-both p q x y = λ i. x i || y i
 
--- its last half is none of the shared chains
+-- a half whose string is elsewhere isn't on that of the last half
+pub far : (g b : Half) (rest : List Half) → AreElsewhere g (b ∷ rest) → nat_eq g.string (last_of b rest).string ≡ false
+far g b [] e = e.0
+far g b (x ∷ rest) (p, (q, r)) = far g x rest (q, r)
+
+-- the last half isn't the way back of the first
+pub last-turned : (a : Half) (rest : List Half) → AreDifferent (a ∷ rest) → is_half (last_of a rest) (twin a) ≡ false
+unfolding IsDistinct
+last-turned a [] d = is_half-twin a
+last-turned a (x ∷ rest) (e, d) = is_half-turned (twin a) (last_of x rest) (other (twin a) (last_of x rest) (far (twin a) x rest e))
+
+-- the last half is none of the shared chains
 pub last-apart : (a : Half) (rest : List Half) → AreDifferent (a ∷ rest) → holds (seams_of a rest) (last_of a rest) ≡ false
 unfolding IsDistinct
 last-apart a [] d = refl
 last-apart a (b ∷ rest) ((e0, e1), d) =
     neither-in (is_half (last_of b rest) (twin b)) (is_half (last_of b rest) a) (holds (seams_of b rest) (last_of b rest))
-    (from-first b rest d) (is_half-turned a (last_of b rest) (other a (last_of b rest) (far a b rest (e0, e1)))) (last-apart b rest d)
-  where
-    far : (g b : Half) (rest : List Half) → AreElsewhere g (b ∷ rest) → nat_eq g.string (last_of b rest).string ≡ false
-    far g b [] e = e.0
-    far g b (x ∷ rest) (p, (q, r)) = far g x rest (q, r)
-
-    from-first : (b : Half) (rest : List Half) → AreDifferent (b ∷ rest) → is_half (last_of b rest) (twin b) ≡ false
-    from-first b [] d = is_half-twin b
-    from-first b (x ∷ rest) (e, d) = is_half-turned (twin b) (last_of x rest) (other (twin b) (last_of x rest) (far (twin b) x rest e))
+    (last-turned b rest d) (is_half-turned a (last_of b rest) (other a (last_of b rest) (far a b rest (e0, e1)))) (last-apart b rest d)
 
 -- the two ends of a path keep what follows them
 pub first-strung : (f : Half → Half) (a : Half) (rest : List Half) → AreDifferent (a ∷ rest) → redirect (strung a rest) f (twin a) ≡ f (twin a)

@@ -2,3 +2,6 @@ pub mod Redirected
 mod Along
 mod Apart
 mod TwoEnds
+mod Added
+mod Dropped
+mod Exchanged

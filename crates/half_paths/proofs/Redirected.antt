@@ -1,9 +1,9 @@
 -- Successors written one after another.
-use Rattle.std.proofs.Common.{◌≡◌, Bool, true, false, List, [], ◌∷◌, ◌||◌, if◌then◌else◌, refl, sym, ap, ◌∙◌, ◌⊎◌, inl, inr}
+use Rattle.std.proofs.Common.{◌≡◌, Bool, true, false, List, [], ◌∷◌, ◌++◌, ◌||◌, if◌then◌else◌, refl, sym, ap, ◌∙◌, ◌⊎◌, inl, inr, true≢false}
 use Rattle.half_table.specs.declared.half.Half.{Half}
 use Rattle.half_table.specs.Half.{is_half}
 use Rattle.half_table.specs.Cycle.{holds}
-use Rattle.half_table.proofs.Halves.{is_half-same}
+use Rattle.half_table.proofs.Halves.{is_half-same, is_half-other}
 use Rattle.half_paths.specs.Redirect.{written, redirect}
 
 -- the halves that get another successor
@@ -62,9 +62,48 @@ redirect-any (e ∷ es) F G g h =
     ]
 
 -- the old values written again restore
-pub redirect-back : (es fs : List (Half × Half)) (f : Half → Half) → sources es ≡ sources fs → AreOf f fs → (g : Half) → redirect fs (redirect es f) g ≡ f g
-redirect-back es fs f same own g =
+pub redirect-restores : (es fs : List (Half × Half)) (f : Half → Half) → ((g : Half) → holds (sources es) g ≡ true → holds (sources fs) g ≡ true) → AreOf f fs
+    → (g : Half) → redirect fs (redirect es f) g ≡ f g
+redirect-restores es fs f within own g =
     elim (cases_bool (holds (sources fs) g)) [
       | inl k ↦ redirect-any fs (redirect es f) f g k ∙ (λ i. redirect-own f fs own i g)
-      | inr k ↦ redirect-kept fs (redirect es f) g k ∙ redirect-kept es f g (ap (λ l. holds l g) same ∙ k)
+      | inr k ↦ redirect-kept fs (redirect es f) g k ∙ elim (cases_bool (holds (sources es) g)) [
+        | inl s ↦ absurd (true≢false (sym (within g s) ∙ k))
+        | inr s ↦ redirect-kept es f g s
+      ]
     ]
+
+pub redirect-back : (es fs : List (Half × Half)) (f : Half → Half) → sources es ≡ sources fs → AreOf f fs → (g : Half) → redirect fs (redirect es f) g ≡ f g
+redirect-back es fs f same own g = redirect-restores es fs f (λ h e. ap (λ l. holds l h) (sym same) ∙ e) own g
+
+-- what is written later counts alone
+pub redirect-overwritten : (x y : Half) (es : List (Half × Half)) (f : Half → Half) → holds (sources es) x ≡ true → (g : Half) → redirect ((x, y) ∷ es) f g ≡ redirect es f g
+redirect-overwritten x y es f later g =
+    elim (cases_bool (holds (sources es) g)) [
+      | inl k ↦ redirect-any es (written x y f) f g k
+      | inr k ↦ redirect-kept es (written x y f) g k ∙ ap (λ b. if b then y else f g) (apart k) ∙ sym (redirect-kept es f g k)
+    ]
+  where
+    apart : holds (sources es) g ≡ false → is_half g x ≡ false
+    apart k = is_half-other g x (λ s. true≢false (sym later ∙ ap (holds (sources es)) (sym s) ∙ k))
+
+-- one list of pairs after another
+pub redirect-append : (es fs : List (Half × Half)) (f : Half → Half) (g : Half) → redirect (es ++ fs) f g ≡ redirect fs (redirect es f) g
+redirect-append [] fs f g = refl
+redirect-append (e ∷ es) fs f g = redirect-append es fs (written e.0 e.1 f) g
+
+pub own-append : (f : Half → Half) (es fs : List (Half × Half)) → AreOf f es → AreOf f fs → AreOf f (es ++ fs)
+own-append f [] fs own owns = owns
+own-append f (e ∷ es) fs own owns = (own.0, own-append f es fs own.1 owns)
+
+sources-append : (es fs : List (Half × Half)) (g : Half) → holds (sources (es ++ fs)) g ≡ (holds (sources es) g || holds (sources fs) g)
+sources-append [] fs g = refl
+sources-append (e ∷ es) fs g = ap (λ b. is_half g e.0 || b) (sources-append es fs g) ∙ grouped (is_half g e.0) (holds (sources es) g) (holds (sources fs) g)
+  where
+    grouped : (a b c : Bool) → (a || (b || c)) ≡ ((a || b) || c)
+    grouped true b c = refl
+    grouped false b c = refl
+
+-- whether a half is the first of a pair in three lists
+pub holds-pairs : (es fs gs : List (Half × Half)) (g : Half) → holds (sources (es ++ (fs ++ gs))) g ≡ (holds (sources es) g || (holds (sources fs) g || holds (sources gs) g))
+holds-pairs es fs gs g = sources-append es (fs ++ gs) g ∙ ap (λ b. holds (sources es) g || b) (sources-append fs gs g)
