@@ -30,13 +30,13 @@ fn are_outlines_same(
     alloc: Global,
     map: &PlainMap,
     halves: &HalfMap<Ticks>,
-    face: Face,
+    face: &Face,
 ) -> Result<bool, Fail>
     requires map { IsValid map.now }
     requires halves { IsValid (map_that_stands halves.now) }
 {
-    let one = outline_text(alloc, map, face)?;
-    let other = outline_text(alloc, halves, face)?;
+    let one = outline_text(alloc, map, *face)?;
+    let other = outline_text(alloc, halves, *face)?;
     Ok(one.as_slice() == other.as_slice())
 }
 
@@ -52,11 +52,11 @@ fn compare<R: Abort + AllocGlobal>(rt: &R, plan: &[&str]) -> Result<(), Fail> {
     let areas = area_text(alloc, &map)?;
     let too = area_text(alloc, &halves)?;
     assert!(rt; areas.as_slice() == too.as_slice());
-    let same = are_outlines_same(alloc, &map, &halves, Face::Outside)?;
+    let same = are_outlines_same(alloc, &map, &halves, &Face::Outside)?;
     assert!(rt; same);
     for place in 0..map.counts().parcels {
         let parcel = map.parcel_at(place).unwrap().number;
-        let same = are_outlines_same(alloc, &map, &halves, Face::Parcel(parcel))?;
+        let same = are_outlines_same(alloc, &map, &halves, &Face::Parcel(parcel))?;
         assert!(rt; same);
     }
     Ok(())
