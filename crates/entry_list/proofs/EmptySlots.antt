@@ -157,6 +157,13 @@ module _ {V : Type 0} where
       get_or-map (λ e. mark_of e.1) old k none
       ∙ (ap (λ e. mark_of e.1) (sym h) ∙ sym (get_or-map (λ e. mark_of e.1) new k none))
 
+  -- an empty slot exchanged with an unmarked one
+  pub swap-unmarked : (a b n : ℕ) (es : Slots V) → slice_get es a ≡ Some (n, None) → b < length es
+      → get_or (marks_of es) b 0 ≡ 0 → KeepsRows es (swap es a b) b n
+  swap-unmarked a b n es h w unmarked =
+      let other = unmarked-empty b es w unmarked in
+      swap-empty a b n other.0 es h other.1
+
   -- an empty slot that goes from one place to another
   pub record MovesEmpty (old new : Slots V) (from to n : ℕ) : Type 0 where
     pub rows : rows_of new ≡ rows_of old

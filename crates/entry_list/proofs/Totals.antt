@@ -199,6 +199,19 @@ room_tallied marks sums h = record {
   ones = h.ones;
 }
 
+-- the sum of another block stays, where both its ends have as much more before them
+push-other : (y j more : ℕ) (marks sums : List ℕ) → IsTallied marks sums → j ≢ length marks / 512
+    → total_before (j * 512) (marks ++ y ∷ []) ≡ total_before (j * 512) marks + more
+    → total_before (j * 512 + 512) (marks ++ y ∷ []) ≡ total_before (j * 512 + 512) marks + more
+    → total_before (j * 512) (marks ++ y ∷ [])
+    + get_or (set sums (length marks / 512) (get_or sums (length marks / 512) 0 + y)) j 0
+    ≡ total_before (j * 512 + 512) (marks ++ y ∷ [])
+push-other y j more marks sums h ne first last =
+    let n : ℕ = get_or sums (length marks / 512) 0 + y in
+    let a : get_or (set sums (length marks / 512) n) j 0 ≡ get_or sums j 0 =
+    get_or-set_other sums (length marks / 512) j n 0 ne in
+    omega (arith, a, h.each j, first, last)
+
 push-each : (y j : ℕ) (marks sums : List ℕ) → IsTallied marks sums
     → length marks / 512 < length sums
     → (j ≡ length marks / 512) ⊎ ((j < length marks / 512) ⊎ (length marks / 512 < j))
@@ -220,29 +233,12 @@ push-each y j marks sums h l (inl same) =
       total-push-lt (j * 512 + 512) y marks (omega arith),
     )
 push-each y j marks sums h l (inr (inl lt)) =
-    let ne : j ≢ length marks / 512 = omega arith in
-    let n : ℕ = get_or sums (length marks / 512) 0 + y in
-    let a : get_or (set sums (length marks / 512) n) j 0 ≡ get_or sums j 0 =
-    get_or-set_other sums (length marks / 512) j n 0 ne in
-    omega (
-      arith,
-      a,
-      h.each j,
-      total-push-le (j * 512) y marks (omega arith),
-      total-push-le (j * 512 + 512) y marks (omega arith),
-    )
+    push-other y j 0 marks sums h (omega arith)
+    (omega (arith, total-push-le (j * 512) y marks (omega arith)))
+    (omega (arith, total-push-le (j * 512 + 512) y marks (omega arith)))
 push-each y j marks sums h l (inr (inr gt)) =
-    let ne : j ≢ length marks / 512 = omega arith in
-    let n : ℕ = get_or sums (length marks / 512) 0 + y in
-    let a : get_or (set sums (length marks / 512) n) j 0 ≡ get_or sums j 0 =
-    get_or-set_other sums (length marks / 512) j n 0 ne in
-    omega (
-      arith,
-      a,
-      h.each j,
-      total-push-lt (j * 512) y marks (omega arith),
-      total-push-lt (j * 512 + 512) y marks (omega arith),
-    )
+    push-other y j y marks sums h (omega arith) (total-push-lt (j * 512) y marks (omega arith))
+    (total-push-lt (j * 512 + 512) y marks (omega arith))
 
 ones-push : (y : ℕ) (marks : List ℕ) → y ≤ 1 → AreMarks marks → AreMarks (marks ++ y ∷ [])
 ones-push y [] u a zero = u

@@ -29,10 +29,10 @@ impl<V> EntryList<V> {
             return next;
         }
         if own < next {
-            self.move_later(number, own, next - 1);
+            self.move_empty(number, own, next - 1);
             next - 1
         } else {
-            self.move_earlier(number, own, next);
+            self.move_empty(number, own, next);
             next
         }
     }
@@ -81,31 +81,18 @@ impl<V> EntryList<V> {
         self.slots.swap_indices(own, other);
     }
 
-    // Moves a slot that has no row to a later one, and those between one forwards.
-    fn move_later(&mut self, number: u64, from: usize, to: usize)
+    // Moves a slot that has no row to another place, and those between by one towards where it was.
+    fn move_empty(&mut self, number: u64, from: usize, to: usize)
         requires own { IsEmptySlot self.old from number }
         requires to { to < length self.old }
-        requires later { from ≤ to }
         ensures rows { rows_of self.new ≡ rows_of self.old }
         ensures slots { KeepsSlots self.old self.new }
         ensures empty { IsEmptySlot self.new to number }
-        ensures before { rows_before to self.new ≡ rows_before (to + 1) self.old }
+        ensures later { from ≤ to → rows_before to self.new ≡ rows_before (to + 1) self.old }
+        ensures earlier { to ≤ from → rows_before to self.new ≡ rows_before to self.old }
     {
         self.slots.move_index(from, to);
-        mark_between(&self.slots, &mut self.live, from, to);
-    }
-
-    // Moves a slot that has no row to an earlier one, and those between one back.
-    fn move_earlier(&mut self, number: u64, from: usize, to: usize)
-        requires own { IsEmptySlot self.old from number }
-        requires earlier { to ≤ from }
-        ensures rows { rows_of self.new ≡ rows_of self.old }
-        ensures slots { KeepsSlots self.old self.new }
-        ensures empty { IsEmptySlot self.new to number }
-        ensures before { rows_before to self.new ≡ rows_before to self.old }
-    {
-        self.slots.move_index(from, to);
-        mark_between(&self.slots, &mut self.live, to, from);
+        mark_between(&self.slots, &mut self.live, from.min(to), from.max(to));
     }
 }
 

@@ -1,35 +1,39 @@
-use Rattle.std.proofs.Common.{◌≡◌, ◌<◌, ◌*◌, ℕ, length, arith, sym, ap, subst, List}
+use Rattle.std.proofs.Common.{◌≡◌, ◌<◌, ◌+◌, ◌*◌, ℕ, length, arith, sym, ap, subst, List}
 use Rattle.std.proofs.lemmas.List.{get_or_read}
-use Rattle.entry_list.specs.Totals.{total_before}
+use Rattle.entry_list.specs.Totals.{total_before, IsTallied}
 use Rattle.entry_list.proofs.Totals.{total-zero, total-more, blocks, block_within, mark_within}
 use Rattle.entry_list.proofs.marks.Marks.place_of.Goals as goal
 
-below : (m n : List ℕ) (k : ℕ) → m ≡ n → k < total_before (length n) n
-    → k < total_before (length m) m
-below m n k e h = subst (λ (x : List ℕ). k < total_before (length x) x) (sym e) h
+-- where fewer marks stand before this place than all, it is a place
+reached : (m n : List ℕ) (place count left : ℕ) → m ≡ n → count < total_before (length n) n
+    → left + total_before place m ≡ count → place < length m
+reached m n place count left e all here =
+    let some = subst (λ (x : List ℕ). count < total_before (length x) x) (sym e) all in
+    mark_within place count m (omega (arith, here)) some
+
+-- so it is with blocks
+reached_block : (m n sums : List ℕ) (block count left : ℕ) → IsTallied m sums → m ≡ n
+    → count < total_before (length n) n → left + total_before block sums ≡ count → block < length sums
+reached_block m n sums block count left tallied e all here =
+    let some = subst (λ (x : List ℕ). count < total_before (length x) x) (sym e) all in
+    block_within block count m sums tallied (omega (arith, here)) some
 
 pub loop-left-init : goal.loop-left-init
 loop-left-init c = omega (arith, total-zero c.self.inside.sums.items)
 
 pub index-requires : goal.index-requires
 index-requires c =
-    let r =
-    below c.self.inside.marks.items c.args.self.now c.args.count c.self.view_is c.requires in
-    omega (arith, block_within c.loop-left.block c.args.count _ _ c.self.invariant (omega arith) r)
+    omega (arith, reached_block _ _ _ _ _ c.loop-left.left c.self.invariant c.self.view_is c.requires c.loop-left.invariant)
 
 pub index-requires-in-loop-left : goal.index-requires-in-loop-left
 index-requires-in-loop-left c =
-    let r =
-    below c.self.inside.marks.items c.args.self.now c.args.count c.self.view_is c.requires in
-    omega (arith, block_within c.loop-left.block c.args.count _ _ c.self.invariant (omega arith) r)
+    omega (arith, reached_block _ _ _ _ _ c.loop-left.left c.self.invariant c.self.view_is c.requires c.loop-left.invariant)
 
 pub overflow_sub-left : goal.overflow_sub-left
 overflow_sub-left c =
-    let r =
-    below c.self.inside.marks.items c.args.self.now c.args.count c.self.view_is c.requires in
     let s = c.self.inside.sums.items in
     let w : c.loop-left.block < length s =
-    block_within c.loop-left.block c.args.count _ _ c.self.invariant (omega arith) r in
+    reached_block _ _ _ _ _ c.loop-left.left c.self.invariant c.self.view_is c.requires c.loop-left.invariant in
     let p = get_or_read s c.loop-left.block c.index.result.now w c.index.ensures 0 in
     let q =
     get_or_read s c.loop-left.block _ w c.index-in-loop-left.ensures 0 in
@@ -37,28 +41,17 @@ overflow_sub-left c =
 
 pub overflow_add-block : goal.overflow_add-block
 overflow_add-block c =
-    let r =
-    below c.self.inside.marks.items c.args.self.now c.args.count c.self.view_is c.requires in
-    omega (
-      arith,
-      block_within c.loop-left.block c.args.count _ _ c.self.invariant
-          (omega arith) r,
-      c.self.inside.sums.small,
-    )
+    omega (arith, reached_block _ _ _ _ _ c.loop-left.left c.self.invariant c.self.view_is c.requires c.loop-left.invariant, c.self.inside.sums.small)
 
 pub loop-left-smaller : goal.loop-left-smaller
 loop-left-smaller c =
-    let r =
-    below c.self.inside.marks.items c.args.self.now c.args.count c.self.view_is c.requires in
-    omega (arith, block_within c.loop-left.block c.args.count _ _ c.self.invariant (omega arith) r)
+    omega (arith, reached_block _ _ _ _ _ c.loop-left.left c.self.invariant c.self.view_is c.requires c.loop-left.invariant)
 
 pub loop-left-preserved : goal.loop-left-preserved
 loop-left-preserved c =
-    let r =
-    below c.self.inside.marks.items c.args.self.now c.args.count c.self.view_is c.requires in
     let s = c.self.inside.sums.items in
     let w : c.loop-left.block < length s =
-    block_within c.loop-left.block c.args.count _ _ c.self.invariant (omega arith) r in
+    reached_block _ _ _ _ _ c.loop-left.left c.self.invariant c.self.view_is c.requires c.loop-left.invariant in
     let p = get_or_read s c.loop-left.block c.index.result.now w c.index.ensures 0 in
     let q =
     get_or_read s c.loop-left.block _ w c.index-in-loop-left.ensures 0 in
@@ -66,13 +59,11 @@ loop-left-preserved c =
 
 pub overflow_mul-place : goal.overflow_mul-place
 overflow_mul-place c =
-    let r =
-    below c.self.inside.marks.items c.args.self.now c.args.count c.self.view_is c.requires in
     let m = c.self.inside.marks.items in
     let e = blocks c.loop-left.block m c.self.inside.sums.items c.self.invariant in
     omega (
       arith,
-      mark_within (c.loop-left.block * 512) c.args.count m (omega (arith, e)) r,
+      reached m _ (c.loop-left.block * 512) _ c.loop-left.left c.self.view_is c.requires (omega (arith, e)),
       c.self.inside.marks.small,
     )
 
@@ -82,31 +73,17 @@ loop-left-2-init c =
 
 pub index-requires-in-loop-left-2 : goal.index-requires-in-loop-left-2
 index-requires-in-loop-left-2 c =
-    let r =
-    below c.self.inside.marks.items c.args.self.now c.args.count c.self.view_is c.requires in
-    omega (
-      arith,
-      mark_within c.loop-left-2.place c.args.count c.self.inside.marks.items
-          (omega arith) r,
-    )
+    omega (arith, reached _ _ _ _ c.loop-left-2.left c.self.view_is c.requires c.loop-left-2.invariant)
 
 pub index-requires-in-loop-left-2-2 : goal.index-requires-in-loop-left-2-2
 index-requires-in-loop-left-2-2 c =
-    let r =
-    below c.self.inside.marks.items c.args.self.now c.args.count c.self.view_is c.requires in
-    omega (
-      arith,
-      mark_within c.loop-left-2.place c.args.count c.self.inside.marks.items
-          (omega arith) r,
-    )
+    omega (arith, reached _ _ _ _ c.loop-left-2.left c.self.view_is c.requires c.loop-left-2.invariant)
 
 pub overflow_sub-left-in-loop-left-2 : goal.overflow_sub-left-in-loop-left-2
 overflow_sub-left-in-loop-left-2 c =
-    let r =
-    below c.self.inside.marks.items c.args.self.now c.args.count c.self.view_is c.requires in
     let m = c.self.inside.marks.items in
     let w : c.loop-left-2.place < length m =
-    mark_within c.loop-left-2.place c.args.count m (omega arith) r in
+    reached _ _ _ _ c.loop-left-2.left c.self.view_is c.requires c.loop-left-2.invariant in
     let p =
     get_or_read m c.loop-left-2.place _ w c.index-in-loop-left-2.ensures 0 in
     let q =
@@ -115,32 +92,17 @@ overflow_sub-left-in-loop-left-2 c =
 
 pub overflow_add-place : goal.overflow_add-place
 overflow_add-place c =
-    let r =
-    below c.self.inside.marks.items c.args.self.now c.args.count c.self.view_is c.requires in
-    omega (
-      arith,
-      mark_within c.loop-left-2.place c.args.count c.self.inside.marks.items
-          (omega arith) r,
-      c.self.inside.marks.small,
-    )
+    omega (arith, reached _ _ _ _ c.loop-left-2.left c.self.view_is c.requires c.loop-left-2.invariant, c.self.inside.marks.small)
 
 pub loop-left-2-smaller : goal.loop-left-2-smaller
 loop-left-2-smaller c =
-    let r =
-    below c.self.inside.marks.items c.args.self.now c.args.count c.self.view_is c.requires in
-    omega (
-      arith,
-      mark_within c.loop-left-2.place c.args.count c.self.inside.marks.items
-          (omega arith) r,
-    )
+    omega (arith, reached _ _ _ _ c.loop-left-2.left c.self.view_is c.requires c.loop-left-2.invariant)
 
 pub loop-left-2-preserved : goal.loop-left-2-preserved
 loop-left-2-preserved c =
-    let r =
-    below c.self.inside.marks.items c.args.self.now c.args.count c.self.view_is c.requires in
     let m = c.self.inside.marks.items in
     let w : c.loop-left-2.place < length m =
-    mark_within c.loop-left-2.place c.args.count m (omega arith) r in
+    reached _ _ _ _ c.loop-left-2.left c.self.view_is c.requires c.loop-left-2.invariant in
     let p =
     get_or_read m c.loop-left-2.place _ w c.index-in-loop-left-2.ensures 0 in
     let q =
@@ -149,32 +111,22 @@ loop-left-2-preserved c =
 
 pub returns-clause-within : goal.returns-clause-within
 returns-clause-within c =
-    let r =
-    below c.self.inside.marks.items c.args.self.now c.args.count c.self.view_is c.requires in
-    omega (
-      arith,
-      ap length c.self.view_is,
-      mark_within c.loop-left-2.place c.args.count c.self.inside.marks.items (omega arith) r,
-    )
+    omega (arith, ap length c.self.view_is, reached _ _ _ _ c.loop-left-2.left c.self.view_is c.requires c.loop-left-2.invariant)
 
 pub returns-clause-marked : goal.returns-clause-marked
 returns-clause-marked c =
-    let r =
-    below c.self.inside.marks.items c.args.self.now c.args.count c.self.view_is c.requires in
     let m = c.self.inside.marks.items in
     let w : c.loop-left-2.place < length m =
-    mark_within c.loop-left-2.place c.args.count m (omega arith) r in
+    reached _ _ _ _ c.loop-left-2.left c.self.view_is c.requires c.loop-left-2.invariant in
     let p =
     get_or_read m c.loop-left-2.place _ w c.index-in-loop-left-2.ensures 0 in
     rw (← c.self.view_is) (omega (arith, p, c.self.invariant.ones c.loop-left-2.place))
 
 pub returns-clause-before : goal.returns-clause-before
 returns-clause-before c =
-    let r =
-    below c.self.inside.marks.items c.args.self.now c.args.count c.self.view_is c.requires in
     let m = c.self.inside.marks.items in
     let w : c.loop-left-2.place < length m =
-    mark_within c.loop-left-2.place c.args.count m (omega arith) r in
+    reached _ _ _ _ c.loop-left-2.left c.self.view_is c.requires c.loop-left-2.invariant in
     let p =
     get_or_read m c.loop-left-2.place _ w c.index-in-loop-left-2.ensures 0 in
     rw (← c.self.view_is) (omega (arith, p, c.self.invariant.ones c.loop-left-2.place))
