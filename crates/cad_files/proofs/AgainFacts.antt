@@ -22,7 +22,7 @@ use Rattle.cad_map.specs.declared.boundary.Boundary.{Boundary}
 use Rattle.cad_map.specs.Map.{Map, has_point, has_face, face_at, side_of}
 use Rattle.cad_map.specs.Table.{row_with}
 use Rattle.cad_map.specs.Valid.{EachPair, AreSources, HasSoundRows, IsValid}
-use Rattle.cad_files.specs.Fields.{repeated, distinct_of, face_of, magnitude_of, number_of}
+use Rattle.cad_files.specs.Fields.{repeated, distinct_of, face_of, magnitude_of, number_of, number_and_text_of}
 use Rattle.cad_files.specs.Rows.{Rows, no_rows, IsFace}
 use Rattle.cad_files.specs.PlanRecords.{plan_of_fields, source_of_fields, point_of_fields, parcel_of_fields, string_of_fields, retired_of_fields, open_of_fields, version_of}
 use Rattle.cad_files.specs.Plan.{Plan, plan_of, plan_step, beginning, reading, opened}
@@ -96,7 +96,7 @@ at_most n limit h = grind (arith, nat_tests)
 
 source_step : (n : ℕ) (rows : Rows) (s : SourceRow) → IsNumber s.number → IsLabel s.text → length rows.sources < row_limit
     → plan_step (reading Two n rows) (source_record s) ≡ reading Two (n + 1) (record rows { sources = rows.sources ++ s ∷ [] })
-unfolding plan_step plan_of_fields source_of_fields
+unfolding plan_step plan_of_fields source_of_fields number_and_text_of
 source_step n rows s number text room =
     rw (number_again s.number number.some (omega (arith, number.within)), text_again s.text text, less (length rows.sources) row_limit room) refl
 
@@ -348,25 +348,10 @@ both-all : {X : Type 0} (P : X → Type 0) (xs ys : List X) → AllByRecursion P
 both-all P [] ys a b = b
 both-all P (x ∷ xs) ys a b = (a.0, both-all P xs ys a.1 b)
 
-each-source : (ss : List SourceRow) → AllByRecursion (λ r. read_back r ≡ r) (map source_record ss)
-each-source [] = tt
-each-source (s ∷ ss) = (refl, each-source ss)
-
-each-point : (ps : List PointRow) → AllByRecursion (λ r. read_back r ≡ r) (map point_record ps)
-each-point [] = tt
-each-point (p ∷ ps) = (refl, each-point ps)
-
-each-parcel : (ps : List ParcelRow) → AllByRecursion (λ r. read_back r ≡ r) (map parcel_record ps)
-each-parcel [] = tt
-each-parcel (p ∷ ps) = (refl, each-parcel ps)
-
-each-string : (ss : List PlanString) → AllByRecursion (λ r. read_back r ≡ r) (map string_record ss)
-each-string [] = tt
-each-string (s ∷ ss) = (refl, each-string ss)
-
-each-retired : (ns : List ℕ) → AllByRecursion (λ r. read_back r ≡ r) (map retired_record ns)
-each-retired [] = tt
-each-retired (n ∷ ns) = (refl, each-retired ns)
+-- so is each of a kind, if one is
+each-again : {X : Type 0} (f : X → Record) → ((x : X) → read_back (f x) ≡ f x) → (xs : List X) → AllByRecursion (λ r. read_back r ≡ r) (map f xs)
+each-again f one [] = tt
+each-again f one (x ∷ xs) = (one x, each-again f one xs)
 
 pub plan_text_again : (m : Map) → IsWhole (text_of (plan_records m)) (plan_records m)
 plan_text_again m =
@@ -374,8 +359,8 @@ plan_text_again m =
     let strings = map (plan_string_of m) m.strings in
     whole (plan_records m) (
       refl,
-      both-all P (map source_record m.sources) _ (each-source m.sources)
-          (both-all P (map point_record m.points) _ (each-point m.points)
-          (both-all P (map parcel_record m.parcels) _ (each-parcel m.parcels)
-          (both-all P (map string_record strings) _ (each-string strings) (both-all P (map retired_record m.retired) (open_record ∷ []) (each-retired m.retired) (refl, tt))))),
+      both-all P (map source_record m.sources) _ (each-again source_record (λ _. refl) m.sources)
+          (both-all P (map point_record m.points) _ (each-again point_record (λ _. refl) m.points)
+          (both-all P (map parcel_record m.parcels) _ (each-again parcel_record (λ _. refl) m.parcels)
+          (both-all P (map string_record strings) _ (each-again string_record (λ _. refl) strings) (both-all P (map retired_record m.retired) (open_record ∷ []) (each-again retired_record (λ _. refl) m.retired) (refl, tt))))),
     )

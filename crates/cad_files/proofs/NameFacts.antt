@@ -9,7 +9,7 @@ use Rattle.cad_rows.specs.declared.names.Name.{Name}
 use Rattle.cad_rows.specs.declared.names.Name.TheVariants as name
 use Rattle.cad_map.specs.Map.{Map, has_source}
 use Rattle.cad_map.specs.Refusals.{is_there}
-use Rattle.cad_files.specs.Building.{missing_name, sources_named}
+use Rattle.cad_files.specs.Building.{missing_name, sources_named, first_some}
 
 -- the element at a place, between those before it and those after it
 pub parted : {X : Type 0} (xs : List X) (i : ℕ) (x d : X) → i < length xs → x ≡ get_or xs i d → take i xs ++ (x ∷ drop (i + 1) xs) ≡ xs
@@ -69,3 +69,17 @@ missing-five m from to left right sources =
     missing-append m (from ∷ []) (to ∷ (left ++ (right ++ sources)))
     ∙ ap (option_or (missing_name m (from ∷ []))) (missing-append m (to ∷ []) (left ++ (right ++ sources)) ∙ ap (option_or (missing_name m (to ∷ []))) (missing-append m left (right ++ sources) ∙ ap (option_or (missing_name m left)) (missing-append m right sources)))
     ∙ sym (option_or-five (missing_name m (from ∷ [])) (missing_name m (to ∷ [])) (missing_name m left) (missing_name m right) (missing_name m sources))
+
+-- ---- The first of three that is there
+
+first_some-last : {X : Type 0} (c : Option X) → c ≡ first_some (c ∷ [])
+first_some-last None = refl
+first_some-last (Some x) = refl
+
+pub first_some-second : {X : Type 0} (a b c : Option X) (x : X) → a ≡ None → b ≡ Some x
+    → Some x ≡ first_some (a ∷ b ∷ c ∷ [])
+first_some-second a b c x none some = rw (none, some) refl
+
+pub first_some-third : {X : Type 0} (a b c : Option X) → a ≡ None → b ≡ None
+    → c ≡ first_some (a ∷ b ∷ c ∷ [])
+first_some-third a b c none gone = rw (none, gone) (first_some-last c)

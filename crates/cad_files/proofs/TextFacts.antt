@@ -1,10 +1,13 @@
 -- Records and fields that are written one after another.
 use Rattle.std.proofs.Common.{◌≡◌, ◌∙◌, sym, ap, refl, ℕ, ◌+◌, ◌<◌, ◌≤◌, List, [], ◌∷◌, ◌++◌, map, take, length, get_or, Some, slice_get, append_assoc, append-nil, arith, decimal}
 use Rattle.std.specs.List.{join_with_byte}
-use Rattle.std.proofs.lemmas.List.{map_more, length-map, length-take}
-use Rattle.std.proofs.lemmas.Option.{get_or_from_slice_get}
+use Rattle.std.proofs.lemmas.List.{map_more, take_more, length-map, length-take}
+use Rattle.std.proofs.lemmas.Option.{get_or_from_slice_get, slice_get-get_or}
 use Rattle.std.proofs.lemmas.Grind.{flat_map-append}
-use Rattle.cad_files.specs.Texts.{Record, text_of, record_text, list_field}
+use Rattle.std.specs.Prelude.{IfSome}
+use Rattle.std.specs.Global.{Vec}
+use Rattle.csv.specs.declared.writer.Writer.{Writer}
+use Rattle.cad_files.specs.Texts.{Record, HasAppended, text_of, record_text, list_field}
 
 -- one record more
 pub text_of-more : {X : Type 0} (f : X → Record) (es : List X) (i : ℕ) (e : X) (text : List ℕ) → i < length es → slice_get es i ≡ Some e
@@ -13,6 +16,20 @@ text_of-more f es i e text h at =
     ap (λ (l : List Record). text ++ text_of l) (map_more f es i e h)
     ∙ ap (λ (l : List ℕ). text ++ l) (flat_map-append record_text (map f (take i es)) _ ∙ ap (λ (l : List ℕ). text_of (map f (take i es)) ++ l) (append-nil _ ∙ ap (λ x. record_text (f x)) (get_or_from_slice_get es i e e at)))
     ∙ sym (append_assoc text (text_of (map f (take i es))) (record_text (f e)))
+
+-- the record at this place after those before it
+pub appended-next : (records : List Record) (i : ℕ) {old mid new : Writer (Vec ℕ)} → i < length records
+    → HasAppended (text_of (take i records)) old mid → IfSome (slice_get records i) (λ r. HasAppended (record_text r) mid new)
+    → HasAppended (text_of (take (i + 1) records)) old new
+appended-next records i h before one =
+    let next = get_or records i [] in
+    let step = rw (slice_get-get_or records i [] h) at one in
+    λ text w. rw (
+      take_more records i [] h,
+      flat_map-append record_text (take i records) (next ∷ []),
+      append-nil (record_text next),
+      ← append_assoc text (text_of (take i records)) (record_text next),
+    ) (step _ (before text w))
 
 -- a first and a last record round five lists
 pub text_of-between : (first last : Record) (a b c d e : List Record) → text_of (first ∷ (a ++ (b ++ (c ++ (d ++ (e ++ last ∷ [])))))) ≡ (((((([] ++ record_text first) ++ text_of a) ++ text_of b) ++ text_of c) ++ text_of d) ++ text_of e) ++ record_text last
@@ -51,3 +68,7 @@ list_field-more ns i x d some h is =
 -- two lists and a last record
 pub text_of-two : (last : Record) (a b : List Record) → text_of (a ++ (b ++ last ∷ [])) ≡ (([] ++ text_of a) ++ text_of b) ++ record_text last
 text_of-two last a b = simp (flat_map-append, append_assoc, append-nil)
+
+-- a list and a last record
+pub text_of-one : (last : Record) (a : List Record) → text_of (a ++ last ∷ []) ≡ ([] ++ text_of a) ++ record_text last
+text_of-one last a = simp (flat_map-append, append_assoc, append-nil)

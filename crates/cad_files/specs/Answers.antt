@@ -16,7 +16,8 @@ word_record word = word ∷ [] ∷ [] ∷ [] ∷ [] ∷ [] ∷ [] ∷ []
 
 -- a refusal: its number, its name, a kind and a value
 abbrev pub refused_record : List ℕ → List ℕ → List ℕ → List ℕ → Record
-refused_record number called kind value = codes "refused" ∷ number ∷ called ∷ kind ∷ value ∷ [] ∷ [] ∷ []
+refused_record number called kind value =
+    codes "refused" ∷ number ∷ called ∷ kind ∷ value ∷ [] ∷ [] ∷ []
 
 -- the kind of a name
 abbrev pub kind_of : Name → List ℕ
@@ -52,9 +53,11 @@ refusal_record (told.Retired n) = named_record (codes "4") (codes "retired") (na
 refusal_record told.Outside = refused_record (codes "5") (codes "outside") [] []
 refusal_record told.NoChange = refused_record (codes "6") (codes "no-change") [] []
 refusal_record (told.NotFree n) = named_record (codes "7") (codes "not-free") (name.Point n)
-refusal_record (told.NotDegreeTwo n) = named_record (codes "8") (codes "not-degree-two") (name.Point n)
+refusal_record (told.NotDegreeTwo n) =
+    named_record (codes "8") (codes "not-degree-two") (name.Point n)
 refusal_record told.BadChain = refused_record (codes "9") (codes "bad-chain") [] []
-refusal_record (told.NotInParcel n) = named_record (codes "10") (codes "not-in-parcel") (name.Point n)
+refusal_record (told.NotInParcel n) =
+    named_record (codes "10") (codes "not-in-parcel") (name.Point n)
 refusal_record told.ChainJoinsRings = refused_record (codes "11") (codes "chain-joins-rings") [] []
 refusal_record told.SameParcel = refused_record (codes "12") (codes "same-parcel") [] []
 refusal_record told.NotNeighbours = refused_record (codes "13") (codes "not-neighbours") [] []

@@ -26,7 +26,14 @@ use Rattle.cad_files.specs.declared.faults.PlanFault.TheVariants as faults
 
 -- the map with these rows, in their order, and without rings
 abbrev pub map_of : Rows → Map
-map_of rows = record { sources = rows.sources; points = rows.points; parcels = rows.parcels; strings = map (λ s. s.row) rows.strings; retired = rows.retired; boundaries = [] }
+map_of rows = record {
+  sources = rows.sources;
+  points = rows.points;
+  parcels = rows.parcels;
+  strings = map (λ s. s.row) rows.strings;
+  retired = rows.retired;
+  boundaries = [];
+}
 
 -- the map's rows are the plan's, and its rings those of the plan's strings
 pub record IsMapOf (rows : Rows) (m : Map) : Type 0 where
@@ -38,11 +45,21 @@ pub record IsMapOf (rows : Rows) (m : Map) : Type 0 where
 
 -- a string with its present faces
 abbrev pub plan_string_of : Map → StringRow → PlanString
-plan_string_of m s = record { row = s; left = unwrap_or (left_face m s) Outside; right = unwrap_or (right_face m s) Outside }
+plan_string_of m s = record {
+  row = s;
+  left = unwrap_or (left_face m s) Outside;
+  right = unwrap_or (right_face m s) Outside;
+}
 
 -- the rows of a map, in their order
 abbrev pub rows_of : Map → Rows
-rows_of m = record { sources = m.sources; points = m.points; parcels = m.parcels; strings = map (plan_string_of m) m.strings; retired = m.retired }
+rows_of m = record {
+  sources = m.sources;
+  points = m.points;
+  parcels = m.parcels;
+  strings = map (plan_string_of m) m.strings;
+  retired = m.retired;
+}
 
 -- the first that is there
 abbrev pub first_some : {X : Type 0} → List (Option X) → Option X
@@ -70,11 +87,14 @@ string_taken rows = option_map (λ n. name.String n) (repeated [] (map (λ s. s.
 
 -- the first retired number that a parcel or an earlier retired number has
 unfoldable pub retired_taken : List ParcelRow → List ℕ → Option Name
-retired_taken parcels numbers = option_map (λ n. name.Parcel n) (repeated (map (λ r. r.number) parcels) numbers)
+retired_taken parcels numbers =
+    option_map (λ n. name.Parcel n) (repeated (map (λ r. r.number) parcels) numbers)
 
 -- by kinds: sources, points, parcels, strings, retired numbers
 abbrev pub twice_numbered : Rows → Option Name
-twice_numbered rows = first_some (source_taken rows.sources ∷ point_taken rows.points ∷ parcel_taken rows.parcels ∷ string_taken rows.strings ∷ retired_taken rows.parcels rows.retired ∷ [])
+twice_numbered rows =
+    first_some (source_taken rows.sources ∷ point_taken rows.points ∷ parcel_taken rows.parcels
+    ∷ string_taken rows.strings ∷ retired_taken rows.parcels rows.retired ∷ [])
 
 -- ---- A row that is named and isn't there
 
@@ -96,7 +116,9 @@ names_of_face (Parcel n) = name.Parcel n ∷ []
 
 -- what a string names: its points, its faces, its sources
 abbrev pub string_names : PlanString → List Name
-string_names s = name.Point s.row.from ∷ name.Point s.row.to ∷ (names_of_face s.left ++ (names_of_face s.right ++ sources_named s.row.sources))
+string_names s =
+    name.Point s.row.from ∷ name.Point s.row.to
+    ∷ (names_of_face s.left ++ (names_of_face s.right ++ sources_named s.row.sources))
 
 -- what the strings name
 unfoldable pub strings_name : List PlanString → List Name
@@ -108,13 +130,18 @@ missing_name m names = find (λ n. not (is_there m n)) names
 
 -- by kinds: points, parcels, strings
 abbrev pub unknown_name : Rows → Option Name
-unknown_name rows = first_some (missing_name (map_of rows) (points_name rows.points) ∷ missing_name (map_of rows) (parcels_name rows.parcels) ∷ missing_name (map_of rows) (strings_name rows.strings) ∷ [])
+unknown_name rows =
+    first_some (missing_name (map_of rows) (points_name rows.points)
+    ∷ missing_name (map_of rows) (parcels_name rows.parcels)
+    ∷ missing_name (map_of rows) (strings_name rows.strings) ∷ [])
 
 -- ---- A string that ends nowhere, or has one face on both sides
 
 -- its points are one, or its faces are, or one of its ends is on no other string
 abbrev pub is_dangling : Map → PlanString → Bool
-is_dangling m s = (s.row.from == s.row.to) || is_face s.left s.right || (degree m s.row.from == 1) || (degree m s.row.to == 1)
+is_dangling m s =
+    (s.row.from == s.row.to) || is_face s.left s.right || (degree m s.row.from == 1)
+    || (degree m s.row.to == 1)
 
 -- the number of the first such string
 unfoldable pub dangling : Map → List PlanString → Option ℕ
@@ -125,12 +152,14 @@ dangling m strings = option_map (λ s. s.row.number) (find (is_dangling m) strin
 -- the side stands among earlier ones, or hasn't just one follower, or that of an earlier side to the same point
 abbrev pub is_bad_corner : Map → List Side → Side → Bool
 is_bad_corner m earlier s =
-    has_side s earlier || not (length (followers m s) == 1) || list_any (λ t. (t.1 == s.1) && is_same_list (followers m t) (followers m s)) earlier
+    has_side s earlier || not (length (followers m s) == 1)
+    || list_any (λ t. (t.1 == s.1) && is_same_list (followers m t) (followers m s)) earlier
 
 -- the end of the first such side
 abbrev pub first_bad_corner : Map → List Side → List Side → Option ℕ
 first_bad_corner m earlier [] = None
-first_bad_corner m earlier (s ∷ sides) = if is_bad_corner m earlier s then Some s.1 else first_bad_corner m (s ∷ earlier) sides
+first_bad_corner m earlier (s ∷ sides) =
+    if is_bad_corner m earlier s then Some s.1 else first_bad_corner m (s ∷ earlier) sides
 
 unfoldable pub bad_corner : Map → List PlanString → Option ℕ
 bad_corner m strings = first_bad_corner m [] (map (λ s. s.side) (labelled_sides strings))
@@ -139,11 +168,15 @@ bad_corner m strings = first_bad_corner m [] (map (λ s. s.side) (labelled_sides
 
 -- one of these is the side after it, and has its face
 abbrev pub keeps_face : Map → List LabelledSide → LabelledSide → Bool
-keeps_face m sides s = list_any (λ t. list_any (λ w. is_side (s.side.1, w) t.side) (followers m s.side) && is_face s.face t.face) sides
+keeps_face m sides s =
+    list_any (λ t. list_any (λ w. is_side (s.side.1, w) t.side) (followers m s.side)
+    && is_face s.face t.face) sides
 
 -- the string of the first side that isn't so
 unfoldable pub other_label : Map → List PlanString → Option ℕ
-other_label m strings = option_map (λ s. s.string) (find (λ s. not (keeps_face m (labelled_sides strings) s)) (labelled_sides strings))
+other_label m strings =
+    option_map (λ s. s.string)
+    (find (λ s. not (keeps_face m (labelled_sides strings) s)) (labelled_sides strings))
 
 -- ---- Building
 
@@ -166,4 +199,5 @@ pub record IsBuilt (rows : Rows) (m : Map) : Type 0 where
 -- the fault is the first in the rows, or their map breaks this rule first
 pub data IsBuildFault (rows : Rows) : PlanFault → Type 0 where
   at_once : {fault : PlanFault} → first_fault rows ≡ Some fault → IsBuildFault rows fault
-  breaking : {m : Map} {rule : Rule} → first_fault rows ≡ None → IsMapOf rows m → FirstBroken m rule → IsBuildFault rows (faults.Breaks rule)
+  breaking : {m : Map} {rule : Rule} → first_fault rows ≡ None → IsMapOf rows m → FirstBroken m rule
+      → IsBuildFault rows (faults.Breaks rule)

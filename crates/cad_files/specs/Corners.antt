@@ -20,13 +20,15 @@ HasFollower m s = followers m (plan_side_of s) ≡ s.after ∷ []
 -- of each of these the side after it stands among the sides of the strings, at the place that it tells
 abbrev pub AreLinkedIn : List PlanString → List PlanSide → Type 0
 AreLinkedIn strings sides =
-    AllByRecursion (λ s. slice_get (map (λ l. l.side) (labelled_sides strings)) s.next ≡ Some (s.to, s.after)) sides
+    AllByRecursion (λ s. slice_get (map (λ l. l.side) (labelled_sides strings)) s.next
+    ≡ Some (s.to, s.after)) sides
 
 -- one of these strings leads from one end of the spoke to the other
 pub record IsSpokeOf (strings : List PlanString) (spoke : Spoke) : Type 0 where
   pub string : PlanString
   pub there : slice_get strings spoke.place ≡ Some string
-  pub ends : ((string.row.from ≡ spoke.at) × (string.row.to ≡ spoke.far)) ⊎ ((string.row.from ≡ spoke.far) × (string.row.to ≡ spoke.at))
+  pub ends : ((string.row.from ≡ spoke.at) × (string.row.to ≡ spoke.far))
+      ⊎ ((string.row.from ≡ spoke.far) × (string.row.to ≡ spoke.at))
 
 -- after these sides of the strings comes one to this point that hasn't just one follower
 pub record IsStop (m : Map) (strings : List PlanString) (passed : List PlanSide) (end : ℕ) : Type 0 where
@@ -45,7 +47,8 @@ passed_sides sides = reverse (map plan_side_of sides)
 -- the side is among these, or one of them to the same point has its follower
 abbrev pub is_met : List PlanSide → PlanSide → Bool
 is_met sides s =
-    list_any (λ f. is_side (plan_side_of s) (plan_side_of f) || ((f.to == s.to) && (f.after == s.after))) sides
+    list_any (λ f. is_side (plan_side_of s) (plan_side_of f)
+    || ((f.to == s.to) && (f.after == s.after))) sides
 
 -- none of the first n sides is met among those before it
 abbrev pub NoneMet : List PlanSide → ℕ → Type 0

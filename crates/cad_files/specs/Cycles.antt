@@ -76,7 +76,9 @@ AreLinked sides =
 
 -- the sides of a ring, each with the point after it and the ring's face
 abbrev pub followed_of : Boundary → List FollowedSide
-followed_of b = map (λ (c : Corner). record { from = c.before; to = c.at; after = c.after; face = b.face }) (corners_of b.ring)
+followed_of b =
+    map (λ (c : Corner). record { from = c.before; to = c.at; after = c.after; face = b.face })
+    (corners_of b.ring)
 
 -- those of all these rings
 abbrev pub followed_in : List Boundary → List FollowedSide

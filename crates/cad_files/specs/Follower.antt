@@ -18,7 +18,9 @@ once_each (n ∷ ns) = n ∷ filter (λ k. not (k == n)) (once_each ns)
 -- the point may follow the side: it is not the one that the side comes from, and no other string of the side's end lies in the sector there from the point to that one
 abbrev pub may_follow : Map → Side → ℕ → Bool
 may_follow m s w =
-    not (w == s.0) && list_all (λ t. (far_end t s.1 == w) || not (in_sector (position_of m s.1) (position_of m w) (position_of m s.0) (position_of m (far_end t s.1)))) (strings_at m s.1)
+    not (w == s.0) && list_all (λ t. (far_end t s.1 == w)
+    || not (in_sector (position_of m s.1) (position_of m w) (position_of m s.0)
+    (position_of m (far_end t s.1)))) (strings_at m s.1)
 
 -- the points that follow a side, of those that a string leads to from its end
 unfoldable pub followers : Map → Side → List ℕ
@@ -35,7 +37,9 @@ pub record LabelledSide : Type 0 where
 -- both sides of each string, first the one that leads from its first point to its second
 abbrev pub labelled_sides : List PlanString → List LabelledSide
 labelled_sides strings =
-    flat_map (λ s. record { side = side_of s.row; string = s.row.number; face = s.left } ∷ record { side = opposite (side_of s.row); string = s.row.number; face = s.right } ∷ []) strings
+    flat_map (λ s. record { side = side_of s.row; string = s.row.number; face = s.left }
+    ∷ record { side = opposite (side_of s.row); string = s.row.number; face = s.right }
+    ∷ []) strings
 
 -- ---- Rings
 
@@ -45,6 +49,7 @@ pub record HasRingsOf (m : Map) (strings : List PlanString) : Type 0 where
   -- each side of each string is in one ring, once, and no other side is in any
   pub once : IsPermutation (string_sides m) (all_sides m)
   pub canonical : canonical_order m.boundaries ≡ m.boundaries
-  pub followers : AllByRecursion (λ c. Contains (followers m (c.before, c.at)) c.after) (all_corners m)
+  pub followers : AllByRecursion (λ c. Contains (followers m (c.before, c.at)) c.after)
+      (all_corners m)
   pub left : AllByRecursion (λ s. left_face m s.row ≡ Some s.left) strings
   pub right : AllByRecursion (λ s. right_face m s.row ≡ Some s.right) strings

@@ -42,32 +42,46 @@ pub data Plan : Type 0 where
 
 -- the source's row last, where there is room
 abbrev pub with_source : Rows → SourceRow → Option Rows
-with_source rows row = if nat_lt (length rows.sources) row_limit then Some (record rows { sources = rows.sources ++ row ∷ [] }) else None
+with_source rows row =
+    if nat_lt (length rows.sources) row_limit then
+    Some (record rows { sources = rows.sources ++ row ∷ [] }) else None
 
 -- the point's row last, where its sources are few and there is room
 abbrev pub with_point_record : Rows → PointRecord → Option Rows
 with_point_record rows p =
     if nat_le (length p.sources) source_limit && nat_lt (length rows.points) row_limit then
-    Some (record rows { points = rows.points ++ record { number = p.number; position = record { x = p.x; y = p.y }; sources = p.sources } ∷ [] })
+    Some (record rows {
+      points = rows.points
+          ++ record { number = p.number; position = record { x = p.x; y = p.y }; sources = p.sources }
+          ∷ [];
+    })
     else None
 
 -- the parcel's row last, where its sources are few and there is room
 abbrev pub with_parcel_record : Rows → ParcelRecord → Option Rows
 with_parcel_record rows p =
     if nat_le (length p.sources) source_limit && nat_lt (length rows.parcels) row_limit then
-    Some (record rows { parcels = rows.parcels ++ record { number = p.number; label = p.label; sources = p.sources } ∷ [] })
+    Some (record rows {
+      parcels = rows.parcels
+          ++ record { number = p.number; label = p.label; sources = p.sources } ∷ [];
+    })
     else None
 
 -- the string's row last, with its two faces, where its sources are few and there is room
 abbrev pub with_string_record : Rows → StringRecord → Option Rows
 with_string_record rows s =
     if nat_le (length s.sources) source_limit && nat_lt (length rows.strings) string_limit then
-    Some (record rows { strings = rows.strings ++ record { row = record { number = s.number; from = s.from; to = s.to; sources = s.sources }; left = s.left; right = s.right } ∷ [] })
+    Some (record rows {
+      strings = rows.strings
+          ++ record { row = record { number = s.number; from = s.from; to = s.to; sources = s.sources }; left = s.left; right = s.right } ∷ [];
+    })
     else None
 
 -- the retired number last, where there is room
 abbrev pub with_retired : Rows → ℕ → Option Rows
-with_retired rows n = if nat_lt (length rows.retired) row_limit then Some (record rows { retired = rows.retired ++ n ∷ [] }) else None
+with_retired rows n =
+    if nat_lt (length rows.retired) row_limit then
+    Some (record rows { retired = rows.retired ++ n ∷ [] }) else None
 
 -- the plan goes on with these rows, or a limit is passed
 abbrev pub goes_on : Version → ℕ → Option Rows → Plan
@@ -76,16 +90,21 @@ goes_on version n None = faulty faults.Full
 
 -- a point is looked at for its range before its limits
 abbrev pub point_step : Version → ℕ → Rows → PointRecord → Plan
-point_step version n rows p = if is_within version p.x && is_within version p.y then goes_on version n (with_point_record rows p) else faulty (faults.Range n)
+point_step version n rows p =
+    if is_within version p.x && is_within version p.y then goes_on version n (with_point_record rows p)
+    else faulty (faults.Range n)
 
 -- record number n, after those that gave the rows
 abbrev pub record_step : Version → ℕ → Rows → Option PlanRecord → Plan
 record_step version n rows None = faulty (faults.Syntax n)
 record_step version n rows (Some (records.Source row)) = goes_on version n (with_source rows row)
 record_step version n rows (Some (records.Point point)) = point_step version n rows point
-record_step version n rows (Some (records.Parcel parcel)) = goes_on version n (with_parcel_record rows parcel)
-record_step version n rows (Some (records.String string)) = goes_on version n (with_string_record rows string)
-record_step version n rows (Some (records.Retired number)) = goes_on version n (with_retired rows number)
+record_step version n rows (Some (records.Parcel parcel)) =
+    goes_on version n (with_parcel_record rows parcel)
+record_step version n rows (Some (records.String string)) =
+    goes_on version n (with_string_record rows string)
+record_step version n rows (Some (records.Retired number)) =
+    goes_on version n (with_retired rows number)
 record_step version n rows (Some records.Open) = opened rows
 
 -- the first record: whether it has seven fields, and then whether they begin a plan
@@ -96,7 +115,8 @@ first_step (Some (Some version)) = reading version 1 no_rows
 
 unfoldable pub plan_step : Plan → List (List ℕ) → Plan
 plan_step beginning fields = first_step (option_map version_of (seven_of fields))
-plan_step (reading version n rows) fields = record_step version (n + 1) rows (option_and_then plan_of_fields (seven_of fields))
+plan_step (reading version n rows) fields =
+    record_step version (n + 1) rows (option_and_then plan_of_fields (seven_of fields))
 plan_step (opened rows) fields = passed
 plan_step passed fields = passed
 plan_step (faulty fault) fields = faulty fault
@@ -119,7 +139,8 @@ is_unfinished (faulty fault) = false
 abbrev pub HasPlanFault : List ℕ → PlanFault → Type 0
 HasPlanFault text fault =
     ((rows : List (List (List ℕ))) × BeginsWith text rows × (plan_of rows ≡ faulty fault))
-    ⊎ ((fault ≡ faults.NoOpen) × (rows : List (List (List ℕ))) × IsWhole text rows × (is_unfinished (plan_of rows) ≡ true))
+    ⊎ ((fault ≡ faults.NoOpen) × (rows : List (List (List ℕ))) × IsWhole text rows
+    × (is_unfinished (plan_of rows) ≡ true))
 
 -- the same, where neither the reader nor memory failed
 abbrev pub IsPlanFault : List ℕ → PlanFault → Type 0

@@ -13,5 +13,6 @@ pub record Seven : Type 0 where
 
 -- the fields of a record, where they are seven
 abbrev pub seven_of : List (List ℕ) → Option Seven
-seven_of (kind ∷ a ∷ b ∷ c ∷ d ∷ e ∷ f ∷ []) = Some (record { kind = kind; a = a; b = b; c = c; d = d; e = e; f = f })
+seven_of (kind ∷ a ∷ b ∷ c ∷ d ∷ e ∷ f ∷ []) =
+    Some (record { kind = kind; a = a; b = b; c = c; d = d; e = e; f = f })
 seven_of _ = None

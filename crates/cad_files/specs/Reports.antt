@@ -33,15 +33,23 @@ sign_field (negsuc n) = codes "-"
 
 -- so many hundredths of a square metre, in square metres
 unfoldable pub area_field : ℤ → List ℕ
-area_field h = sign_field h ++ (decimal (unsigned_abs h / 100) ++ (codes "." ++ two_digits (unsigned_abs h % 100)))
+area_field h =
+    sign_field h ++ (decimal (unsigned_abs h / 100)
+    ++ (codes "." ++ two_digits (unsigned_abs h % 100)))
 
 -- a parcel and its doubled area
 abbrev pub area_record : ParcelRow → ℤ → Record
-area_record r a2 = codes "area" ∷ decimal r.number ∷ r.label ∷ signed_decimal a2 ∷ area_field (hundredths_of a2) ∷ [] ∷ [] ∷ []
+area_record r a2 =
+    codes "area" ∷ decimal r.number ∷ r.label ∷ signed_decimal a2 ∷ area_field (hundredths_of a2)
+    ∷ [] ∷ [] ∷ []
+
+-- a parcel of a map, and its doubled area there
+abbrev pub area_record_in : Map → ParcelRow → Record
+area_record_in m r = area_record r (sum_of_face doubled_area m (face.Parcel r.number))
 
 -- each parcel with its area, in order of entry
 abbrev pub area_records : Map → List Record
-area_records m = map (λ r. area_record r (sum_of_face doubled_area m (face.Parcel r.number))) m.parcels ++ end_record ∷ []
+area_records m = map (area_record_in m) m.parcels ++ end_record ∷ []
 
 -- ---- Outlines
 
@@ -58,9 +66,12 @@ outlines_of (face.Parcel n) = 1
 abbrev pub outline_records : Map → Face → List Record
 outline_records m f =
     map (ring_record f (codes "outer")) (filter (is_positive m) (rings_of m f))
-    ++ (map (ring_record f (codes "hole")) (filter (λ r. not (is_positive m r)) (rings_of m f)) ++ end_record ∷ [])
+    ++ (map (ring_record f (codes "hole")) (filter (λ r. not (is_positive m r)) (rings_of m f))
+    ++ end_record ∷ [])
 
 -- the answer to the question for an outline: of an unknown parcel, that it is unknown
 abbrev pub outline_answer : Map → Face → List Record
 outline_answer m face.Outside = outline_records m face.Outside
-outline_answer m (face.Parcel n) = if has_parcel m n then outline_records m (face.Parcel n) else refusal_record (told.Unknown (name.Parcel n)) ∷ []
+outline_answer m (face.Parcel n) =
+    if has_parcel m n then outline_records m (face.Parcel n)
+    else refusal_record (told.Unknown (name.Parcel n)) ∷ []

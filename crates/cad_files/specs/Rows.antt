@@ -22,7 +22,8 @@ no_rows = record { sources = []; points = []; parcels = []; strings = []; retire
 
 -- how many rows there are
 abbrev pub row_count : Rows → ℕ
-row_count rows = length rows.sources + length rows.points + length rows.parcels + length rows.strings + length rows.retired
+row_count rows =
+    length rows.sources + length rows.points + length rows.parcels + length rows.strings + length rows.retired
 
 -- the most rows of all kinds
 abbrev pub plan_limit : ℕ

@@ -29,14 +29,16 @@ fn refused_record(
     kind: &[u8],
     value: &[u8],
 ) -> Result<Vec<u8>, Memory>
-    ensures { IfOk result (λ text. text.items ≡ text_of (refused_record_of no.now called.now kind.now value.now ∷ [])) }
+    ensures { IfOk result (λ text. text.items
+        ≡ text_of (refused_record_of no.now called.now kind.now value.now ∷ [])) }
 {
     one_record(alloc, &[b"refused", no, called, kind, value, b"", b""])
 }
 
 // A refusal that says no row: its number, its name, and perhaps a kind.
 fn refused(alloc: Global, no: &[u8], called: &[u8], kind: &[u8]) -> Result<Vec<u8>, Memory>
-    ensures { IfOk result (λ text. text.items ≡ text_of (refused_record_of no.now called.now kind.now [] ∷ [])) }
+    ensures { IfOk result (λ text. text.items
+        ≡ text_of (refused_record_of no.now called.now kind.now [] ∷ [])) }
 {
     refused_record(alloc, no, called, kind, b"")
 }
@@ -49,7 +51,8 @@ fn refused_row(
     kind: &[u8],
     row: u32,
 ) -> Result<Vec<u8>, Memory>
-    ensures { IfOk result (λ text. text.items ≡ text_of (refused_record_of no.now called.now kind.now (decimal row) ∷ [])) }
+    ensures { IfOk result (λ text. text.items
+        ≡ text_of (refused_record_of no.now called.now kind.now (decimal row) ∷ [])) }
 {
     let value = row.to_string(alloc)?;
     refused_record(alloc, no, called, kind, value.as_bytes())
@@ -57,7 +60,8 @@ fn refused_row(
 
 // A refusal about a row that is named.
 fn refused_name(alloc: Global, no: &[u8], called: &[u8], name: Name) -> Result<Vec<u8>, Memory>
-    ensures { IfOk result (λ text. text.items ≡ text_of (named_record no.now called.now name ∷ [])) }
+    ensures { IfOk result (λ text. text.items
+        ≡ text_of (named_record no.now called.now name ∷ [])) }
 {
     match name {
         Name::Point(row) => refused_row(alloc, no, called, b"point", row.get()),

@@ -1,13 +1,10 @@
 //! The text of the areas of a map's parcels.
-ghost use Rattle.std.specs.Prelude.{◌≡◌, ◌≤◌, ◌<◌, ◌^◌, ◌++◌, ℕ, List, OnOk, IfOk, map, decimal, unsigned_abs};
-ghost use Rattle.geo_exact.specs.Measure.{doubled_area};
-ghost use Rattle.cad_rows.specs.declared.names.Face.TheVariants as face;
-ghost use Rattle.cad_map.specs.Map.{sum_of_face};
+ghost use Rattle.std.specs.Prelude.{◌≡◌, ◌≤◌, ◌<◌, ◌^◌, ◌++◌, OnOk, IfOk, map, unsigned_abs};
 ghost use Rattle.cad_map.specs.Valid.{IsValid};
-ghost use Rattle.cad_files.specs.Texts.{HasWritten, record_text, text_of};
-ghost use Rattle.cad_files.specs.Reports.{hundredths_of, area_field, two_digits, area_record, area_records};
+ghost use Rattle.cad_files.specs.Texts.{HasAppended, record_text, text_of};
+ghost use Rattle.cad_files.specs.Reports.{hundredths_of, area_field, two_digits, area_record, area_record_in, area_records};
 
-use crate::writing::write_record;
+use crate::writing::{finished, write_record};
 use cad_map::{MapView, sum_of};
 use cad_rows::{Face, Memory, ParcelRow};
 use csv::{Writer, WriterBuilder};
@@ -57,7 +54,8 @@ fn write_area(
     a2: i128,
 ) -> Result<(), Memory>
     requires { unsigned_abs a2 ≤ 10 ^ 26 }
-    ensures { OnOk result ((text : List ℕ) → HasWritten text writer.old → HasWritten (text ++ record_text (area_record row.now a2)) writer.new) }
+    ensures { OnOk result
+        (HasAppended (record_text (area_record row.now a2)) writer.old writer.new) }
 {
     let number = row.number.get().to_string(alloc)?;
     let doubled = a2.to_string(alloc)?;
@@ -76,8 +74,9 @@ fn write_areas<M: MapView>(
     view: &M,
 ) -> Result<(), Memory>
     requires { IsValid (M.map view.now) }
-    ensures { OnOk result ((text : List ℕ) → HasWritten text writer.old
-        → HasWritten (text ++ text_of (map (λ r. area_record r (sum_of_face doubled_area (M.map view.now) (face.Parcel r.number))) (M.map view.now).parcels)) writer.new) }
+    ensures { OnOk result
+        (HasAppended (text_of
+        (map (area_record_in (M.map view.now)) (M.map view.now).parcels)) writer.old writer.new) }
 {
     for place in 0..view.counts().parcels {
         let row = view.parcel_at(place).unwrap();
@@ -96,8 +95,6 @@ pub fn area_text<M: MapView>(alloc: Global, view: &M) -> Result<Vec<u8>, Memory>
     let mut writer = WriterBuilder::new().from_writer(Vec::new(alloc));
     write_areas(alloc, &mut writer, view)?;
     write_record(&mut writer, &[b"end", b"", b"", b"", b"", b"", b""])?;
-    match writer.into_inner() {
-        Ok(text) => Ok(text),
-        Err(_) => Err(Memory),
-    }
+    let text = finished(writer)?;
+    Ok(text)
 }

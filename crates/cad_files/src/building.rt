@@ -21,7 +21,8 @@ fn put_sources(plain: &mut PlainMap, rows: &[SourceRow]) -> Result<(), PlanFault
     requires { plain.old ≡ empty_map }
     ensures ok { OnOk result (plain.new ≡ record empty_map { sources = rows.now }) }
     ensures free { OnOk result (source_taken rows.now ≡ None) }
-    ensures err { IfErr result (λ fault. fault ≢ faults.Memory → option_map (λ n. faults.Taken n) (source_taken rows.now) ≡ Some fault) }
+    ensures err { IfErr result (λ fault. fault ≢ faults.Memory
+        → option_map (λ n. faults.Taken n) (source_taken rows.now) ≡ Some fault) }
 {
     for i in 0..rows.len() {
         let row = &rows[i];
@@ -38,7 +39,8 @@ fn put_points(plain: &mut PlainMap, rows: &[PointRow]) -> Result<(), PlanFault>
     requires { plain.old.points ≡ [] }
     ensures ok { OnOk result (plain.new ≡ record plain.old { points = rows.now }) }
     ensures free { OnOk result (point_taken rows.now ≡ None) }
-    ensures err { IfErr result (λ fault. fault ≢ faults.Memory → option_map (λ n. faults.Taken n) (point_taken rows.now) ≡ Some fault) }
+    ensures err { IfErr result (λ fault. fault ≢ faults.Memory
+        → option_map (λ n. faults.Taken n) (point_taken rows.now) ≡ Some fault) }
 {
     for i in 0..rows.len() {
         let row = &rows[i];
@@ -55,7 +57,8 @@ fn put_parcels(plain: &mut PlainMap, rows: &[ParcelRow]) -> Result<(), PlanFault
     requires { plain.old.parcels ≡ [] }
     ensures ok { OnOk result (plain.new ≡ record plain.old { parcels = rows.now }) }
     ensures free { OnOk result (parcel_taken rows.now ≡ None) }
-    ensures err { IfErr result (λ fault. fault ≢ faults.Memory → option_map (λ n. faults.Taken n) (parcel_taken rows.now) ≡ Some fault) }
+    ensures err { IfErr result (λ fault. fault ≢ faults.Memory
+        → option_map (λ n. faults.Taken n) (parcel_taken rows.now) ≡ Some fault) }
 {
     for i in 0..rows.len() {
         let row = &rows[i];
@@ -70,9 +73,11 @@ fn put_parcels(plain: &mut PlainMap, rows: &[ParcelRow]) -> Result<(), PlanFault
 // Puts the rows of the strings into a map without strings, up to one whose number an earlier one has.
 fn put_strings(plain: &mut PlainMap, rows: &[PlanString]) -> Result<(), PlanFault>
     requires { plain.old.strings ≡ [] }
-    ensures ok { OnOk result (plain.new ≡ record plain.old { strings = map (λ s. s.row) rows.now }) }
+    ensures ok { OnOk result (plain.new
+        ≡ record plain.old { strings = map (λ s. s.row) rows.now }) }
     ensures free { OnOk result (string_taken rows.now ≡ None) }
-    ensures err { IfErr result (λ fault. fault ≢ faults.Memory → option_map (λ n. faults.Taken n) (string_taken rows.now) ≡ Some fault) }
+    ensures err { IfErr result (λ fault. fault ≢ faults.Memory
+        → option_map (λ n. faults.Taken n) (string_taken rows.now) ≡ Some fault) }
 {
     for i in 0..rows.len() {
         let string = &rows[i];
@@ -96,7 +101,9 @@ fn put_retired(plain: &mut PlainMap, rows: &[ParcelNo]) -> Result<(), PlanFault>
     requires { plain.old.retired ≡ [] }
     ensures ok { OnOk result (plain.new ≡ record plain.old { retired = rows.now }) }
     ensures free { OnOk result (retired_taken plain.old.parcels rows.now ≡ None) }
-    ensures err { IfErr result (λ fault. fault ≢ faults.Memory → option_map (λ n. faults.Taken n) (retired_taken plain.old.parcels rows.now) ≡ Some fault) }
+    ensures err { IfErr result (λ fault. fault ≢ faults.Memory
+        → option_map (λ n. faults.Taken n) (retired_taken plain.old.parcels rows.now)
+        ≡ Some fault) }
 {
     for i in 0..rows.len() {
         let no = rows[i];
@@ -114,7 +121,8 @@ pub(crate) fn put_rows(plain: &mut PlainMap, rows: &PlanRows) -> Result<(), Plan
     requires { plain.old ≡ empty_map }
     ensures ok { OnOk result (plain.new ≡ map_of rows.now) }
     ensures free { OnOk result (twice_numbered rows.now ≡ None) }
-    ensures err { IfErr result (λ fault. fault ≢ faults.Memory → option_map (λ n. faults.Taken n) (twice_numbered rows.now) ≡ Some fault) }
+    ensures err { IfErr result (λ fault. fault ≢ faults.Memory
+        → option_map (λ n. faults.Taken n) (twice_numbered rows.now) ≡ Some fault) }
 {
     match put_sources(plain, rows.sources.as_slice()) {
         Ok(()) => {}
@@ -144,9 +152,11 @@ pub(crate) fn find_sides(
     requires map { plain.now ≡ map_of rows.now }
     requires free { twice_numbered rows.now ≡ None }
     ensures faultless { OnOk result (first_fault rows.now ≡ None) }
-    ensures sides { IfOk result (λ sides. AreSidesOf plain.now rows.now.strings (map followed_side sides.items)) }
+    ensures sides { IfOk result
+        (λ sides. AreSidesOf plain.now rows.now.strings (map followed_side sides.items)) }
     ensures linked { IfOk result (λ sides. AreLinked sides.items) }
-    ensures err { IfErr result (λ fault. fault ≢ faults.Memory → first_fault rows.now ≡ Some fault) }
+    ensures err { IfErr result (λ fault. fault ≢ faults.Memory
+        → first_fault rows.now ≡ Some fault) }
 {
     if let Some(name) = missing_row(plain, rows) {
         return Err(PlanFault::Unknown(name));

@@ -20,7 +20,8 @@ use std::alloc::Global;
 // The place of the side along a spoke away from its point.
 fn place_along(strings: &[PlanString], spoke: &Spoke) -> usize
     requires { IsSpokeOf strings.now spoke.now }
-    ensures { slice_get (map (λ l. l.side) (labelled_sides strings.now)) result ≡ Some (spoke.now.at, spoke.now.far) }
+    ensures { slice_get (map (λ l. l.side) (labelled_sides strings.now)) result
+        ≡ Some (spoke.now.at, spoke.now.far) }
 {
     if strings[spoke.place].row.from.get() == spoke.at.get() {
         2 * spoke.place
@@ -69,8 +70,10 @@ fn follow_each(
     requires none { passed.old.items ≡ [] }
     ensures each { OnOk result (AllByRecursion (HasFollower plain.now) passed.new.items) }
     ensures linked { OnOk result (AreLinkedIn strings.now passed.new.items) }
-    ensures all { IfOk result (λ stop. IfNone stop (map labelled passed.new.items ≡ labelled_sides strings.now)) }
-    ensures stop { IfOk result (λ stop. IfSome stop (IsStop plain.now strings.now passed.new.items)) }
+    ensures all { IfOk result (λ stop. IfNone stop (map labelled passed.new.items
+        ≡ labelled_sides strings.now)) }
+    ensures stop { IfOk result
+        (λ stop. IfSome stop (IsStop plain.now strings.now passed.new.items)) }
 {
     for i in 0..strings.len() {
         let string = &strings[i];
@@ -103,7 +106,8 @@ pub(crate) fn follow_sides(
     ensures sides { IfOk result (λ sides. map labelled sides.items ≡ labelled_sides strings.now) }
     ensures linked { IfOk result (λ sides. AreLinked sides.items) }
     ensures free { OnOk result (bad_corner plain.now strings.now ≡ None) }
-    ensures err { IfErr result (λ fault. fault ≢ faults.Memory → option_map (λ n. faults.Corner n) (bad_corner plain.now strings.now) ≡ Some fault) }
+    ensures err { IfErr result (λ fault. fault ≢ faults.Memory
+        → option_map (λ n. faults.Corner n) (bad_corner plain.now strings.now) ≡ Some fault) }
 {
     let mut passed = Vec::new(alloc);
     let stop = follow_each(plain, stars, strings, &mut passed)?;

@@ -14,7 +14,8 @@ use std::alloc::Global;
 fn ring_from(alloc: Global, first: PlanSide, rest: &mut SidePool) -> Result<Boundary, Memory>
     requires among { Contains rest.old.all first }
     requires followed { AreFollowed (followed_side first ∷ rest.old.left) }
-    ensures ring { IfOk result (λ b. IsPermutation (followed_side first ∷ rest.old.left) (followed_of b ++ rest.new.left)) }
+    ensures ring { IfOk result
+        (λ b. IsPermutation (followed_side first ∷ rest.old.left) (followed_of b ++ rest.new.left)) }
     ensures two { IfOk result (λ b. 2 ≤ length b.ring) }
     ensures left { IfOk result (λ b. AreFollowed rest.new.left) }
     ensures all { rest.new.all ≡ rest.old.all }
@@ -39,7 +40,8 @@ pub(crate) fn rings_of(alloc: Global, sides: Vec<PlanSide>) -> Result<Vec<Bounda
     requires linked { AreLinked sides.items }
     requires followed { AreFollowed (map followed_side sides.items) }
     // The rings' sides, each with the point after it and the ring's face, are these in another order.
-    ensures rings { IfOk result (λ rings. IsPermutation (map followed_side sides.items) (followed_in rings.items)) }
+    ensures rings { IfOk result
+        (λ rings. IsPermutation (map followed_side sides.items) (followed_in rings.items)) }
     ensures two { IfOk result (λ rings. AllByRecursion (λ b. 2 ≤ length b.ring) rings.items) }
 {
     let mut rest = SidePool::of(alloc, sides)?;

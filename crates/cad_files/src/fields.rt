@@ -3,9 +3,9 @@ ghost use Rattle.std.specs.Prelude.{◌≡◌, ◌<◌, ◌≤◌, ◌^◌, leng
 ghost use Rattle.csv.specs.Records.{fields_of};
 ghost use Rattle.cad_rows.specs.Limits.{IsNumber};
 ghost use Rattle.cad_files.specs.Record.{seven_of};
-ghost use Rattle.cad_files.specs.Fields.{digits_from, starts_well as starts_well_of, magnitude_of, number_of, face_of, coordinate_of, text_of, item_of, are_blank as are_blank_of};
+ghost use Rattle.cad_files.specs.Fields.{digits_from, starts_well as starts_well_of, magnitude_of, number_of, face_of, coordinate_of, text_of, item_of, number_and_text_of, are_blank as are_blank_of};
 
-use cad_rows::{Face, Item, Label, Memory, ParcelNo, PointNo, SourceNo, StringNo};
+use cad_rows::{Face, Item, Label, Memory, Number};
 use csv::ByteRecord;
 use std::alloc::Global;
 use std::marker::Model;
@@ -118,42 +118,12 @@ fn number(text: &[u8]) -> Option<u32>
     }
 }
 
-/// The number of a source.
-pub(crate) fn source_no(text: &[u8]) -> Option<SourceNo>
+/// The number of a row.
+pub(crate) fn row_number<Kind>(text: &[u8]) -> Option<Number<Kind>>
     ensures { result ≡ number_of text.now }
 {
     match number(text) {
-        Some(no) => SourceNo::new(no),
-        None => None,
-    }
-}
-
-/// The number of a point.
-pub(crate) fn point_no(text: &[u8]) -> Option<PointNo>
-    ensures { result ≡ number_of text.now }
-{
-    match number(text) {
-        Some(no) => PointNo::new(no),
-        None => None,
-    }
-}
-
-/// The number of a string.
-pub(crate) fn string_no(text: &[u8]) -> Option<StringNo>
-    ensures { result ≡ number_of text.now }
-{
-    match number(text) {
-        Some(no) => StringNo::new(no),
-        None => None,
-    }
-}
-
-/// The number of a parcel.
-pub(crate) fn parcel_no(text: &[u8]) -> Option<ParcelNo>
-    ensures { result ≡ number_of text.now }
-{
-    match number(text) {
-        Some(no) => ParcelNo::new(no),
+        Some(no) => Number::new(no),
         None => None,
     }
 }
@@ -166,7 +136,7 @@ pub(crate) fn face(text: &[u8]) -> Option<Face>
     if text == b"0".as_slice() {
         return Some(Face::Outside);
     }
-    match parcel_no(text) {
+    match row_number(text) {
         Some(parcel) => Some(Face::Parcel(parcel)),
         None => None,
     }
@@ -203,23 +173,43 @@ pub(crate) fn text(alloc: Global, bytes: &[u8]) -> Result<Option<Label>, Memory>
     }
 }
 
+/// A record's number and its text, where its other fields are unused.
+#[tactic(auto, unfolding(crate::specs::Fields::number_and_text_of))]
+pub(crate) fn number_and_text<Kind>(
+    alloc: Global,
+    r: &Fields<'_>,
+) -> Result<Option<(Number<Kind>, Label)>, Memory>
+    ensures { IfOk result (λ found. found ≡ number_and_text_of r.now) }
+{
+    if !are_blank(&[r.c, r.d, r.e, r.f]) {
+        return Ok(None);
+    }
+    let Some(number) = row_number(r.a) else {
+        return Ok(None);
+    };
+    let Some(text) = text(alloc, r.b)? else {
+        return Ok(None);
+    };
+    Ok(Some((number, text)))
+}
+
 /// An item by the name of its kind, and its number.
 #[tactic(auto, unfolding(crate::specs::Fields::item_of))]
 pub(crate) fn item(kind: &[u8], number: &[u8]) -> Option<Item>
     ensures { result ≡ item_of kind.now number.now }
 {
     if kind == b"point".as_slice() {
-        match point_no(number) {
+        match row_number(number) {
             Some(point) => Some(Item::Point(point)),
             None => None,
         }
     } else if kind == b"string".as_slice() {
-        match string_no(number) {
+        match row_number(number) {
             Some(string) => Some(Item::String(string)),
             None => None,
         }
     } else if kind == b"parcel".as_slice() {
-        match parcel_no(number) {
+        match row_number(number) {
             Some(parcel) => Some(Item::Parcel(parcel)),
             None => None,
         }

@@ -18,9 +18,12 @@ pub enum InputFault {
 
 /// The next record into `row`, and whether there was one. After a fault the reader is not used again.
 pub fn next_row<R: Read>(reader: &mut Reader<R>, row: &mut ByteRecord) -> Result<bool, InputFault>
-    ensures more { IfOk result (λ found. found ≡ true → (text : List ℕ) (rows : List (List (List ℕ))) →
-        HasRead R.remaining text rows reader.old → HasRead R.remaining text (rows ++ fields_of row.new ∷ []) reader.new) }
-    ensures ends { IfOk result (λ found. found ≡ false → (text : List ℕ) (rows : List (List (List ℕ))) →
+    ensures more { IfOk result (λ found. found ≡ true
+        → (text : List ℕ) (rows : List (List (List ℕ))) →
+        HasRead R.remaining text rows reader.old
+        → HasRead R.remaining text (rows ++ fields_of row.new ∷ []) reader.new) }
+    ensures ends { IfOk result (λ found. found ≡ false
+        → (text : List ℕ) (rows : List (List (List ℕ))) →
         HasRead R.remaining text rows reader.old → IsWhole text rows) }
 {
     match reader.read_byte_record(row) {
@@ -34,5 +37,6 @@ pub fn next_row<R: Read>(reader: &mut Reader<R>, row: &mut ByteRecord) -> Result
 
 /// A text has one list of records, and what its records begin with is a front of it.
 pub fn one_reading()
-    ensures { (text : List ℕ) (front whole : List (List (List ℕ))) → BeginsWith text front → IsWhole text whole → (rest : List (List (List ℕ))) × (whole ≡ front ++ rest) }
+    ensures { (text : List ℕ) (front whole : List (List (List ℕ))) → BeginsWith text front
+        → IsWhole text whole → (rest : List (List (List ℕ))) × (whole ≡ front ++ rest) }
 {}

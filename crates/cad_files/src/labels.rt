@@ -12,7 +12,8 @@ use cad_rows::StringNo;
 pub(crate) fn first_other_label(sides: &[PlanSide]) -> Option<StringNo>
     requires once { EachPair (λ a b. a ≢ b) (map plan_side_of sides.now) }
     requires linked { AreLinked sides.now }
-    ensures { result ≡ option_map (λ s. s.string) (find (λ s. not (keeps_face_among sides.now s)) sides.now) }
+    ensures { result ≡ option_map (λ s. s.string)
+        (find (λ s. not (keeps_face_among sides.now s)) sides.now) }
 {
     for i in 0..sides.len() {
         let side = &sides[i];

@@ -40,10 +40,7 @@ fn outline(r: &Fields<'_>) -> Option<Line>
     if !are_blank(&[r.b, r.c, r.d, r.e, r.f]) {
         return None;
     }
-    let Some(face) = face(r.a) else {
-        return None;
-    };
-    Some(Line::Outline(face))
+    Some(Line::Outline(face(r.a)?))
 }
 
 // A line whose record has its kind alone.
@@ -74,7 +71,10 @@ fn line_record(alloc: Global, r: &Fields<'_>) -> Result<Option<Line>, Memory>
     } else if r.kind == b"print".as_slice() {
         Ok(bare(Line::Print, r))
     } else {
-        edit_record(alloc, r)
+        match edit_record(alloc, r)? {
+            Some(edit) => Ok(Some(Line::Command(Command::Edit(edit)))),
+            None => Ok(None),
+        }
     }
 }
 

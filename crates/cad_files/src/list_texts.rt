@@ -2,13 +2,15 @@
 ghost use Rattle.std.specs.Prelude.{◌≡◌, ◌+◌, ◌<◌, ℕ, List, take, length, slice_index_or, IfOk, OnOk};
 ghost use Rattle.cad_files.specs.Texts.{list_field};
 
-use cad_rows::{Memory, PointNo, SourceNo};
+use cad_rows::{Memory, Number};
 use std::alloc::Global;
 
 // Appends the number at a place of a list, with a space before it where it isn't the first.
 fn append_number(alloc: Global, text: &mut Vec<u8>, place: usize, number: u32) -> Result<(), Memory>
-    ensures { OnOk result ((ns : List ℕ) (d : ℕ) → place < length ns → number ≡ slice_index_or ns place d
-        → text.old.items ≡ list_field (take place ns) → text.new.items ≡ list_field (take (place + 1) ns)) }
+    ensures { OnOk result ((ns : List ℕ) (d : ℕ) → place < length ns
+        → number ≡ slice_index_or ns place d
+        → text.old.items ≡ list_field (take place ns)
+        → text.new.items ≡ list_field (take (place + 1) ns)) }
 {
     if place > 0 {
         text.push(b' ')?;
@@ -18,24 +20,13 @@ fn append_number(alloc: Global, text: &mut Vec<u8>, place: usize, number: u32) -
     Ok(())
 }
 
-/// The field of a list of sources.
-pub(crate) fn sources_text(alloc: Global, sources: &[SourceNo]) -> Result<Vec<u8>, Memory>
-    ensures { IfOk result (λ text. text.items ≡ list_field sources.now) }
+/// The field of a list of numbers.
+pub(crate) fn list_text<Kind>(alloc: Global, numbers: &[Number<Kind>]) -> Result<Vec<u8>, Memory>
+    ensures { IfOk result (λ text. text.items ≡ list_field numbers.now) }
 {
     let mut text = Vec::new(alloc);
-    for i in 0..sources.len() {
-        append_number(alloc, &mut text, i, sources[i].get())?;
-    }
-    Ok(text)
-}
-
-/// The field of a list of points.
-pub(crate) fn points_text(alloc: Global, points: &[PointNo]) -> Result<Vec<u8>, Memory>
-    ensures { IfOk result (λ text. text.items ≡ list_field points.now) }
-{
-    let mut text = Vec::new(alloc);
-    for i in 0..points.len() {
-        append_number(alloc, &mut text, i, points[i].get())?;
+    for i in 0..numbers.len() {
+        append_number(alloc, &mut text, i, numbers[i].get())?;
     }
     Ok(text)
 }

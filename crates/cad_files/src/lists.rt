@@ -3,15 +3,17 @@ ghost use Rattle.std.specs.Prelude.{◌≡◌, ◌<◌, ◌==◌, ◌∷◌, [],
 ghost use Rattle.std.specs.List.{list_any, slice_split};
 ghost use Rattle.cad_files.specs.Fields.{numbers_of, distinct_of, is_space, repeated};
 
-use crate::fields::{point_no, source_no, string_no};
-use cad_rows::{Memory, Numbers, PointNo, SourceNo, StringNo};
+use crate::fields::row_number;
+use cad_rows::{Memory, Number, Numbers, SourceNo};
 use std::alloc::Global;
 use std::marker::Model;
 use sweep::first_repeated;
 
 // The text before the first space, and the text after it, where there is one.
 fn first_part(text: &[u8]) -> (&[u8], Option<&[u8]>)
-    ensures parts { MatchOption result.1 (slice_split is_space text.now ≡ result.0.now ∷ []) (λ rest. slice_split is_space text.now ≡ result.0.now ∷ slice_split is_space rest.now) }
+    ensures parts { MatchOption result.1
+        (slice_split is_space text.now ≡ result.0.now ∷ [])
+        (λ rest. slice_split is_space text.now ≡ result.0.now ∷ slice_split is_space rest.now) }
     ensures shorter { MatchOption result.1 (Unit {0}) (λ rest. length rest.now < length text.now) }
 {
     for i in 0..text.len() {
@@ -22,73 +24,29 @@ fn first_part(text: &[u8]) -> (&[u8], Option<&[u8]>)
     (text, None)
 }
 
-// The numbers of sources, with one space between them.
+/// Numbers with one space between them. `None` where the field is no such list. An error where memory
+/// runs out.
 #[tactic(auto, unfolding(crate::specs::Fields::numbers_of))]
-fn source_list(alloc: Global, text: &[u8]) -> Result<Option<Numbers<SourceNo>>, Memory>
+pub(crate) fn number_list<Kind>(
+    alloc: Global,
+    text: &[u8],
+) -> Result<Option<Numbers<Number<Kind>>>, Memory>
     ensures { IfOk result (λ list. list ≡ numbers_of text.now) }
 {
-    let mut sources = Numbers::new(alloc);
+    let mut numbers = Numbers::new(alloc);
     if text.is_empty() {
-        return Ok(Some(sources));
+        return Ok(Some(numbers));
     }
     let mut rest = text;
     loop {
         let (part, more) = first_part(rest);
-        let Some(source) = source_no(part) else {
+        let Some(number) = row_number(part) else {
             return Ok(None);
         };
-        sources.push(source)?;
+        numbers.push(number)?;
         match more {
             Some(more) => rest = more,
-            None => return Ok(Some(sources)),
-        }
-    }
-}
-
-/// The numbers of points, with one space between them. `None` where the field is no such list. An error where memory runs
-/// out.
-#[tactic(auto, unfolding(crate::specs::Fields::numbers_of))]
-pub(crate) fn point_list(alloc: Global, text: &[u8]) -> Result<Option<Numbers<PointNo>>, Memory>
-    ensures { IfOk result (λ list. list ≡ numbers_of text.now) }
-{
-    let mut points = Numbers::new(alloc);
-    if text.is_empty() {
-        return Ok(Some(points));
-    }
-    let mut rest = text;
-    loop {
-        let (part, more) = first_part(rest);
-        let Some(point) = point_no(part) else {
-            return Ok(None);
-        };
-        points.push(point)?;
-        match more {
-            Some(more) => rest = more,
-            None => return Ok(Some(points)),
-        }
-    }
-}
-
-/// The numbers of strings, with one space between them. `None` where the field is no such list. An error where memory runs
-/// out.
-#[tactic(auto, unfolding(crate::specs::Fields::numbers_of))]
-pub(crate) fn string_list(alloc: Global, text: &[u8]) -> Result<Option<Numbers<StringNo>>, Memory>
-    ensures { IfOk result (λ list. list ≡ numbers_of text.now) }
-{
-    let mut strings = Numbers::new(alloc);
-    if text.is_empty() {
-        return Ok(Some(strings));
-    }
-    let mut rest = text;
-    loop {
-        let (part, more) = first_part(rest);
-        let Some(string) = string_no(part) else {
-            return Ok(None);
-        };
-        strings.push(string)?;
-        match more {
-            Some(more) => rest = more,
-            None => return Ok(Some(strings)),
+            None => return Ok(Some(numbers)),
         }
     }
 }
@@ -162,7 +120,8 @@ impl Model for DistinctSources {
 impl DistinctSources {
     // The same sources, or `None` where one stands twice. An error where memory runs out.
     fn new(alloc: Global, list: Numbers<SourceNo>) -> Result<Option<DistinctSources>, Memory>
-        ensures { IfOk result (λ sources. sources ≡ (if is_some (repeated [] list) then None else Some list)) }
+        ensures { IfOk result (λ sources. sources
+            ≡ (if is_some (repeated [] list) then None else Some list)) }
     {
         if has_repeated(alloc, list.as_slice())? {
             return Ok(None);
@@ -194,7 +153,7 @@ pub(crate) fn distinct_sources(
 ) -> Result<Option<DistinctSources>, Memory>
     ensures { IfOk result (λ sources. sources ≡ distinct_of text.now) }
 {
-    match source_list(alloc, text)? {
+    match number_list(alloc, text)? {
         Some(list) => DistinctSources::new(alloc, list),
         None => Ok(None),
     }

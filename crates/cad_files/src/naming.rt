@@ -1,5 +1,6 @@
 //! Rows that a plan's records name.
-ghost use Rattle.std.specs.Prelude.{◌≡◌, ◌∷◌, []};
+ghost use Rattle.std.specs.Prelude.{◌≡◌, ◌∷◌, [], List, flat_map};
+ghost use Rattle.cad_rows.specs.declared.names.Name.{Name as NameOf};
 ghost use Rattle.cad_rows.specs.declared.names.Name.TheVariants as name;
 ghost use Rattle.cad_files.specs.Building.{sources_named, names_of_face, string_names, points_name, parcels_name, strings_name, missing_name, first_some};
 
@@ -45,53 +46,51 @@ fn missing_source(plain: &PlainMap, sources: &[SourceNo]) -> Option<Name>
     None
 }
 
-// The first row that a string names and the map doesn't have: of its points, its faces and its sources.
-fn missing_of_string(plain: &PlainMap, string: &PlanString) -> Option<Name>
-    ensures { result ≡ missing_name plain.now (string_names string.now) }
-{
-    let from = missing_point(plain, string.row.from);
-    let to = missing_point(plain, string.row.to);
-    let left = missing_face(plain, &string.left);
-    let right = missing_face(plain, &string.right);
-    let source = missing_source(plain, string.row.sources.as_slice());
-    from.or(to).or(left).or(right).or(source)
+// A row that names others.
+trait NamesRows {
+    ghost names: { Self → List NameOf };
+
+    // The first row that it names and the map doesn't have.
+    fn first_missing(&self, plain: &PlainMap) -> Option<Name>
+        ensures { result ≡ missing_name plain.now (names self.now) };
 }
 
-// The first row that the points name and the map doesn't have.
-#[tactic(auto, unfolding(crate::specs::Building::points_name))]
-fn missing_of_points(plain: &PlainMap, rows: &[PointRow]) -> Option<Name>
-    ensures { result ≡ missing_name plain.now (points_name rows.now) }
-{
-    for i in 0..rows.len() {
-        let name = missing_source(plain, rows[i].sources.as_slice());
-        if name.is_some() {
-            return name;
-        }
+impl NamesRows for PointRow {
+    ghost names = { λ r. sources_named r.sources };
+
+    fn first_missing(&self, plain: &PlainMap) -> Option<Name> {
+        missing_source(plain, self.sources.as_slice())
     }
-    None
 }
 
-// The first row that the parcels name and the map doesn't have.
-#[tactic(auto, unfolding(crate::specs::Building::parcels_name))]
-fn missing_of_parcels(plain: &PlainMap, rows: &[ParcelRow]) -> Option<Name>
-    ensures { result ≡ missing_name plain.now (parcels_name rows.now) }
-{
-    for i in 0..rows.len() {
-        let name = missing_source(plain, rows[i].sources.as_slice());
-        if name.is_some() {
-            return name;
-        }
+impl NamesRows for ParcelRow {
+    ghost names = { λ r. sources_named r.sources };
+
+    fn first_missing(&self, plain: &PlainMap) -> Option<Name> {
+        missing_source(plain, self.sources.as_slice())
     }
-    None
 }
 
-// The first row that the strings name and the map doesn't have.
-#[tactic(auto, unfolding(crate::specs::Building::strings_name))]
-fn missing_of_strings(plain: &PlainMap, rows: &[PlanString]) -> Option<Name>
-    ensures { result ≡ missing_name plain.now (strings_name rows.now) }
+impl NamesRows for PlanString {
+    ghost names = { string_names };
+
+    // Of its points, its faces and its sources.
+    fn first_missing(&self, plain: &PlainMap) -> Option<Name> {
+        let from = missing_point(plain, self.row.from);
+        let to = missing_point(plain, self.row.to);
+        let left = missing_face(plain, &self.left);
+        let right = missing_face(plain, &self.right);
+        let source = missing_source(plain, self.row.sources.as_slice());
+        from.or(to).or(left).or(right).or(source)
+    }
+}
+
+// The first row that these rows name and the map doesn't have.
+fn missing_among<R: NamesRows>(plain: &PlainMap, rows: &[R]) -> Option<Name>
+    ensures { result ≡ missing_name plain.now (flat_map R.names rows.now) }
 {
     for i in 0..rows.len() {
-        let name = missing_of_string(plain, &rows[i]);
+        let name = rows[i].first_missing(plain);
         if name.is_some() {
             return name;
         }
@@ -101,14 +100,17 @@ fn missing_of_strings(plain: &PlainMap, rows: &[PlanString]) -> Option<Name>
 
 /// The first row that the rows of a plan name and the map doesn't have: what points name comes first, then what parcels
 /// and what strings name.
+#[tactic(auto, unfolding(crate::specs::Building::points_name, crate::specs::Building::parcels_name, crate::specs::Building::strings_name))]
 pub(crate) fn missing_row(plain: &PlainMap, rows: &PlanRows) -> Option<Name>
-    ensures { result ≡ first_some (missing_name plain.now (points_name rows.now.points) ∷ missing_name plain.now (parcels_name rows.now.parcels) ∷ missing_name plain.now (strings_name rows.now.strings) ∷ []) }
+    ensures { result ≡ first_some (missing_name plain.now (points_name rows.now.points)
+        ∷ missing_name plain.now (parcels_name rows.now.parcels)
+        ∷ missing_name plain.now (strings_name rows.now.strings) ∷ []) }
 {
-    if let Some(name) = missing_of_points(plain, rows.points.as_slice()) {
+    if let Some(name) = missing_among(plain, rows.points.as_slice()) {
         return Some(name);
     }
-    if let Some(name) = missing_of_parcels(plain, rows.parcels.as_slice()) {
+    if let Some(name) = missing_among(plain, rows.parcels.as_slice()) {
         return Some(name);
     }
-    missing_of_strings(plain, rows.strings.as_slice())
+    missing_among(plain, rows.strings.as_slice())
 }

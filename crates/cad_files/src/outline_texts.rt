@@ -1,13 +1,13 @@
 //! The text of the outline of a face.
-ghost use Rattle.std.specs.Prelude.{◌≡◌, ◌≤◌, ◌++◌, ◌∷◌, [], ℕ, List, OnOk, IfOk, map, take, drop, length, codes, decimal};
+ghost use Rattle.std.specs.Prelude.{◌≡◌, ◌≤◌, ◌++◌, ◌∷◌, [], OnOk, IfOk, map, take, drop, length, codes};
 ghost use Rattle.cad_map.specs.Valid.{IsValid};
-ghost use Rattle.cad_files.specs.Texts.{HasWritten, record_text, text_of};
+ghost use Rattle.cad_files.specs.Texts.{HasAppended, record_text, text_of};
 ghost use Rattle.cad_files.specs.Reports.{outlines_of, ring_record, end_record, outline_answer};
 
 use crate::answers::answer_text;
-use crate::list_texts::points_text;
+use crate::list_texts::list_text;
 use crate::plan_texts::face_number;
-use crate::writing::write_record;
+use crate::writing::{finished, write_record};
 use cad_history::Answer;
 use cad_map::{MapView, outline};
 use cad_rings::Ring;
@@ -23,10 +23,11 @@ fn write_ring(
     kind: &[u8],
     ring: &Ring,
 ) -> Result<(), Memory>
-    ensures { OnOk result ((text : List ℕ) → HasWritten text writer.old → HasWritten (text ++ record_text (ring_record face.now kind.now ring.now)) writer.new) }
+    ensures { OnOk result
+        (HasAppended (record_text (ring_record face.now kind.now ring.now)) writer.old writer.new) }
 {
     let number = face_number(*face).to_string(alloc)?;
-    let points = points_text(alloc, ring.points())?;
+    let points = list_text(alloc, ring.points())?;
     let number = number.as_bytes();
     let points = points.as_slice();
     write_record(writer, &[b"ring", number, kind, points, b"", b"", b""])
@@ -40,7 +41,9 @@ fn write_rings(
     kind: &[u8],
     rings: &[Ring],
 ) -> Result<(), Memory>
-    ensures { OnOk result ((text : List ℕ) → HasWritten text writer.old → HasWritten (text ++ text_of (map (ring_record face.now kind.now) rings.now)) writer.new) }
+    ensures { OnOk result
+        (HasAppended (text_of
+        (map (ring_record face.now kind.now) rings.now)) writer.old writer.new) }
 {
     for place in 0..rings.len() {
         write_ring(alloc, writer, face, kind, &rings[place])?;
@@ -57,17 +60,17 @@ fn rings_text(
 ) -> Result<Vec<u8>, Memory>
     requires { outlines ≤ length rings.now }
     ensures { IfOk result (λ text. text.items
-        ≡ text_of (map (ring_record face.now (codes "outer")) (take outlines rings.now) ++ (map (ring_record face.now (codes "hole")) (drop outlines rings.now) ++ end_record ∷ []))) }
+        ≡ text_of (map (ring_record face.now (codes "outer")) (take outlines rings.now)
+        ++ (map (ring_record face.now (codes "hole")) (drop outlines rings.now) ++ end_record
+        ∷ []))) }
 {
     let (outer, holes) = rings.split_at(outlines);
     let mut writer = WriterBuilder::new().from_writer(Vec::new(alloc));
     write_rings(alloc, &mut writer, face, b"outer", outer)?;
     write_rings(alloc, &mut writer, face, b"hole", holes)?;
     write_record(&mut writer, &[b"end", b"", b"", b"", b"", b"", b""])?;
-    match writer.into_inner() {
-        Ok(text) => Ok(text),
-        Err(_) => Err(Memory),
-    }
+    let text = finished(writer)?;
+    Ok(text)
 }
 
 // How many rings run around a face of a valid map: none around the outside.

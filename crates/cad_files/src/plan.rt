@@ -55,8 +55,10 @@ fn take_point(
     rows: &mut PlanRows,
     point: PointRecord,
 ) -> Result<(), PlanFault>
-    ensures ok { OnOk result (point_step version count rows.old point ≡ reading version count rows.new) }
-    ensures err { IfErr result (λ fault. fault ≢ faults.Memory → point_step version count rows.old point ≡ faulty fault) }
+    ensures ok { OnOk result (point_step version count rows.old point
+        ≡ reading version count rows.new) }
+    ensures err { IfErr result (λ fault. fault ≢ faults.Memory
+        → point_step version count rows.old point ≡ faulty fault) }
     ensures grows { OnOk result (HasOneMore rows.old rows.new) }
 {
     if !is_within(version, point.x) || !is_within(version, point.y) {
@@ -81,7 +83,8 @@ fn take_point(
 // Takes a parcel into the rows.
 fn take_parcel(rows: &mut PlanRows, parcel: ParcelRecord) -> Result<(), PlanFault>
     ensures ok { OnOk result (with_parcel_record rows.old parcel ≡ Some rows.new) }
-    ensures full { IfErr result (λ fault. fault ≢ faults.Memory → with_parcel_record rows.old parcel ≡ None) }
+    ensures full { IfErr result (λ fault. fault ≢ faults.Memory
+        → with_parcel_record rows.old parcel ≡ None) }
     ensures err { IfErr result (λ fault. fault ≢ faults.Memory → fault ≡ faults.Full) }
     ensures grows { OnOk result (HasOneMore rows.old rows.new) }
 {
@@ -102,7 +105,8 @@ fn take_parcel(rows: &mut PlanRows, parcel: ParcelRecord) -> Result<(), PlanFaul
 // Takes a string into the rows, with the faces on its two sides.
 fn take_string(rows: &mut PlanRows, string: StringRecord) -> Result<(), PlanFault>
     ensures ok { OnOk result (with_string_record rows.old string ≡ Some rows.new) }
-    ensures full { IfErr result (λ fault. fault ≢ faults.Memory → with_string_record rows.old string ≡ None) }
+    ensures full { IfErr result (λ fault. fault ≢ faults.Memory
+        → with_string_record rows.old string ≡ None) }
     ensures err { IfErr result (λ fault. fault ≢ faults.Memory → fault ≡ faults.Full) }
     ensures grows { OnOk result (HasOneMore rows.old rows.new) }
 {
@@ -126,7 +130,8 @@ fn take_string(rows: &mut PlanRows, string: StringRecord) -> Result<(), PlanFaul
 // Takes a retired number into the rows.
 fn take_retired(rows: &mut PlanRows, parcel: ParcelNo) -> Result<(), PlanFault>
     ensures ok { OnOk result (with_retired rows.old parcel ≡ Some rows.new) }
-    ensures full { IfErr result (λ fault. fault ≢ faults.Memory → with_retired rows.old parcel ≡ None) }
+    ensures full { IfErr result (λ fault. fault ≢ faults.Memory
+        → with_retired rows.old parcel ≡ None) }
     ensures err { IfErr result (λ fault. fault ≢ faults.Memory → fault ≡ faults.Full) }
     ensures grows { OnOk result (HasOneMore rows.old rows.new) }
 {
@@ -144,8 +149,10 @@ fn take_record(
     rows: &mut PlanRows,
     found: Option<PlanRecord>,
 ) -> Result<bool, PlanFault>
-    ensures ok { IfOk result (λ more. record_step version count rows.old found ≡ (if more then reading version count rows.new else opened rows.new)) }
-    ensures err { IfErr result (λ fault. fault ≢ faults.Memory → record_step version count rows.old found ≡ faulty fault) }
+    ensures ok { IfOk result (λ more. record_step version count rows.old found
+        ≡ (if more then reading version count rows.new else opened rows.new)) }
+    ensures err { IfErr result (λ fault. fault ≢ faults.Memory
+        → record_step version count rows.old found ≡ faulty fault) }
     ensures grows { IfOk result (λ more. more ≡ true → HasOneMore rows.old rows.new) }
 {
     let Some(record) = found else {
@@ -172,8 +179,11 @@ fn take_row(
     row: &ByteRecord,
 ) -> Result<bool, PlanFault>
     requires { before + 1 < 2 ^ 64 }
-    ensures ok { IfOk result (λ more. plan_step (reading version before rows.old) (fields_of row.now) ≡ (if more then reading version (before + 1) rows.new else opened rows.new)) }
-    ensures err { IfErr result (λ fault. fault ≢ faults.Memory → plan_step (reading version before rows.old) (fields_of row.now) ≡ faulty fault) }
+    ensures ok { IfOk result
+        (λ more. plan_step (reading version before rows.old) (fields_of row.now)
+        ≡ (if more then reading version (before + 1) rows.new else opened rows.new)) }
+    ensures err { IfErr result (λ fault. fault ≢ faults.Memory
+        → plan_step (reading version before rows.old) (fields_of row.now) ≡ faulty fault) }
     ensures grows { IfOk result (λ more. more ≡ true → HasOneMore rows.old rows.new) }
 {
     let Some(fields) = seven(row) else {
@@ -186,7 +196,8 @@ fn take_row(
 // Takes the first record.
 #[tactic(auto, unfolding(crate::specs::Plan::plan_step))]
 fn take_first(row: &ByteRecord) -> Result<Version, PlanFault>
-    ensures ok { IfOk result (λ version. plan_step beginning (fields_of row.now) ≡ reading version 1 no_rows) }
+    ensures ok { IfOk result (λ version. plan_step beginning (fields_of row.now)
+        ≡ reading version 1 no_rows) }
     ensures err { IfErr result (λ fault. plan_step beginning (fields_of row.now) ≡ faulty fault) }
 {
     let Some(fields) = seven(row) else {
@@ -202,8 +213,10 @@ fn take_first(row: &ByteRecord) -> Result<Version, PlanFault>
 /// again.
 pub fn read_plan<R: Read>(alloc: Global, reader: &mut Reader<R>) -> Result<PlanRows, PlanFault>
     ensures ok { IfOk result (λ plan. (text : List ℕ) → HasRead R.remaining text [] reader.old
-        → (rows : List (List (List ℕ))) × HasRead R.remaining text rows reader.new × (plan_of rows ≡ opened plan)) }
-    ensures err { IfErr result (λ fault. (text : List ℕ) → HasRead R.remaining text [] reader.old → IsPlanFault text fault) }
+        → (rows : List (List (List ℕ))) × HasRead R.remaining text rows reader.new
+        × (plan_of rows ≡ opened plan)) }
+    ensures err { IfErr result (λ fault. (text : List ℕ) → HasRead R.remaining text [] reader.old
+        → IsPlanFault text fault) }
 {
     let mut row = ByteRecord::new(alloc);
     match next_row(reader, &mut row) {

@@ -2,9 +2,7 @@
 ghost use Rattle.std.specs.Prelude.{◌≡◌, IfOk};
 ghost use Rattle.cad_files.specs.PlanRecords.{version_of, source_of_fields, point_of_fields, parcel_of_fields, string_of_fields, retired_of_fields, open_of_fields, plan_of_fields};
 
-use crate::fields::{
-    Fields, are_blank, coordinate, face, parcel_no, point_no, source_no, string_no, text,
-};
+use crate::fields::{Fields, are_blank, coordinate, face, number_and_text, row_number, text};
 use crate::lists::{DistinctSources, distinct_sources};
 use cad_rows::{Face, Label, Memory, ParcelNo, PointNo, SourceRow, StringNo};
 use std::alloc::Global;
@@ -78,13 +76,7 @@ pub(crate) fn plan_version(r: &Fields<'_>) -> Option<Version>
 fn source_record(alloc: Global, r: &Fields<'_>) -> Result<Option<PlanRecord>, Memory>
     ensures { IfOk result (λ o. o ≡ source_of_fields r.now) }
 {
-    if !are_blank(&[r.c, r.d, r.e, r.f]) {
-        return Ok(None);
-    }
-    let Some(number) = source_no(r.a) else {
-        return Ok(None);
-    };
-    let Some(text) = text(alloc, r.b)? else {
+    let Some((number, text)) = number_and_text(alloc, r)? else {
         return Ok(None);
     };
     Ok(Some(PlanRecord::Source(SourceRow { number, text })))
@@ -98,7 +90,7 @@ fn point_record(alloc: Global, r: &Fields<'_>) -> Result<Option<PlanRecord>, Mem
     if !are_blank(&[r.e, r.f]) {
         return Ok(None);
     }
-    let Some(number) = point_no(r.a) else {
+    let Some(number) = row_number(r.a) else {
         return Ok(None);
     };
     let Some(x) = coordinate(r.b) else {
@@ -126,7 +118,7 @@ fn parcel_record(alloc: Global, r: &Fields<'_>) -> Result<Option<PlanRecord>, Me
     if !are_blank(&[r.d, r.e, r.f]) {
         return Ok(None);
     }
-    let Some(number) = parcel_no(r.a) else {
+    let Some(number) = row_number(r.a) else {
         return Ok(None);
     };
     let Some(label) = text(alloc, r.b)? else {
@@ -147,13 +139,13 @@ fn parcel_record(alloc: Global, r: &Fields<'_>) -> Result<Option<PlanRecord>, Me
 fn string_record(alloc: Global, r: &Fields<'_>) -> Result<Option<PlanRecord>, Memory>
     ensures { IfOk result (λ o. o ≡ string_of_fields r.now) }
 {
-    let Some(number) = string_no(r.a) else {
+    let Some(number) = row_number(r.a) else {
         return Ok(None);
     };
-    let Some(from) = point_no(r.b) else {
+    let Some(from) = row_number(r.b) else {
         return Ok(None);
     };
-    let Some(to) = point_no(r.c) else {
+    let Some(to) = row_number(r.c) else {
         return Ok(None);
     };
     let Some(left) = face(r.d) else {
@@ -183,10 +175,7 @@ fn retired_record(r: &Fields<'_>) -> Option<PlanRecord>
     if !are_blank(&[r.b, r.c, r.d, r.e, r.f]) {
         return None;
     }
-    match parcel_no(r.a) {
-        Some(parcel) => Some(PlanRecord::Retired(parcel)),
-        None => None,
-    }
+    Some(PlanRecord::Retired(row_number(r.a)?))
 }
 
 // The end of the plan.

@@ -1,14 +1,14 @@
 //! The text of a map's plan.
-ghost use Rattle.std.specs.Prelude.{◌≡◌, ◌++◌, ℕ, List, OnOk, IfOk, map, decimal};
-ghost use Rattle.cad_files.specs.Texts.{HasWritten, record_text, text_of, face_field, source_record, point_record, parcel_record, string_record, retired_record, plan_records};
+ghost use Rattle.std.specs.Prelude.{◌≡◌, ◌<◌, length, slice_get, OnOk, IfOk, IfSome, map, decimal};
+ghost use Rattle.cad_files.specs.Texts.{HasAppended, record_text, text_of, face_field, source_record, point_record, parcel_record, string_record, retired_record, records_of, plan_records};
 ghost use Rattle.cad_map.specs.Map.{Map};
 ghost use Rattle.cad_map.specs.Valid.{IsValid};
 ghost use Rattle.cad_files.specs.Input.{IsWhole};
 ghost use Rattle.cad_files.specs.Plan.{plan_of, opened};
-ghost use Rattle.cad_files.specs.Building.{plan_string_of, rows_of, IsBuilt};
+ghost use Rattle.cad_files.specs.Building.{rows_of, IsBuilt};
 
-use crate::list_texts::sources_text;
-use crate::writing::write_record;
+use crate::list_texts::list_text;
+use crate::writing::{finished, write_record};
 use cad_map::MapView;
 use cad_rows::{Face, Memory, ParcelNo, ParcelRow, PointRow, SourceRow, StringRow};
 use csv::{Writer, WriterBuilder};
@@ -16,7 +16,8 @@ use std::alloc::Global;
 
 // Writes the record of a source.
 fn write_source(alloc: Global, writer: &mut Writer<Vec<u8>>, row: &SourceRow) -> Result<(), Memory>
-    ensures { OnOk result ((text : List ℕ) → HasWritten text writer.old → HasWritten (text ++ record_text (source_record row.now)) writer.new) }
+    ensures { OnOk result
+        (HasAppended (record_text (source_record row.now)) writer.old writer.new) }
 {
     let number = row.number.get().to_string(alloc)?;
     let number = number.as_bytes();
@@ -26,12 +27,12 @@ fn write_source(alloc: Global, writer: &mut Writer<Vec<u8>>, row: &SourceRow) ->
 
 // Writes the record of a point.
 fn write_point(alloc: Global, writer: &mut Writer<Vec<u8>>, row: &PointRow) -> Result<(), Memory>
-    ensures { OnOk result ((text : List ℕ) → HasWritten text writer.old → HasWritten (text ++ record_text (point_record row.now)) writer.new) }
+    ensures { OnOk result (HasAppended (record_text (point_record row.now)) writer.old writer.new) }
 {
     let number = row.number.get().to_string(alloc)?;
     let x = row.position.x.to_string(alloc)?;
     let y = row.position.y.to_string(alloc)?;
-    let sources = sources_text(alloc, row.sources.as_slice())?;
+    let sources = list_text(alloc, row.sources.as_slice())?;
     let number = number.as_bytes();
     let x = x.as_bytes();
     let y = y.as_bytes();
@@ -41,10 +42,11 @@ fn write_point(alloc: Global, writer: &mut Writer<Vec<u8>>, row: &PointRow) -> R
 
 // Writes the record of a parcel.
 fn write_parcel(alloc: Global, writer: &mut Writer<Vec<u8>>, row: &ParcelRow) -> Result<(), Memory>
-    ensures { OnOk result ((text : List ℕ) → HasWritten text writer.old → HasWritten (text ++ record_text (parcel_record row.now)) writer.new) }
+    ensures { OnOk result
+        (HasAppended (record_text (parcel_record row.now)) writer.old writer.new) }
 {
     let number = row.number.get().to_string(alloc)?;
-    let sources = sources_text(alloc, row.sources.as_slice())?;
+    let sources = list_text(alloc, row.sources.as_slice())?;
     let number = number.as_bytes();
     let label = row.label.as_str().as_bytes();
     let sources = sources.as_slice();
@@ -69,14 +71,16 @@ fn write_string(
     left: Face,
     right: Face,
 ) -> Result<(), Memory>
-    ensures { OnOk result ((text : List ℕ) → HasWritten text writer.old → HasWritten (text ++ record_text (string_record (record { row = row.now; left = left; right = right }))) writer.new) }
+    ensures { OnOk result
+        (HasAppended (record_text
+        (string_record (record { row = row.now; left = left; right = right }))) writer.old writer.new) }
 {
     let number = row.number.get().to_string(alloc)?;
     let from = row.from.get().to_string(alloc)?;
     let to = row.to.get().to_string(alloc)?;
     let left = face_number(left).to_string(alloc)?;
     let right = face_number(right).to_string(alloc)?;
-    let sources = sources_text(alloc, row.sources.as_slice())?;
+    let sources = list_text(alloc, row.sources.as_slice())?;
     let number = number.as_bytes();
     let from = from.as_bytes();
     let to = to.as_bytes();
@@ -92,86 +96,80 @@ fn write_retired_number(
     writer: &mut Writer<Vec<u8>>,
     parcel: ParcelNo,
 ) -> Result<(), Memory>
-    ensures { OnOk result ((text : List ℕ) → HasWritten text writer.old → HasWritten (text ++ record_text (retired_record parcel)) writer.new) }
+    ensures { OnOk result
+        (HasAppended (record_text (retired_record parcel)) writer.old writer.new) }
 {
     let number = parcel.get().to_string(alloc)?;
     let number = number.as_bytes();
     write_record(writer, &[b"retired", number, b"", b"", b"", b"", b""])
 }
 
-// Writes a record for each source.
-fn write_sources<M: MapView>(
-    alloc: Global,
-    writer: &mut Writer<Vec<u8>>,
-    view: &M,
-) -> Result<(), Memory>
-    ensures { OnOk result ((text : List ℕ) → HasWritten text writer.old → HasWritten (text ++ text_of (map source_record (M.map view.now).sources)) writer.new) }
-{
-    for place in 0..view.counts().sources {
-        let row = view.source_at(place).unwrap();
-        write_source(alloc, writer, row)?;
-    }
-    Ok(())
+/// The kinds of a map's rows.
+#[derive(Clone, Copy)]
+enum Kind {
+    Sources,
+    Points,
+    Parcels,
+    Strings,
+    Retired,
 }
 
-// Writes a record for each point.
-fn write_points<M: MapView>(
-    alloc: Global,
-    writer: &mut Writer<Vec<u8>>,
-    view: &M,
-) -> Result<(), Memory>
-    ensures { OnOk result ((text : List ℕ) → HasWritten text writer.old → HasWritten (text ++ text_of (map point_record (M.map view.now).points)) writer.new) }
+// How many rows of a kind there are.
+#[tactic(auto, using(std::proofs::lemmas::Grind::common_steps))]
+fn count_of<M: MapView>(view: &M, kind: Kind) -> usize
+    ensures { result ≡ length (records_of (M.map view.now) kind) }
 {
-    for place in 0..view.counts().points {
-        let row = view.point_at(place).unwrap();
-        write_point(alloc, writer, row)?;
+    let counts = view.counts();
+    match kind {
+        Kind::Sources => counts.sources,
+        Kind::Points => counts.points,
+        Kind::Parcels => counts.parcels,
+        Kind::Strings => counts.strings,
+        Kind::Retired => counts.retired,
     }
-    Ok(())
 }
 
-// Writes a record for each parcel.
-fn write_parcels<M: MapView>(
+// Writes the record of the row of a kind at a place, of a string with its present faces.
+#[tactic(auto, using(std::proofs::lemmas::Grind::common_steps))]
+fn write_row<M: MapView>(
     alloc: Global,
     writer: &mut Writer<Vec<u8>>,
     view: &M,
+    kind: Kind,
+    place: usize,
 ) -> Result<(), Memory>
-    ensures { OnOk result ((text : List ℕ) → HasWritten text writer.old → HasWritten (text ++ text_of (map parcel_record (M.map view.now).parcels)) writer.new) }
+    requires valid { IsValid (M.map view.now) }
+    requires there { place < length (records_of (M.map view.now) kind) }
+    ensures { OnOk result
+        (IfSome (slice_get (records_of (M.map view.now) kind) place)
+        (λ r. HasAppended (record_text r) writer.old writer.new)) }
 {
-    for place in 0..view.counts().parcels {
-        let row = view.parcel_at(place).unwrap();
-        write_parcel(alloc, writer, row)?;
+    match kind {
+        Kind::Sources => write_source(alloc, writer, view.source_at(place).unwrap()),
+        Kind::Points => write_point(alloc, writer, view.point_at(place).unwrap()),
+        Kind::Parcels => write_parcel(alloc, writer, view.parcel_at(place).unwrap()),
+        Kind::Strings => {
+            let row = view.string_at(place).unwrap();
+            let (left, right) = view.left_right(row.number).unwrap();
+            write_string(alloc, writer, row, left, right)
+        }
+        Kind::Retired => write_retired_number(alloc, writer, view.retired_at(place).unwrap()),
     }
-    Ok(())
 }
 
-// Writes a record for each string, with its present faces.
-fn write_strings<M: MapView>(
+// Writes a record for each row of a kind.
+fn write_rows<M: MapView>(
     alloc: Global,
     writer: &mut Writer<Vec<u8>>,
     view: &M,
+    kind: Kind,
 ) -> Result<(), Memory>
     requires { IsValid (M.map view.now) }
-    ensures { OnOk result ((text : List ℕ) → HasWritten text writer.old → HasWritten (text ++ text_of (map (λ s. string_record (plan_string_of (M.map view.now) s)) (M.map view.now).strings)) writer.new) }
+    ensures { OnOk result
+        (HasAppended (text_of (records_of (M.map view.now) kind)) writer.old writer.new) }
 {
-    for place in 0..view.counts().strings {
-        let row = view.string_at(place).unwrap();
-        let (left, right) = view.left_right(row.number).unwrap();
-        write_string(alloc, writer, row, left, right)?;
-    }
-    Ok(())
-}
-
-// Writes a record for each retired number.
-fn write_retired<M: MapView>(
-    alloc: Global,
-    writer: &mut Writer<Vec<u8>>,
-    view: &M,
-) -> Result<(), Memory>
-    ensures { OnOk result ((text : List ℕ) → HasWritten text writer.old → HasWritten (text ++ text_of (map retired_record (M.map view.now).retired)) writer.new) }
-{
-    for place in 0..view.counts().retired {
-        let parcel = view.retired_at(place).unwrap();
-        write_retired_number(alloc, writer, parcel)?;
+    for place in 0..count_of(view, kind) {
+        write_row(alloc, writer, view, kind, place)?;
     }
     Ok(())
 }
@@ -184,16 +182,14 @@ pub fn plan_text<M: MapView>(alloc: Global, view: &M) -> Result<Vec<u8>, Memory>
 {
     let mut writer = WriterBuilder::new().from_writer(Vec::new(alloc));
     write_record(&mut writer, &[b"plan", b"2", b"", b"", b"", b"", b""])?;
-    write_sources(alloc, &mut writer, view)?;
-    write_points(alloc, &mut writer, view)?;
-    write_parcels(alloc, &mut writer, view)?;
-    write_strings(alloc, &mut writer, view)?;
-    write_retired(alloc, &mut writer, view)?;
+    write_rows(alloc, &mut writer, view, Kind::Sources)?;
+    write_rows(alloc, &mut writer, view, Kind::Points)?;
+    write_rows(alloc, &mut writer, view, Kind::Parcels)?;
+    write_rows(alloc, &mut writer, view, Kind::Strings)?;
+    write_rows(alloc, &mut writer, view, Kind::Retired)?;
     write_record(&mut writer, &[b"open", b"", b"", b"", b"", b"", b""])?;
-    match writer.into_inner() {
-        Ok(text) => Ok(text),
-        Err(_) => Err(Memory),
-    }
+    let text = finished(writer)?;
+    Ok(text)
 }
 
 /// The text of a map's plan is read as its records; those of a valid map give its rows again, in their

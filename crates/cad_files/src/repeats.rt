@@ -19,7 +19,8 @@ fn key(first: PointNo, second: PointNo) -> u64
 // The points that each of these sides leads from and to.
 fn side_keys(alloc: Global, sides: &[PlanSide]) -> Result<Vec<u64>, Memory>
     ensures keys { IfOk result (λ keys. keys.items ≡ map (λ s. key_of (s.from, s.to)) sides.now) }
-    ensures small { IfOk result (λ keys. AllByRecursion (λ s. (s.from < 2 ^ 32) × (s.to < 2 ^ 32)) sides.now) }
+    ensures small { IfOk result (λ keys. AllByRecursion (λ s. (s.from < 2 ^ 32)
+        × (s.to < 2 ^ 32)) sides.now) }
 {
     let mut keys = Vec::with_capacity(alloc, sides.len())?;
     for i in 0..sides.len() {
@@ -31,7 +32,8 @@ fn side_keys(alloc: Global, sides: &[PlanSide]) -> Result<Vec<u64>, Memory>
 // The point that each of these sides leads to, and the one that follows.
 fn follower_keys(alloc: Global, sides: &[PlanSide]) -> Result<Vec<u64>, Memory>
     ensures keys { IfOk result (λ keys. keys.items ≡ map (λ s. key_of (s.to, s.after)) sides.now) }
-    ensures small { IfOk result (λ keys. AllByRecursion (λ s. (s.to < 2 ^ 32) × (s.after < 2 ^ 32)) sides.now) }
+    ensures small { IfOk result (λ keys. AllByRecursion (λ s. (s.to < 2 ^ 32)
+        × (s.after < 2 ^ 32)) sides.now) }
 {
     let mut keys = Vec::with_capacity(alloc, sides.len())?;
     for i in 0..sides.len() {

@@ -65,7 +65,8 @@ impl PlanRows {
     // Puts a source last.
     pub(crate) fn put_source(&mut self, row: SourceRow) -> Result<(), Memory>
         requires { length self.old.sources < row_limit }
-        ensures ok { OnOk result (self.new ≡ record self.old { sources = self.old.sources ++ row ∷ [] }) }
+        ensures ok { OnOk result
+            (self.new ≡ record self.old { sources = self.old.sources ++ row ∷ [] }) }
         ensures err { OnErr result (self.new ≡ self.old) }
         ensures more { OnOk result (HasOneMore self.old self.new) }
     {
@@ -77,7 +78,8 @@ impl PlanRows {
     pub(crate) fn put_point(&mut self, row: PointRow) -> Result<(), Memory>
         requires room { length self.old.points < row_limit }
         requires sources { IsSourceList row.sources }
-        ensures ok { OnOk result (self.new ≡ record self.old { points = self.old.points ++ row ∷ [] }) }
+        ensures ok { OnOk result
+            (self.new ≡ record self.old { points = self.old.points ++ row ∷ [] }) }
         ensures err { OnErr result (self.new ≡ self.old) }
         ensures more { OnOk result (HasOneMore self.old self.new) }
     {
@@ -89,7 +91,8 @@ impl PlanRows {
     pub(crate) fn put_parcel(&mut self, row: ParcelRow) -> Result<(), Memory>
         requires room { length self.old.parcels < row_limit }
         requires sources { IsSourceList row.sources }
-        ensures ok { OnOk result (self.new ≡ record self.old { parcels = self.old.parcels ++ row ∷ [] }) }
+        ensures ok { OnOk result
+            (self.new ≡ record self.old { parcels = self.old.parcels ++ row ∷ [] }) }
         ensures err { OnErr result (self.new ≡ self.old) }
         ensures more { OnOk result (HasOneMore self.old self.new) }
     {
@@ -101,7 +104,8 @@ impl PlanRows {
     pub(crate) fn put_string(&mut self, string: PlanString) -> Result<(), Memory>
         requires room { length self.old.strings < string_limit }
         requires sources { IsSourceList string.row.sources }
-        ensures ok { OnOk result (self.new ≡ record self.old { strings = self.old.strings ++ string ∷ [] }) }
+        ensures ok { OnOk result
+            (self.new ≡ record self.old { strings = self.old.strings ++ string ∷ [] }) }
         ensures err { OnErr result (self.new ≡ self.old) }
         ensures more { OnOk result (HasOneMore self.old self.new) }
     {
@@ -112,7 +116,8 @@ impl PlanRows {
     // Puts a retired number last.
     pub(crate) fn put_retired(&mut self, parcel: ParcelNo) -> Result<(), Memory>
         requires { length self.old.retired < row_limit }
-        ensures ok { OnOk result (self.new ≡ record self.old { retired = self.old.retired ++ parcel ∷ [] }) }
+        ensures ok { OnOk result
+            (self.new ≡ record self.old { retired = self.old.retired ++ parcel ∷ [] }) }
         ensures err { OnErr result (self.new ≡ self.old) }
         ensures more { OnOk result (HasOneMore self.old self.new) }
     {

@@ -37,8 +37,10 @@ fn first_unset(flags: &[bool], from: usize) -> Option<usize>
     ensures past { IfSome result (λ k. from ≤ k) }
     ensures within { IfSome result (λ k. k < length flags.now) }
     ensures at { IfSome result (λ k. slice_get flags.now k ≡ Some false) }
-    ensures before { IfSome result (λ k. (j : ℕ) → from ≤ j → j < k → slice_get flags.now j ≡ Some true) }
-    ensures none { IfNone result ((j : ℕ) → from ≤ j → j < length flags.now → slice_get flags.now j ≡ Some true) }
+    ensures before { IfSome result (λ k. (j : ℕ) → from ≤ j → j < k
+        → slice_get flags.now j ≡ Some true) }
+    ensures none { IfNone result ((j : ℕ) → from ≤ j → j < length flags.now
+        → slice_get flags.now j ≡ Some true) }
 {
     for place in from..flags.len() {
         if !flags[place] {
@@ -70,7 +72,8 @@ impl SidePool {
     /// Takes the first side that is left.
     pub(crate) fn take_first(&mut self) -> Option<PlanSide>
         ensures among { IfSome result (λ s. Contains self.old.all s) }
-        ensures some { IfSome result (λ s. IsPermutation self.old.left (followed_side s ∷ self.new.left)) }
+        ensures some { IfSome result (λ s. IsPermutation self.old.left (followed_side s
+            ∷ self.new.left)) }
         ensures none { IfNone result ((self.old.left ≡ []) × (self.new ≡ self.old)) }
         ensures all { self.new.all ≡ self.old.all }
     {
@@ -86,8 +89,11 @@ impl SidePool {
     pub(crate) fn take_next(&mut self, last: &PlanSide) -> Option<PlanSide>
         requires { Contains self.old.all last.now }
         ensures among { IfSome result (λ s. Contains self.old.all s) }
-        ensures some { IfSome result (λ s. (plan_side_of s ≡ side_behind (followed_side last.now)) × IsPermutation self.old.left (followed_side s ∷ self.new.left)) }
-        ensures none { IfNone result (AllByRecursion (λ s. side_of_followed s ≢ side_behind (followed_side last.now)) self.old.left × (self.new ≡ self.old)) }
+        ensures some { IfSome result (λ s. (plan_side_of s ≡ side_behind (followed_side last.now))
+            × IsPermutation self.old.left (followed_side s ∷ self.new.left)) }
+        ensures none { IfNone result
+            (AllByRecursion (λ s. side_of_followed s ≢ side_behind (followed_side last.now)) self.old.left
+            × (self.new ≡ self.old)) }
         ensures all { self.new.all ≡ self.old.all }
     {
         let next = last.next;

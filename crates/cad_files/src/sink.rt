@@ -23,13 +23,17 @@ pub trait Sink {
     /// empty is a failed call.
     fn write(&mut self, bytes: &[u8]) -> Result<usize, SinkFault>
         ensures within { IfOk result (λ n. n ≤ length bytes.now) }
-        ensures taken { MatchResult result (λ n. Appends (taken self.old) (taken self.new) (take n bytes.now)) (λ _. Keeps (taken self.old) (taken self.new)) }
-        ensures failures { failures self.new ≡ (if fails_with result bytes.now then counted_up (failures self.old) else failures self.old) };
+        ensures taken { MatchResult result
+            (λ n. Appends (taken self.old) (taken self.new) (take n bytes.now))
+            (λ _. Keeps (taken self.old) (taken self.new)) }
+        ensures failures { failures self.new ≡ (if fails_with result bytes.now then
+            counted_up (failures self.old) else failures self.old) };
 
     /// Sends on what was taken.
     fn flush(&mut self) -> Result<(), SinkFault>
         ensures taken { Keeps (taken self.old) (taken self.new) }
-        ensures failures { failures self.new ≡ (if is_err result then counted_up (failures self.old) else failures self.old) };
+        ensures failures { failures self.new ≡ (if is_err result then counted_up (failures self.old)
+            else failures self.old) };
 }
 
 /// A sink that keeps its bytes in memory, and fails from a call on.
@@ -77,8 +81,11 @@ impl Sink for MemSink {
 
     fn write(&mut self, bytes: &[u8]) -> Result<usize, SinkFault>
         ensures within { IfOk result (λ n. n ≤ length bytes.now) }
-        ensures taken { MatchResult result (λ n. Appends (Some self.old.bytes) (Some self.new.bytes) (take n bytes.now)) (λ _. Keeps (Some self.old.bytes) (Some self.new.bytes)) }
-        ensures failures { self.new.failures ≡ (if fails_with result bytes.now then counted_up self.old.failures else self.old.failures) }
+        ensures taken { MatchResult result
+            (λ n. Appends (Some self.old.bytes) (Some self.new.bytes) (take n bytes.now))
+            (λ _. Keeps (Some self.old.bytes) (Some self.new.bytes)) }
+        ensures failures { self.new.failures ≡ (if fails_with result bytes.now then
+            counted_up self.old.failures else self.old.failures) }
         ensures whole { IfOk result (λ n. n ≡ length bytes.now) }
         ensures calls { self.new.calls ≡ counted_up self.old.calls }
         ensures fails { self.old.fails_from ≤ counted_up self.old.calls → IsErr result }
@@ -94,7 +101,8 @@ impl Sink for MemSink {
 
     fn flush(&mut self) -> Result<(), SinkFault>
         ensures taken { Keeps (Some self.old.bytes) (Some self.new.bytes) }
-        ensures failures { self.new.failures ≡ (if is_err result then counted_up self.old.failures else self.old.failures) }
+        ensures failures { self.new.failures ≡ (if is_err result then counted_up self.old.failures
+            else self.old.failures) }
         ensures calls { self.new.calls ≡ counted_up self.old.calls }
         ensures fails { IsErr result ↔ (self.old.fails_from ≤ counted_up self.old.calls) }
         ensures limit { self.new.fails_from ≡ self.old.fails_from }
@@ -111,7 +119,8 @@ impl Sink for MemSink {
 /// Writes all the bytes, by as many calls as it takes.
 pub fn write_all<S: Sink>(sink: &mut S, bytes: &[u8]) -> Result<(), SinkFault>
     ensures ok { OnOk result (Appends (S.taken sink.old) (S.taken sink.new) bytes.now) }
-    ensures err { OnErr result ((front : List ℕ) × IsFront front bytes.now × Appends (S.taken sink.old) (S.taken sink.new) front) }
+    ensures err { OnErr result ((front : List ℕ) × IsFront front bytes.now
+        × Appends (S.taken sink.old) (S.taken sink.new) front) }
     ensures failed { OnErr result (S.failures sink.new ≡ counted_up (S.failures sink.old)) }
     ensures passed { OnOk result (S.failures sink.new ≡ S.failures sink.old) }
 {

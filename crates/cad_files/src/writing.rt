@@ -1,6 +1,6 @@
 //! Writing records.
-ghost use Rattle.std.specs.Prelude.{◌≡◌, ◌∷◌, [], ◌++◌, ℕ, List, OnOk, IfOk, map};
-ghost use Rattle.cad_files.specs.Texts.{HasWritten, record_text, text_of};
+ghost use Rattle.std.specs.Prelude.{◌≡◌, ◌∷◌, [], ℕ, List, OnOk, IfOk, map};
+ghost use Rattle.cad_files.specs.Texts.{HasWritten, HasAppended, record_text, text_of};
 
 use cad_rows::Memory;
 use csv::{Writer, WriterBuilder};
@@ -24,10 +24,22 @@ pub(crate) fn one_record(alloc: Global, fields: &[&[u8]]) -> Result<Vec<u8>, Mem
 /// Writes one record more.
 #[tactic(auto, unfolding(crate::specs::Texts::record_text))]
 pub(crate) fn write_record(writer: &mut Writer<Vec<u8>>, fields: &[&[u8]]) -> Result<(), Memory>
-    ensures { OnOk result ((text : List ℕ) → HasWritten text writer.old → HasWritten (text ++ record_text (map (λ f. f.now) fields.now)) writer.new) }
+    ensures { OnOk result
+        (HasAppended (record_text (map (λ f. f.now) fields.now)) writer.old writer.new) }
 {
     match writer.write_fields(fields) {
         Ok(()) => Ok(()),
+        Err(_) => Err(Memory),
+    }
+}
+
+/// The text that was written.
+pub(crate) fn finished(writer: Writer<Vec<u8>>) -> Result<Vec<u8>, Memory>
+    ensures { IfOk result (λ text. (written : List ℕ) → HasWritten written writer
+        → text.items ≡ written) }
+{
+    match writer.into_inner() {
+        Ok(text) => Ok(text),
         Err(_) => Err(Memory),
     }
 }
