@@ -1,7 +1,8 @@
 //! A worked job, and what becomes of it.
-use cad_files::MemSink;
+use cad_files::{MemSink, PlanFault};
 use cad_history::Depth;
 use cad_job::{JobFault, run_job};
+use cad_rows::Number;
 use std::alloc::Global;
 use std::process::Abort;
 use std::test::Fail;
@@ -11,10 +12,41 @@ use std::test::Fail;
 /// fields.
 #[derive(Drop)]
 pub(crate) struct Case {
-    pub name: &'static str,
-    pub job: &'static [&'static str],
-    pub answers: &'static [&'static str],
-    pub end: Result<(), JobFault>,
+    name: &'static str,
+    job: &'static [&'static str],
+    answers: &'static [&'static str],
+    end: Result<(), JobFault>,
+}
+
+/// A job that is read to its end, and its answers.
+pub(crate) fn answered(
+    name: &'static str,
+    job: &'static [&'static str],
+    answers: &'static [&'static str],
+) -> Case {
+    let end = Ok(());
+    Case {
+        name,
+        job,
+        answers,
+        end,
+    }
+}
+
+/// A job whose plan has a fault, and that writes nothing.
+pub(crate) fn faulty(name: &'static str, job: &'static [&'static str], fault: PlanFault) -> Case {
+    let end = Err(JobFault::Plan(fault));
+    Case {
+        name,
+        job,
+        answers: &[],
+        end,
+    }
+}
+
+/// A number of any kind.
+pub(crate) fn number<Kind, R: Abort>(rt: &R, no: u32) -> Number<Kind> {
+    Number::new(no).expect(rt, "a number")
 }
 
 /// A depth of history that no case but those on depth reaches.

@@ -1,6 +1,6 @@
 //! Closed chains made islands: in the outside, in a parcel, round another island, and what is refused.
 use crate::bases::{ISLAND, OPEN, PLAN, PRINTED, SQUARE};
-use crate::cases::{Case, check};
+use crate::cases::{answered, check};
 use std::test::Fail;
 
 // A source and four points, with nothing between them.
@@ -11,16 +11,16 @@ const FOUR: &str =
 #[test]
 fn islands_enclosed(rt: HostRuntime) -> Result<(), Fail> {
     let cases = [
-        Case {
-            name: "the first parcel of an empty map",
-            job: &[
+        answered(
+            "the first parcel of an empty map",
+            &[
                 PLAN,
                 OPEN,
                 FOUR,
                 "enclose,0,4 3 2 1,11 12 13 14,1,A,1; enclose,0,1 2 3 4,11 12 13 14,1,A,1; areas",
                 "outline,0; undo; redo; print",
             ],
-            answers: &[
+            &[
                 "ok; ok; ok; ok; ok; refused,18,breaks,V7; ok; area,1,A,2000000,1.00; end",
                 "ring,0,hole,1 4 3 2; end; ok; ok",
                 PRINTED,
@@ -29,11 +29,10 @@ fn islands_enclosed(rt: HostRuntime) -> Result<(), Fail> {
                 "string,14,4,1,1,0,1",
                 OPEN,
             ],
-            end: Ok(()),
-        },
-        Case {
-            name: "a parcel round an island, in the one face that fits, and undone",
-            job: &[
+        ),
+        answered(
+            "a parcel round an island, in the one face that fits, and undone",
+            &[
                 PLAN,
                 SQUARE,
                 ISLAND,
@@ -43,7 +42,7 @@ fn islands_enclosed(rt: HostRuntime) -> Result<(), Fail> {
                 "enclose,0,9 10 11 12,41 42 43 44,3,C,1; enclose,1,9 10 11 12,41 42 43 44,3,C,1",
                 "outline,1; outline,3; areas; undo; print",
             ],
-            answers: &[
+            &[
                 "ok; ok; ok; ok; refused,18,breaks,V8; refused,18,breaks,V8; ok; ring,1,outer,1 2 3 4",
                 "ring,1,hole,9 12 11 10; end; ring,3,outer,9 10 11 12; ring,3,hole,6 8 7; end",
                 "area,1,A,1640000,0.82; area,2,B,20000,0.01; area,3,C,340000,0.17; end; ok",
@@ -55,11 +54,10 @@ fn islands_enclosed(rt: HostRuntime) -> Result<(), Fail> {
                 "string,32,7,8,2,1; string,33,8,6,2,1",
                 OPEN,
             ],
-            end: Ok(()),
-        },
-        Case {
-            name: "a face where the points don't lie, and a list that runs clockwise",
-            job: &[
+        ),
+        answered(
+            "a face where the points don't lie, and a list that runs clockwise",
+            &[
                 PLAN,
                 SQUARE,
                 ISLAND,
@@ -68,26 +66,22 @@ fn islands_enclosed(rt: HostRuntime) -> Result<(), Fail> {
                 "enclose,0,9 10 11,41 42 43,3,C,1; enclose,2,9 10 11,41 42 43,3,C,1",
                 "enclose,1,11 10 9,41 42 43,3,C,1; enclose,1,11 9 10,41 42 43,3,C,1; outline,3",
             ],
-            answers: &[
+            &[
                 "ok; ok; ok; refused,18,breaks,V8; refused,18,breaks,V8; refused,18,breaks,V7; ok",
                 "ring,3,outer,9 10 11; end",
             ],
-            end: Ok(()),
-        },
-        Case {
-            name: "islands of the outside in order of their numbers",
-            job: &[
+        ),
+        answered(
+            "islands of the outside in order of their numbers",
+            &[
                 PLAN,
                 OPEN,
                 "add-source,1,S; add-point,10,0,0; add-point,11,10,0; add-point,12,0,10",
                 "add-point,9,100,0; add-point,20,110,0; add-point,21,100,10",
                 "enclose,0,10 11 12,1 2 3,1,A,1; enclose,0,9 20 21,4 5 6,2,B,1; outline,0",
             ],
-            answers: &[
-                "ok; ok; ok; ok; ok; ok; ok; ok; ok; ring,0,hole,9 21 20; ring,0,hole,10 12 11; end",
-            ],
-            end: Ok(()),
-        },
+            &["ok; ok; ok; ok; ok; ok; ok; ok; ok; ring,0,hole,9 21 20; ring,0,hole,10 12 11; end"],
+        ),
     ];
     check(&rt, &cases)
 }
@@ -95,9 +89,9 @@ fn islands_enclosed(rt: HostRuntime) -> Result<(), Fail> {
 #[test]
 fn enclosures_refused(rt: HostRuntime) -> Result<(), Fail> {
     let cases = [
-        Case {
-            name: "a point on strings, and a list that is too short",
-            job: &[
+        answered(
+            "a point on strings, and a list that is too short",
+            &[
                 PLAN,
                 SQUARE,
                 OPEN,
@@ -105,15 +99,14 @@ fn enclosures_refused(rt: HostRuntime) -> Result<(), Fail> {
                 "enclose,1,2,21,2,C,1; add-point,5,500,500; add-point,6,600,500",
                 "enclose,1,5 6,21 22,2,C,1",
             ],
-            answers: &[
+            &[
                 "refused,7,not-free,point,1; refused,7,not-free,point,1; refused,9,bad-chain",
                 "refused,7,not-free,point,2; ok; ok; refused,9,bad-chain",
             ],
-            end: Ok(()),
-        },
-        Case {
-            name: "unknown names, numbers in use, a retired number, and lists that are no closed chain",
-            job: &[
+        ),
+        answered(
+            "unknown names, numbers in use, a retired number, and lists that are no closed chain",
+            &[
                 PLAN,
                 SQUARE,
                 "point,5,500,500; point,6,600,500; point,7,600,600; retired,7",
@@ -124,16 +117,15 @@ fn enclosures_refused(rt: HostRuntime) -> Result<(), Fail> {
                 "enclose,1,5 6 7,21 22,2,C,1; enclose,1,5 6 5,21 22 23,2,C,1",
                 "enclose,1,5 6 7,21 22 21,2,C,1; enclose,1,5 6 7,21 22 23,2,C,1",
             ],
-            answers: &[
+            &[
                 "refused,2,unknown,parcel,9; refused,2,unknown,point,8; refused,2,unknown,source,6",
                 "refused,3,taken,string,12; refused,3,taken,parcel,1; refused,4,retired,parcel,7",
                 "refused,9,bad-chain; refused,9,bad-chain; refused,9,bad-chain; ok",
             ],
-            end: Ok(()),
-        },
-        Case {
-            name: "an island enclosed and merged away, which retires its number",
-            job: &[
+        ),
+        answered(
+            "an island enclosed and merged away, which retires its number",
+            &[
                 PLAN,
                 SQUARE,
                 "point,5,500,500; point,6,600,500; point,7,600,600",
@@ -141,9 +133,8 @@ fn enclosures_refused(rt: HostRuntime) -> Result<(), Fail> {
                 "enclose,1,5 6 7,21 22 23,2,C,1; merge,1,2; enclose,1,5 6 7,21 22 23,2,C,1",
                 "drop-point,5; outline,1",
             ],
-            answers: &["ok; ok; refused,4,retired,parcel,2; ok; ring,1,outer,1 2 3 4; end"],
-            end: Ok(()),
-        },
+            &["ok; ok; refused,4,retired,parcel,2; ok; ring,1,outer,1 2 3 4; end"],
+        ),
     ];
     check(&rt, &cases)
 }

@@ -277,6 +277,14 @@ fn fault_texts(rt: HostRuntime) -> Result<(), Fail> {
     Ok(())
 }
 
+// Whether the answer is told by this text.
+fn is_text_of(alloc: Global, answer: Answer, want: &str) -> bool {
+    match answer_text(alloc, &answer) {
+        Ok(text) => text.as_slice() == want.as_bytes(),
+        Err(Memory) => false,
+    }
+}
+
 #[test]
 fn answers(rt: HostRuntime) -> Result<(), Fail> {
     let (Some(point), Some(string), Some(parcel), Some(source)) = (
@@ -287,78 +295,51 @@ fn answers(rt: HostRuntime) -> Result<(), Fail> {
     ) else {
         return Ok(());
     };
-    for (answer, want) in [
-        (Answer::Done, "ok,,,,,,\n"),
-        (Answer::Nothing, "nothing,,,,,,\n"),
-        (Answer::Refused(Refusal::Range), "refused,1,range,,,,\n"),
+    assert!(rt; is_text_of(rt.alloc(), Answer::Done, "ok,,,,,,\n"));
+    assert!(rt; is_text_of(rt.alloc(), Answer::Nothing, "nothing,,,,,,\n"));
+    for (refusal, want) in [
+        (Refusal::Range, "refused,1,range,,,,\n"),
         (
-            Answer::Refused(Refusal::Unknown(Name::Source(source))),
+            Refusal::Unknown(Name::Source(source)),
             "refused,2,unknown,source,999999999,,\n",
         ),
         (
-            Answer::Refused(Refusal::Taken(Name::String(string))),
+            Refusal::Taken(Name::String(string)),
             "refused,3,taken,string,12,,\n",
         ),
+        (Refusal::Retired(parcel), "refused,4,retired,parcel,2,,\n"),
+        (Refusal::Outside, "refused,5,outside,,,,\n"),
+        (Refusal::NoChange, "refused,6,no-change,,,,\n"),
+        (Refusal::NotFree(point), "refused,7,not-free,point,1,,\n"),
         (
-            Answer::Refused(Refusal::Retired(parcel)),
-            "refused,4,retired,parcel,2,,\n",
-        ),
-        (Answer::Refused(Refusal::Outside), "refused,5,outside,,,,\n"),
-        (
-            Answer::Refused(Refusal::NoChange),
-            "refused,6,no-change,,,,\n",
-        ),
-        (
-            Answer::Refused(Refusal::NotFree(point)),
-            "refused,7,not-free,point,1,,\n",
-        ),
-        (
-            Answer::Refused(Refusal::NotDegreeTwo(point)),
+            Refusal::NotDegreeTwo(point),
             "refused,8,not-degree-two,point,1,,\n",
         ),
+        (Refusal::BadChain, "refused,9,bad-chain,,,,\n"),
         (
-            Answer::Refused(Refusal::BadChain),
-            "refused,9,bad-chain,,,,\n",
-        ),
-        (
-            Answer::Refused(Refusal::NotInParcel(point)),
+            Refusal::NotInParcel(point),
             "refused,10,not-in-parcel,point,1,,\n",
         ),
         (
-            Answer::Refused(Refusal::ChainJoinsRings),
+            Refusal::ChainJoinsRings,
             "refused,11,chain-joins-rings,,,,\n",
         ),
+        (Refusal::SameParcel, "refused,12,same-parcel,,,,\n"),
+        (Refusal::NotNeighbours, "refused,13,not-neighbours,,,,\n"),
+        (Refusal::NotOneChain, "refused,14,not-one-chain,,,,\n"),
         (
-            Answer::Refused(Refusal::SameParcel),
-            "refused,12,same-parcel,,,,\n",
-        ),
-        (
-            Answer::Refused(Refusal::NotNeighbours),
-            "refused,13,not-neighbours,,,,\n",
-        ),
-        (
-            Answer::Refused(Refusal::NotOneChain),
-            "refused,14,not-one-chain,,,,\n",
-        ),
-        (
-            Answer::Refused(Refusal::AlreadyAttached),
+            Refusal::AlreadyAttached,
             "refused,15,already-attached,,,,\n",
         ),
-        (
-            Answer::Refused(Refusal::NotAttached),
-            "refused,16,not-attached,,,,\n",
-        ),
-        (Answer::Refused(Refusal::Full), "refused,17,full,,,,\n"),
-        (
-            Answer::Refused(Refusal::Breaks(Rule::V8)),
-            "refused,18,breaks,V8,,,\n",
-        ),
-        (Answer::Refused(Refusal::Memory), "refused,19,memory,,,,\n"),
+        (Refusal::NotAttached, "refused,16,not-attached,,,,\n"),
+        (Refusal::Full, "refused,17,full,,,,\n"),
+        (Refusal::Breaks(Rule::V8), "refused,18,breaks,V8,,,\n"),
+        (Refusal::Memory, "refused,19,memory,,,,\n"),
     ] {
-        match answer_text(rt.alloc(), &answer) {
-            Ok(text) => assert!(rt; text.as_slice() == want.as_bytes(), "{want}"),
-            Err(Memory) => assert!(rt; false, "memory"),
-        }
+        assert!(rt;
+            is_text_of(rt.alloc(), Answer::Refused(refusal), want),
+            "{want}"
+        );
     }
     match syntax_text(rt.alloc()) {
         Ok(text) => assert!(rt; text.as_slice() == b"syntax,,,,,,\n".as_slice()),

@@ -1,5 +1,6 @@
 //! Plans with parcels: a square of a metre, the same with an island, and their faults.
-use crate::cases::{Case, check};
+use crate::bases::{OPEN, PLAN, PRINTED, SQUARE};
+use crate::cases::{answered, check, faulty, number};
 use cad_files::PlanFault;
 use cad_job::JobFault;
 use cad_rows::{Name, ParcelNo, PointNo, Rule, SourceNo, StringNo};
@@ -25,32 +26,23 @@ const ISLAND_PARCEL: &str = "parcel,2,B";
 // The sides of the island, in parcel 1.
 const ISLAND_STRINGS: &str = "string,31,6,7,2,1; string,32,7,8,2,1; string,33,8,6,2,1";
 
-// The first and the last record of a plan.
-const ONE: &str = "plan,1";
-
-const TWO: &str = "plan,2";
-
-const OPEN: &str = "open";
-
 #[test]
 fn plans_are_printed(rt: HostRuntime) -> Result<(), Fail> {
     let cases = [
-        Case {
-            name: "the square, printed",
-            job: &[ONE, POINTS, PARCEL, STRINGS, OPEN, "print"],
-            answers: &[TWO, POINTS, PARCEL, STRINGS, OPEN],
-            end: Ok(()),
-        },
-        Case {
-            name: "the text of the square, read again",
-            job: &[TWO, POINTS, PARCEL, STRINGS, OPEN, "print"],
-            answers: &[TWO, POINTS, PARCEL, STRINGS, OPEN],
-            end: Ok(()),
-        },
-        Case {
-            name: "the island, printed",
-            job: &[
-                ONE,
+        answered(
+            "the square, printed",
+            &[PLAN, SQUARE, OPEN, "print"],
+            &[PRINTED, SQUARE, OPEN],
+        ),
+        answered(
+            "the text of the square, read again",
+            &[PRINTED, SQUARE, OPEN, "print"],
+            &[PRINTED, SQUARE, OPEN],
+        ),
+        answered(
+            "the island, printed",
+            &[
+                PLAN,
                 POINTS,
                 ISLAND_POINTS,
                 PARCEL,
@@ -60,8 +52,8 @@ fn plans_are_printed(rt: HostRuntime) -> Result<(), Fail> {
                 OPEN,
                 "print",
             ],
-            answers: &[
-                TWO,
+            &[
+                PRINTED,
                 POINTS,
                 ISLAND_POINTS,
                 PARCEL,
@@ -70,18 +62,16 @@ fn plans_are_printed(rt: HostRuntime) -> Result<(), Fail> {
                 ISLAND_STRINGS,
                 OPEN,
             ],
-            end: Ok(()),
-        },
-        Case {
-            name: "records in another order, and a retired number",
-            job: &[ONE, "retired,7", STRINGS, PARCEL, POINTS, OPEN, "print"],
-            answers: &[TWO, POINTS, PARCEL, STRINGS, "retired,7", OPEN],
-            end: Ok(()),
-        },
-        Case {
-            name: "two islands in the outside",
-            job: &[
-                ONE,
+        ),
+        answered(
+            "records in another order, and a retired number",
+            &[PLAN, "retired,7", STRINGS, PARCEL, POINTS, OPEN, "print"],
+            &[PRINTED, SQUARE, "retired,7", OPEN],
+        ),
+        answered(
+            "two islands in the outside",
+            &[
+                PLAN,
                 POINTS,
                 "point,5,2000,0; point,6,3000,0; point,7,3000,1000",
                 PARCEL,
@@ -90,9 +80,8 @@ fn plans_are_printed(rt: HostRuntime) -> Result<(), Fail> {
                 "string,15,5,6,2,0; string,16,6,7,2,0; string,17,7,5,2,0",
                 OPEN,
             ],
-            answers: &[],
-            end: Ok(()),
-        },
+            &[],
+        ),
     ];
     check(&rt, &cases)
 }
@@ -100,55 +89,46 @@ fn plans_are_printed(rt: HostRuntime) -> Result<(), Fail> {
 #[test]
 fn points_among_strings(rt: HostRuntime) -> Result<(), Fail> {
     let cases = [
-        Case {
-            name: "points on points and on strings",
-            job: &[
-                ONE,
-                POINTS,
-                PARCEL,
-                STRINGS,
+        answered(
+            "points on points and on strings",
+            &[
+                PLAN,
+                SQUARE,
                 OPEN,
                 "add-point,5,10000000000,0; add-point,6,10000000001,0; add-point,6,1000,1000",
                 "add-point,6,500,0",
             ],
-            answers: &["ok; refused,1,range; refused,18,breaks,V3; refused,18,breaks,V4"],
-            end: Ok(()),
-        },
-        Case {
-            name: "a refusal between undo and redo",
-            job: &[
-                ONE,
-                POINTS,
-                PARCEL,
-                STRINGS,
+            &["ok; refused,1,range; refused,18,breaks,V3; refused,18,breaks,V4"],
+        ),
+        answered(
+            "a refusal between undo and redo",
+            &[
+                PLAN,
+                SQUARE,
                 OPEN,
                 "add-point,5,500,500; undo; drop-point,9; redo",
             ],
-            answers: &["ok; ok; refused,2,unknown,point,9; ok"],
-            end: Ok(()),
-        },
-        Case {
-            name: "a point on a string isn't dropped, sources go to strings and parcels",
-            job: &[
-                ONE,
-                POINTS,
-                PARCEL,
-                STRINGS,
+            &["ok; ok; refused,2,unknown,point,9; ok"],
+        ),
+        answered(
+            "a point on a string isn't dropped, sources go to strings and parcels",
+            &[
+                PLAN,
+                SQUARE,
                 OPEN,
                 "drop-point,1; attach,string,11,1; attach,string,11,1; attach,string,9,1",
                 "attach,parcel,1,9; attach,parcel,1,1; undo; print",
             ],
-            answers: &[
+            &[
                 "refused,7,not-free,point,1; ok; refused,15,already-attached",
                 "refused,2,unknown,string,9; refused,2,unknown,source,9; ok; ok",
-                TWO,
+                PRINTED,
                 POINTS,
                 PARCEL,
                 "string,11,1,2,1,0,1; string,12,2,3,1,0; string,13,3,4,1,0; string,14,4,1,1,0",
                 OPEN,
             ],
-            end: Ok(()),
-        },
+        ),
     ];
     check(&rt, &cases)
 }
@@ -156,156 +136,94 @@ fn points_among_strings(rt: HostRuntime) -> Result<(), Fail> {
 #[test]
 fn faults_of_plans(rt: HostRuntime) -> Result<(), Fail> {
     let cases = [
-        Case {
-            name: "a string that ends nowhere",
-            job: &[
-                ONE,
-                POINTS,
-                PARCEL,
-                STRINGS,
-                "point,5,500,500; string,15,1,5,1,1",
-                OPEN,
-            ],
-            answers: &[],
-            end: Err(JobFault::Plan(PlanFault::Dangling(StringNo::new(15).expect(
-                &rt, "a number",
-            )))),
-        },
-        Case {
-            name: "an end that no other string has",
-            job: &[
-                ONE,
-                POINTS,
-                PARCEL,
-                STRINGS,
-                "point,5,500,500; string,15,1,5,1,0",
-                OPEN,
-            ],
-            answers: &[],
-            end: Err(JobFault::Plan(PlanFault::Dangling(StringNo::new(15).expect(
-                &rt, "a number",
-            )))),
-        },
-        Case {
-            name: "two strings between the same points",
-            job: &[ONE, POINTS, PARCEL, STRINGS, "string,15,1,2,1,0", OPEN],
-            answers: &[],
-            end: Err(JobFault::Plan(PlanFault::Corner(PointNo::new(2).expect(&rt, "a number")))),
-        },
-        Case {
-            name: "faces exchanged in one string",
-            job: &[
-                ONE,
+        faulty(
+            "a string that ends nowhere",
+            &[PLAN, SQUARE, "point,5,500,500; string,15,1,5,1,1", OPEN],
+            PlanFault::Dangling(number(&rt, 15)),
+        ),
+        faulty(
+            "an end that no other string has",
+            &[PLAN, SQUARE, "point,5,500,500; string,15,1,5,1,0", OPEN],
+            PlanFault::Dangling(number(&rt, 15)),
+        ),
+        faulty(
+            "two strings between the same points",
+            &[PLAN, SQUARE, "string,15,1,2,1,0", OPEN],
+            PlanFault::Corner(number(&rt, 2)),
+        ),
+        faulty(
+            "faces exchanged in one string",
+            &[
+                PLAN,
                 POINTS,
                 PARCEL,
                 "string,11,1,2,1,0; string,12,2,3,1,0; string,13,3,4,0,1; string,14,4,1,1,0",
                 OPEN,
             ],
-            answers: &[],
-            end: Err(JobFault::Plan(PlanFault::Labels(StringNo::new(12).expect(&rt, "a number")))),
-        },
-        Case {
-            name: "faces exchanged in all strings",
-            job: &[
-                ONE,
+            PlanFault::Labels(number(&rt, 12)),
+        ),
+        faulty(
+            "faces exchanged in all strings",
+            &[
+                PLAN,
                 POINTS,
                 PARCEL,
                 "string,11,1,2,0,1; string,12,2,3,0,1; string,13,3,4,0,1; string,14,4,1,0,1",
                 OPEN,
             ],
-            answers: &[],
-            end: Err(JobFault::Plan(PlanFault::Breaks(Rule::V7))),
-        },
-        Case {
-            name: "no end of the plan",
-            job: &[ONE, POINTS, PARCEL, STRINGS],
-            answers: &[],
-            end: Err(JobFault::Plan(PlanFault::NoOpen)),
-        },
-        Case {
-            name: "a coordinate past the limit of version 1",
-            job: &[ONE, "source,1,Plan 7; point,5,1000000001,0", OPEN],
-            answers: &[],
-            end: Err(JobFault::Plan(PlanFault::Range(3))),
-        },
-        Case {
-            name: "a point number twice",
-            job: &[ONE, POINTS, PARCEL, STRINGS, "point,1,5,5", OPEN],
-            answers: &[],
-            end: Err(JobFault::Plan(PlanFault::Taken(Name::Point(PointNo::new(1).expect(
-                &rt, "a number",
-            ))))),
-        },
-        Case {
-            name: "a parcel number twice is told before a string number",
-            job: &[
-                ONE,
-                POINTS,
-                PARCEL,
-                STRINGS,
-                "string,11,1,3,1,0; parcel,1,B",
-                OPEN,
-            ],
-            answers: &[],
-            end: Err(JobFault::Plan(PlanFault::Taken(Name::Parcel(ParcelNo::new(1).expect(
-                &rt, "a number",
-            ))))),
-        },
-        Case {
-            name: "the number of a parcel retired",
-            job: &[ONE, POINTS, PARCEL, STRINGS, "retired,1", OPEN],
-            answers: &[],
-            end: Err(JobFault::Plan(PlanFault::Taken(Name::Parcel(ParcelNo::new(1).expect(
-                &rt, "a number",
-            ))))),
-        },
-        Case {
-            name: "a string number twice",
-            job: &[
-                ONE,
-                POINTS,
-                PARCEL,
-                STRINGS,
-                "string,11,1,3,1,0; retired,1",
-                OPEN,
-            ],
-            answers: &[],
-            end: Err(JobFault::Plan(PlanFault::Taken(Name::String(StringNo::new(11).expect(
-                &rt, "a number",
-            ))))),
-        },
-        Case {
-            name: "an unknown source of a string",
-            job: &[
-                ONE,
+            PlanFault::Breaks(Rule::V7),
+        ),
+        faulty("no end of the plan", &[PLAN, SQUARE], PlanFault::NoOpen),
+        faulty(
+            "a coordinate past the limit of version 1",
+            &[PLAN, "source,1,Plan 7; point,5,1000000001,0", OPEN],
+            PlanFault::Range(3),
+        ),
+        faulty(
+            "a point number twice",
+            &[PLAN, SQUARE, "point,1,5,5", OPEN],
+            PlanFault::Taken(Name::Point(number(&rt, 1))),
+        ),
+        faulty(
+            "a parcel number twice is told before a string number",
+            &[PLAN, SQUARE, "string,11,1,3,1,0; parcel,1,B", OPEN],
+            PlanFault::Taken(Name::Parcel(number(&rt, 1))),
+        ),
+        faulty(
+            "the number of a parcel retired",
+            &[PLAN, SQUARE, "retired,1", OPEN],
+            PlanFault::Taken(Name::Parcel(number(&rt, 1))),
+        ),
+        faulty(
+            "a string number twice",
+            &[PLAN, SQUARE, "string,11,1,3,1,0; retired,1", OPEN],
+            PlanFault::Taken(Name::String(number(&rt, 11))),
+        ),
+        faulty(
+            "an unknown source of a string",
+            &[
+                PLAN,
                 POINTS,
                 PARCEL,
                 "string,11,1,2,1,0; string,12,2,3,1,0; string,13,3,4,1,0; string,14,4,1,1,0,2",
                 OPEN,
             ],
-            answers: &[],
-            end: Err(JobFault::Plan(PlanFault::Unknown(Name::Source(SourceNo::new(2).expect(
-                &rt, "a number",
-            ))))),
-        },
-        Case {
-            name: "an unknown face",
-            job: &[ONE, POINTS, PARCEL, "string,11,1,2,9,0", OPEN],
-            answers: &[],
-            end: Err(JobFault::Plan(PlanFault::Unknown(Name::Parcel(ParcelNo::new(9).expect(
-                &rt, "a number",
-            ))))),
-        },
-        Case {
-            name: "leading zeros in a point",
-            job: &[ONE, "point,05,5,5", POINTS, PARCEL, STRINGS, OPEN],
-            answers: &[],
-            end: Err(JobFault::Plan(PlanFault::Syntax(2))),
-        },
-        Case {
-            name: "an island whose outer face is the outside",
-            job: &[
-                ONE,
+            PlanFault::Unknown(Name::Source(number(&rt, 2))),
+        ),
+        faulty(
+            "an unknown face",
+            &[PLAN, POINTS, PARCEL, "string,11,1,2,9,0", OPEN],
+            PlanFault::Unknown(Name::Parcel(number(&rt, 9))),
+        ),
+        faulty(
+            "leading zeros in a point",
+            &[PLAN, "point,05,5,5", SQUARE, OPEN],
+            PlanFault::Syntax(2),
+        ),
+        faulty(
+            "an island whose outer face is the outside",
+            &[
+                PLAN,
                 POINTS,
                 ISLAND_POINTS,
                 PARCEL,
@@ -314,29 +232,24 @@ fn faults_of_plans(rt: HostRuntime) -> Result<(), Fail> {
                 "string,31,6,7,2,0; string,32,7,8,2,0; string,33,8,6,2,0",
                 OPEN,
             ],
-            answers: &[],
-            end: Err(JobFault::Plan(PlanFault::Breaks(Rule::V8))),
-        },
-        Case {
-            name: "a parcel without a ring",
-            job: &[ONE, POINTS, PARCEL, STRINGS, ISLAND_PARCEL, OPEN],
-            answers: &[],
-            end: Err(JobFault::Plan(PlanFault::Breaks(Rule::V7))),
-        },
-        Case {
-            name: "strings that cross",
-            job: &[
-                ONE,
-                POINTS,
-                PARCEL,
-                STRINGS,
+            PlanFault::Breaks(Rule::V8),
+        ),
+        faulty(
+            "a parcel without a ring",
+            &[PLAN, SQUARE, ISLAND_PARCEL, OPEN],
+            PlanFault::Breaks(Rule::V7),
+        ),
+        faulty(
+            "strings that cross",
+            &[
+                PLAN,
+                SQUARE,
                 "point,5,-500,300; point,6,500,300; point,7,500,600; parcel,2,B; string,15,5,6,2,0",
                 "string,16,6,7,2,0; string,17,7,5,2,0",
                 OPEN,
             ],
-            answers: &[],
-            end: Err(JobFault::Plan(PlanFault::Breaks(Rule::V4))),
-        },
+            PlanFault::Breaks(Rule::V4),
+        ),
     ];
     check(&rt, &cases)
 }

@@ -1,5 +1,5 @@
 //! Records, fields and plan faults.
-use crate::cases::{AMPLE_DEPTH, Case, check};
+use crate::cases::{AMPLE_DEPTH, answered, check, faulty};
 use cad_files::{MemSink, PlanFault};
 use cad_history::Depth;
 use cad_job::{JobFault, run_job};
@@ -9,123 +9,80 @@ use std::test::Fail;
 #[test]
 fn records_and_fields(rt: HostRuntime) -> Result<(), Fail> {
     let cases = [
-        Case {
-            name: "an empty script",
-            job: &["plan,2; open"],
-            answers: &[],
-            end: Ok(()),
-        },
-        Case {
-            name: "words that are none",
-            job: &[
+        answered("an empty script", &["plan,2; open"], &[]),
+        answered(
+            "words that are none",
+            &[
                 "plan,1; open; Undo; undo ; attach,source,1,1; undo,,,,,,0; plan,1; open",
                 "add-source,0,A; attach,parcel,0,1; drop-point,0; rename,0,X; outline,00",
             ],
-            answers: &[
+            &[
                 "syntax; syntax; syntax; syntax; syntax; syntax; syntax; syntax; syntax; syntax",
                 "syntax",
             ],
-            end: Ok(()),
-        },
-        Case {
-            name: "quotes and commas in texts",
-            job: &[
+        ),
+        answered(
+            "quotes and commas in texts",
+            &[
                 "plan,1; open; add-source,1,\"North, 7\"; add-source,2,\"a\"\"b\"; add-source,3,\" \"",
                 "add-source,4,\"\"; \"undo\",\"\"; print",
             ],
-            answers: &[
-                "ok; ok; ok; syntax; ok; plan,2; source,1,\"North, 7\"; source,2,\"a\"\"b\"; open",
-            ],
-            end: Ok(()),
-        },
-        Case {
-            name: "a plan of version 1 past its limit",
-            job: &["plan,1; point,5,1000000001,0; open"],
-            answers: &[],
-            end: Err(JobFault::Plan(PlanFault::Range(2))),
-        },
-        Case {
-            name: "a plan of version 2 at its limit, and the wider limit of edits",
-            job: &[
-                "plan,2; point,5,10000000000,-10000000000; open; add-point,6,-10000000000,0; print",
-            ],
-            answers: &[
-                "ok; plan,2; point,5,10000000000,-10000000000; point,6,-10000000000,0; open",
-            ],
-            end: Ok(()),
-        },
-        Case {
-            name: "a plan of version 2 past its limit",
-            job: &["plan,2; point,5,0,10000000001; open"],
-            answers: &[],
-            end: Err(JobFault::Plan(PlanFault::Range(2))),
-        },
-        Case {
-            name: "version 3",
-            job: &["plan,3; open"],
-            answers: &[],
-            end: Err(JobFault::Plan(PlanFault::Version)),
-        },
-        Case {
-            name: "no plan at all",
-            job: &["open"],
-            answers: &[],
-            end: Err(JobFault::Plan(PlanFault::Version)),
-        },
-        Case {
-            name: "a field too many in the first record",
-            job: &["plan,1,x"],
-            answers: &[],
-            end: Err(JobFault::Plan(PlanFault::Version)),
-        },
-        Case {
-            name: "leading zeros",
-            job: &["plan,1; point,05,5,5; open"],
-            answers: &[],
-            end: Err(JobFault::Plan(PlanFault::Syntax(2))),
-        },
-        Case {
-            name: "syntax before range and full, in one record",
-            job: &["plan,1; point,5,1000000001,0,1 1; open"],
-            answers: &[],
-            end: Err(JobFault::Plan(PlanFault::Syntax(2))),
-        },
-        Case {
-            name: "range before full, in one record",
-            job: &["plan,1; point,5,1000000001,0,1 2 3 4 5 6 7 8 9 10 11 12 13 14 15 16 17; open"],
-            answers: &[],
-            end: Err(JobFault::Plan(PlanFault::Range(2))),
-        },
-        Case {
-            name: "a second plan record",
-            job: &["plan,1; source,1,A; plan,1; open"],
-            answers: &[],
-            end: Err(JobFault::Plan(PlanFault::Syntax(3))),
-        },
-        Case {
-            name: "a parcel without a label",
-            job: &["plan,1; parcel,1; open"],
-            answers: &[],
-            end: Err(JobFault::Plan(PlanFault::Syntax(2))),
-        },
-        Case {
-            name: "no open",
-            job: &["plan,1; source,1,A"],
-            answers: &[],
-            end: Err(JobFault::Plan(PlanFault::NoOpen)),
-        },
-        Case {
-            name: "an empty input",
-            job: &[],
-            answers: &[],
-            end: Err(JobFault::Plan(PlanFault::NoOpen)),
-        },
-        Case {
-            name: "two points at one position",
-            job: &["plan,1; point,1,5,5; point,2,5,5; open"],
-            answers: &[],
-            end: Err(JobFault::Plan(PlanFault::Breaks(Rule::V3))),
-        },
+            &["ok; ok; ok; syntax; ok; plan,2; source,1,\"North, 7\"; source,2,\"a\"\"b\"; open"],
+        ),
+        faulty(
+            "a plan of version 1 past its limit",
+            &["plan,1; point,5,1000000001,0; open"],
+            PlanFault::Range(2),
+        ),
+        answered(
+            "a plan of version 2 at its limit, and the wider limit of edits",
+            &["plan,2; point,5,10000000000,-10000000000; open; add-point,6,-10000000000,0; print"],
+            &["ok; plan,2; point,5,10000000000,-10000000000; point,6,-10000000000,0; open"],
+        ),
+        faulty(
+            "a plan of version 2 past its limit",
+            &["plan,2; point,5,0,10000000001; open"],
+            PlanFault::Range(2),
+        ),
+        faulty("version 3", &["plan,3; open"], PlanFault::Version),
+        faulty("no plan at all", &["open"], PlanFault::Version),
+        faulty(
+            "a field too many in the first record",
+            &["plan,1,x"],
+            PlanFault::Version,
+        ),
+        faulty(
+            "leading zeros",
+            &["plan,1; point,05,5,5; open"],
+            PlanFault::Syntax(2),
+        ),
+        faulty(
+            "syntax before range and full, in one record",
+            &["plan,1; point,5,1000000001,0,1 1; open"],
+            PlanFault::Syntax(2),
+        ),
+        faulty(
+            "range before full, in one record",
+            &["plan,1; point,5,1000000001,0,1 2 3 4 5 6 7 8 9 10 11 12 13 14 15 16 17; open"],
+            PlanFault::Range(2),
+        ),
+        faulty(
+            "a second plan record",
+            &["plan,1; source,1,A; plan,1; open"],
+            PlanFault::Syntax(3),
+        ),
+        faulty(
+            "a parcel without a label",
+            &["plan,1; parcel,1; open"],
+            PlanFault::Syntax(2),
+        ),
+        faulty("no open", &["plan,1; source,1,A"], PlanFault::NoOpen),
+        faulty("an empty input", &[], PlanFault::NoOpen),
+        faulty(
+            "two points at one position",
+            &["plan,1; point,1,5,5; point,2,5,5; open"],
+            PlanFault::Breaks(Rule::V3),
+        ),
     ];
     check(&rt, &cases)
 }
