@@ -5,3 +5,4 @@ pub mod Parallel
 pub mod SameDirection
 pub mod StringEnds
 pub mod StarFacts
+pub mod StringsTold

@@ -8,4 +8,3 @@ pub mod Mergers
 pub mod SharedChains
 pub mod Worked
 pub mod CallerLemmas
-pub mod StringsTold

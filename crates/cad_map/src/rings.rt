@@ -1,11 +1,13 @@
 //! The rings of a face of any map, each walked along its sides.
-ghost use Rattle.std.specs.Prelude.{◌≡◌, ◌<◌, length};
+ghost use Rattle.std.specs.Prelude.{◌≡◌, ◌<◌, ◌≤◌, ◌*◌, length};
+ghost use Rattle.cad_rows.specs.Limits.{string_limit};
 ghost use Rattle.cad_map.specs.Boundaries.{canonical_order};
 ghost use Rattle.cad_map.specs.Map.{rings_at, position_of, has_face as has_face_of, sum_of_ring};
 ghost use Rattle.cad_map.specs.Rings.{HasWholeRings, ring_at};
 
 use crate::store::MapView;
 use crate::walk::Walk;
+use cad_rings::Ring;
 use cad_rows::{Face, PointNo};
 use geo_exact::{Pt, SideMeasure};
 
@@ -51,6 +53,19 @@ pub fn ring_sum<M: MapView, F: SideMeasure>(map: &M, face: &Face, place: usize, 
     let mut sum = 0;
     for (a, b) in Walk::of_ring(map, face, place) {
         sum += measure.of(position(map, a), position(map, b));
+    }
+    sum
+}
+
+/// The measures of a ring's sides, added up, its points being where the map has them. Takes no
+/// memory.
+pub fn sum_round<M: MapView, F: SideMeasure>(map: &M, ring: &Ring, measure: &F) -> i128
+    requires { length ring.now ≤ 2 * string_limit }
+    ensures { result ≡ sum_of_ring (F.measure measure.now) (M.map map.now) ring.now }
+{
+    let mut sum = 0;
+    for (from, to) in ring.sides() {
+        sum += measure.of(position(map, from), position(map, to));
     }
     sum
 }

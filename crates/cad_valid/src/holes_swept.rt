@@ -13,11 +13,10 @@ ghost use Rattle.cad_valid.specs.Rings.{IsRingOf};
 ghost use Rattle.cad_valid.specs.Shapes.{AreShapes, AreEnclosed, shape_of};
 ghost use Rattle.cad_valid.specs.Shapes.{are_shapes_apart as are_apart_of, are_apart_at};
 
-use crate::outlines_by_runs::doubled_area_of;
 use crate::shapes::{Enclosing, PlacedRing, are_apart};
-use cad_map::{Boundary, MapView, PlainMap};
+use cad_map::{Boundary, MapView, PlainMap, sum_round};
 use cad_rows::{Face, Memory};
-use geo_exact::Pt;
+use geo_exact::{DoubledArea, Pt};
 use std::alloc::Global;
 use sweep::{Extent, PairTest, all_that_overlap_pass, row_height};
 
@@ -74,7 +73,7 @@ fn outlines_and_holes(
     let mut outlines = Vec::new(alloc);
     let mut holes = Vec::new(alloc);
     for boundary in run {
-        let area = doubled_area_of(map, &boundary.ring);
+        let area = sum_round(map, &boundary.ring, &DoubledArea);
         if area > 0 {
             outlines.push(PlacedRing::of(alloc, map, &boundary.ring)?)?;
         } else if area < 0 {

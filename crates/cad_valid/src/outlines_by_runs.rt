@@ -1,18 +1,15 @@
 //! Whether each parcel has one outline, and the outside none, asked of a plain map: the rings of a
 //! face stand together there, and no ring is walked.
 ghost use Rattle.std.specs.Prelude.{◌≡◌};
-ghost use Rattle.geo_exact.specs.Measure.{doubled_area};
-ghost use Rattle.cad_map.specs.Map.{rings_of, sum_of_ring};
+ghost use Rattle.cad_map.specs.Map.{rings_of};
 ghost use Rattle.cad_map.specs.Valid.{has_outlines as has_outlines_of};
 ghost use Rattle.cad_map.specs.Valid.{has_one_outline_each as has_one_outline_each_of};
 ghost use Rattle.cad_map.specs.Rings.{HasWholeRings};
-ghost use Rattle.cad_valid.specs.Rings.{IsRingOf};
 
 use crate::outlines::OutlineCount;
-use cad_map::{MapView, PlainMap, position};
-use cad_rings::Ring;
+use cad_map::{MapView, PlainMap, sum_round};
 use cad_rows::Face;
-use geo_exact::{DoubledArea, SideMeasure};
+use geo_exact::DoubledArea;
 
 /// Whether the outside has negative rings alone, and each parcel one positive ring and negative
 /// ones. Takes no memory. For each face its rings are found in as many steps as the number of all
@@ -40,19 +37,7 @@ fn has_outlines(map: &PlainMap, face: Face, wanted: usize) -> bool
 {
     let mut outlines = OutlineCount::none();
     for boundary in map.run_of(face) {
-        outlines.add(doubled_area_of(map, &boundary.ring));
+        outlines.add(sum_round(map, &boundary.ring, &DoubledArea));
     }
     outlines.is(wanted)
-}
-
-/// The doubled area of a ring of the map, in doubled square millimetres.
-pub(crate) fn doubled_area_of(map: &PlainMap, ring: &Ring) -> i128
-    requires { IsRingOf map.now ring.now }
-    ensures { result ≡ sum_of_ring doubled_area map.now ring.now }
-{
-    let mut sum = 0;
-    for (from, to) in ring.sides() {
-        sum += DoubledArea.of(position(map, from), position(map, to));
-    }
-    sum
 }

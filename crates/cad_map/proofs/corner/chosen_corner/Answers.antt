@@ -7,7 +7,7 @@ use Rattle.cad_map.specs.Map.{strings_at, far_end}
 use Rattle.cad_map.proofs.Lists.Entries.{take-more}
 use Rattle.cad_map.proofs.Walks.FirstCorners.{first-none, first-more, first-chosen}
 use Rattle.cad_map.proofs.Boundaries.RingsOfMap.{whole_valid}
-use Rattle.cad_map.proofs.StringsTold.{lent-some, lent-is, all-told}
+use Rattle.cad_map.proofs.Ends.StringsTold.{lent-some, lent-is, all-told}
 use Rattle.cad_map.proofs.corner.chosen_corner.Goals as goal
 
 pub unwrap-requires : goal.unwrap-requires

@@ -12,11 +12,11 @@ use Rattle.cad_valid.proofs.Sweeping.{HasSigns, signs-above, signs-below, signs-
 use Rattle.cad_valid.proofs.holes_swept.outlines_and_holes.Goals.{then-area-gt0+in_ok-of+in_ok-push, else-area-gt0+then-area-lt0+in_ok-of-2+in_ok-push-2, else-area-gt0+else-area-lt0}
 use Rattle.cad_valid.proofs.holes_swept.outlines_and_holes.Goals as goal
 
-pub doubled_area_of-area-requires : goal.doubled_area_of-area-requires
-doubled_area_of-area-requires c =
+pub sum_round-area-requires : goal.sum_round-area-requires
+sum_round-area-requires c = (
     subst (λ (b : Boundary). IsRingOf c.args.map.now b.ring) (sym c.boundary-item.is)
     (ring-in_run c.args.run.now (map (λ (b : Boundary). b.ring) c.args.run.now) (λ i. map (λ (b : Boundary). b.ring) c.args.run.now) (IsRingOf c.args.map.now) c.requires
-    c.loop-boundary.boundary-index c.boundary-item.result c.loop-boundary-test.true)
+    c.loop-boundary.boundary-index c.boundary-item.result c.loop-boundary-test.true)).few
 
 pub of-requires : goal.of-requires
 of-requires c =
@@ -42,10 +42,10 @@ loop-boundary-preserved c =
     let at : ring ≡ get_or rings place ring =
     ap (λ (b : Boundary). b.ring) c.boundary-item.is ∙ sym (get_or-map (λ (b : Boundary). b.ring) run place c.boundary-item.result ring c.loop-boundary-test.true) in
     let shape = shape_of (position_of m) in
-    let fits : FitsSigned w128 c.doubled_area_of-area.result = omega (arith, ints) in
-    let is = c.doubled_area_of-area.ensures in
+    let fits : FitsSigned w128 c.sum_round-area.result = omega (arith, ints) in
+    let is = c.sum_round-area.ensures in
     let before = c.loop-boundary.invariant in
-    let area = c.doubled_area_of-area.result in
+    let area = c.sum_round-area.result in
     elim c.if-area-gt0.branch [
       | then-area-gt0+in_ok-of+in_ok-push w ↦
           let test = w.if-area-gt0.true in

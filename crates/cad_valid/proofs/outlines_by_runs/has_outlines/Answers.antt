@@ -8,11 +8,11 @@ use Rattle.cad_valid.proofs.OutlineCounts.{counted-next, counted-few, counted-al
 use Rattle.cad_valid.proofs.RingsInMap.{rings-of_map, ring-in_run, ring-at_run, run-length}
 use Rattle.cad_valid.proofs.outlines_by_runs.has_outlines.Goals as goal
 
-pub doubled_area_of-requires : goal.doubled_area_of-requires
-doubled_area_of-requires c =
-    subst (λ (b : _). IsRingOf c.args.map.now b.ring) (sym c.boundary-item.is)
+pub sum_round-requires : goal.sum_round-requires
+sum_round-requires c =
+    (subst (λ (b : _). IsRingOf c.args.map.now b.ring) (sym c.boundary-item.is)
     (ring-in_run c.run_of-boundary-items.result.now (rings_of c.args.map.now c.args.face) c.run_of-boundary-items.ensures (IsRingOf c.args.map.now) (rings-of_map c.args.map.now c.requires c.args.face)
-    c.loop-boundary.boundary-index c.boundary-item.result c.loop-boundary-test.true)
+    c.loop-boundary.boundary-index c.boundary-item.result c.loop-boundary-test.true)).few
 
 pub add-requires : goal.add-requires
 add-requires c =
@@ -26,11 +26,11 @@ loop-boundary-preserved c =
     let run = c.run_of-boundary-items.result.now in
     let place = c.loop-boundary.boundary-index in
     let long = run-length run rings c.run_of-boundary-items.ensures in
-    let fits : FitsSigned w128 c.doubled_area_of.result = omega (arith, ints) in
+    let fits : FitsSigned w128 c.sum_round.result = omega (arith, ints) in
     let at : c.boundary-item.result.ring ≡ get_or rings place [] =
     ap (λ (b : _). b.ring) c.boundary-item.is ∙ ring-at_run run rings c.run_of-boundary-items.ensures place c.boundary-item.result c.loop-boundary-test.true in
-    counted-next m rings place c.doubled_area_of.result c.loop-boundary.outlines c.add.new.self (omega arith)
-    (c.doubled_area_of.ensures ∙ ap (sum_of_ring doubled_area m) at) c.loop-boundary.invariant (simp to_z-of_z at c.add.ensures)
+    counted-next m rings place c.sum_round.result c.loop-boundary.outlines c.add.new.self (omega arith)
+    (c.sum_round.ensures ∙ ap (sum_of_ring doubled_area m) at) c.loop-boundary.invariant (simp to_z-of_z at c.add.ensures)
 
 pub returns : goal.returns
 returns c =
