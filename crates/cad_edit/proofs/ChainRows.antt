@@ -11,18 +11,10 @@ use Rattle.cad_rings.specs.Cycle.{Corner, has_side, sides_of}
 use Rattle.cad_map.specs.Chain.{start_of, next_of, end_of, last_but_one, chosen_corner, leaving}
 use Rattle.cad_map.specs.Map.{Map, has_point, rings_of, face_corners}
 use Rattle.cad_map.specs.Refusals.{when, unknown, is_there, face_named, points_named, have_one_ring, chain_joins_rings, not_in_parcel, corner_missing, first_of}
-use Rattle.cad_map.proofs.CallerLemmas.{there-each, points-there, chosen, All-append}
+use Rattle.cad_map.proofs.CallerLemmas.{chosen}
 
 module _ (m : Map) (face : Face) (chain strings : List ℕ) (parcel : ℕ) (label : List ℕ) (source : ℕ) (e : Edit) (is : e ≡ Divide face chain strings parcel label source) where
   module _ (points : List ℕ) (same : points ≡ chain) where
-    -- where nothing that is named is missing, the chain's points are there
-    pub points-divided : unknown m e ≡ None → AllByRecursion (λ p. IsTrue (has_point m p)) points
-    points-divided none =
-        let named = face_named face ++ points_named chain in
-        let all = there-each m (named ++ name.Source source ∷ []) (ap (unknown m) (sym is) ∙ none) in
-        let parts = All-append (λ n. is_there m n ≡ true) named (name.Source source ∷ []) all in
-        subst (AllByRecursion (λ (p : ℕ). IsTrue (has_point m p))) (sym same) (points-there m chain (All-append (λ n. is_there m n ≡ true) (face_named face) (points_named chain) parts.0).1)
-
     -- where two corners are chosen, the chain is in the face at its ends
     pub in-chosen : (first last : Corner) → Some first ≡ chosen_corner m face (start_of points) (next_of points) → Some last ≡ chosen_corner m face (end_of points) (last_but_one points)
         → not_in_parcel m e ≡ None

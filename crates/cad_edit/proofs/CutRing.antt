@@ -19,7 +19,6 @@ use Rattle.cad_map.specs.Chain.{leaving, inner_of}
 use Rattle.cad_map.specs.Division.{place_of, ring_with}
 use Rattle.cad_map.specs.Map.{Map, has_point, rings_of, all_sides}
 use Rattle.cad_map.specs.Rings.{HasWholeRings}
-use Rattle.cad_edit.proofs.SidesGiven.{ends-of_ring, points-there}
 
 -- ---- The ring and the places of sides
 
@@ -107,40 +106,6 @@ one-ring m whole face first last one =
     let b = cut.0 in
     let only = only-in (leaving first) m.boundaries b cut.1.there (has_side-Contains (leaving first) (sides_of b.ring) cut.1.has_first) (once-from_pairs (all_sides m) whole.once (leaving first)) in
     (b, cut.1.there, only.ring, cut.1.has_first, cut.1.has_last)
-
--- ---- The points of the ring to the left of a chain
-
-module _ (P : ℕ → Type 0) (ring : Ring) (all : AllByRecursion P ring) where
-  parts-of : (n : ℕ) → AllByRecursion P (take n ring) × AllByRecursion P (drop n ring)
-  parts-of n = All-append P (take n ring) (drop n ring) (subst (AllByRecursion P) (sym (take-append-drop n ring)) all)
-
-  stretch-all : (i j : ℕ) → AllByRecursion P (stretch i j ring)
-  stretch-all i j = by (nat_lt i j)
-    where
-      from_i : AllByRecursion P (take (j - i) (drop i ring))
-      from_i = (All-append P (take (j - i) (drop i ring)) (drop (j - i) (drop i ring)) (subst (AllByRecursion P) (sym (take-append-drop (j - i) (drop i ring))) (parts-of i).1)).0
-
-      by : (t : Bool) → AllByRecursion P (cond t (take (j - i) (drop i ring)) (drop i ring ++ take j ring))
-      by true = from_i
-      by false = All-join P (drop i ring) (take j ring) (parts-of i).1 (parts-of j).0
-
-  pub left-all : (i j : ℕ) (chain : List ℕ) → 2 ≤ length chain → AllByRecursion P chain → P (slice_index ring i) → AllByRecursion P (left_ring i j (inner_of chain) ring)
-  left-all i j chain long known at =
-      let parts = subst (AllByRecursion P) (in_parts chain long) known in
-      (at, All-join P (inner_of chain) (stretch j i ring) (All-append P (inner_of chain) _ parts.1).0 (stretch-all j i))
-
--- of the ring that is cut out
-pub left-points : (m : Map) → HasWholeRings m → (face : Face) (chain : List ℕ) (first last : Corner) → 2 ≤ length chain → AllByRecursion (λ p. IsTrue (has_point m p)) chain
-    → list_any (λ r. has_side (leaving first) (sides_of r) && has_side (leaving last) (sides_of r)) (rings_of m face) ≡ true → (j : ℕ)
-    → AllByRecursion (λ p. IsTrue (has_point m p)) (left_ring (place_of (leaving first) (ring_with (leaving first) m.boundaries)) j (inner_of chain) (ring_with (leaving first) m.boundaries))
-left-points m whole face chain first last long known one j =
-    let P : ℕ → Type 0 = λ p. IsTrue (has_point m p) in
-    let own = one-ring m whole face first last one in
-    let all = points-there m whole own.0 own.1 in
-    let there = (ends-of_ring P own.0.ring all (leaving first) (has_side-Contains (leaving first) (sides_of own.0.ring) own.3)).0 in
-    let at = place-of (leaving first) own.0.ring own.3 in
-    subst (λ (r : Ring). AllByRecursion P (left_ring (place_of (leaving first) r) j (inner_of chain) r)) (sym own.2)
-    (left-all P own.0.ring all (place_of (leaving first) own.0.ring) j chain long known (subst P (sym at.at) there))
 
 -- ---- Two rings put last have the canonical order that they have put first
 

@@ -20,19 +20,6 @@ module _ (ring : Ring) (given left rest : List Side) (s : Side) (whole : given +
   pub given-few : length (given ++ s ∷ []) ≤ length (sides_of ring)
   given-few = let all = ap length given-more in let e = length-append (given ++ s ∷ []) rest in omega (arith, all, e)
 
--- what holds of all points of a ring holds of both ends of a side
-pub ends-of_ring : (P : ℕ → Type 0) (ring : Ring) → AllByRecursion P ring → (s : Side) → Contains (sides_of ring) s → P s.0 × P s.1
-ends-of_ring P [] all s h = let low = h.1 in absurd (omega arith)
-ends-of_ring P (a ∷ points) all s h = All-at_each (λ (s : Side). P s.0 × P s.1) (sides_of (a ∷ points)) s (ends-along P a points a (All-push P (a ∷ points) a all all.0)) h
-
 module _ (m : Map) (whole : HasWholeRings m) (b : Boundary) (there : Contains m.boundaries b) where
-  pub points-there : AllByRecursion (λ p. IsTrue (has_point m p)) b.ring
-  points-there = All-at_each (λ (b : Boundary). AllByRecursion (λ p. IsTrue (has_point m p)) b.ring) m.boundaries b whole.v1.points_of_rings there
-
   pub sides-few : length (sides_of b.ring) ≤ 400000
   sides-few = let few = ring-sides-few m m.boundaries whole whole.v1.canonical (two-each m whole) b there in let most = whole.v1.few_strings in omega (arith, few, most)
-
-  pub anchor-there : IsTrue (has_point m (anchor_of b.ring))
-  anchor-there =
-      let two : 2 ≤ length b.ring = All-at_each (λ (b : Boundary). 2 ≤ length b.ring) m.boundaries b (two-each m whole) there in
-      All-at_each (λ p. IsTrue (has_point m p)) b.ring (anchor_of b.ring) points-there (anchor_of-Contains b.ring (omega (arith, two)))

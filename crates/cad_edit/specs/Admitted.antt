@@ -1,12 +1,13 @@
 -- What the early check of an edit finds.
-use Rattle.std.specs.Prelude.{◌≡◌, ⊤, ℕ, List, Option, Some, None}
+use Rattle.std.specs.Prelude.{◌≡◌, ⊤, ℕ, List, [], ◌∷◌, map, Option, Some, None}
 use Rattle.cad_rows.specs.declared.names.Face.{Face}
 use Rattle.cad_rows.specs.declared.edits.Edit.{Edit}
-use Rattle.cad_rows.specs.declared.edits.Edit.TheVariants.{Divide, Merge}
+use Rattle.cad_rows.specs.declared.edits.Edit.TheVariants.{Join, Divide, Merge}
 use Rattle.cad_rings.specs.Cycle.{Corner}
 use Rattle.cad_map.specs.declared.shared_chain.SharedChain.{SharedChain}
 use Rattle.cad_map.specs.Chain.{start_of, next_of, end_of, last_but_one, chosen_corner}
-use Rattle.cad_map.specs.Map.{Map}
+use Rattle.cad_map.specs.Changes.{by_number}
+use Rattle.cad_map.specs.Map.{Map, strings_at}
 use Rattle.cad_map.specs.SharedChains.{IsSharedChain}
 
 -- the corners of the face that are chosen at the two ends of the chain
@@ -29,3 +30,13 @@ IsBetween m kept ended (Some chain) = IsSharedChain m kept ended chain
 abbrev pub HasChain : Map → Edit → Option SharedChain → Type 0
 HasChain m (Merge kept ended) chain = IsBetween m kept ended chain
 HasChain m _ chain = ⊤
+
+-- the numbers of the two strings at the point, the lower first
+abbrev pub AreStrings : Map → ℕ → Option (ℕ × ℕ) → Type 0
+AreStrings m point None = ⊥
+AreStrings m point (Some strings) = map (λ s. s.number) (by_number (strings_at m point)) ≡ strings.0 ∷ strings.1 ∷ []
+
+-- of a join they are found
+abbrev pub HasStrings : Map → Edit → Option (ℕ × ℕ) → Type 0
+HasStrings m (Join point string) strings = AreStrings m point strings
+HasStrings m _ strings = ⊤

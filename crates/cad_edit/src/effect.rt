@@ -7,7 +7,7 @@ ghost use Rattle.cad_rows.specs.Limits.{IsNumber};
 ghost use Rattle.cad_map.specs.Refusals.{first_refusal as first_refusal_of};
 ghost use Rattle.cad_map.specs.Effects.{after};
 ghost use Rattle.cad_map.specs.Asked.{GivesInRange};
-ghost use Rattle.cad_edit.specs.Admitted.{HasCorners, HasChain};
+ghost use Rattle.cad_edit.specs.Admitted.{HasCorners, HasChain, HasStrings};
 
 use crate::admitted::Admitted;
 use crate::edits::divide::divide;
@@ -91,6 +91,7 @@ pub(crate) fn effect_of(map: &PlainMap, edit: &Edit, found: &Admitted) -> Result
     requires allowed { first_refusal_of map.now edit.now ≡ None }
     requires corners { HasCorners map.now edit.now found.now.corners }
     requires chain { HasChain map.now edit.now found.now.chain }
+    requires strings { HasStrings map.now edit.now found.now.strings }
     ensures { IfOk result (λ made. made ≡ after map.now edit.now) }
 {
     let mut made = map.copy()?;
@@ -106,6 +107,7 @@ fn make(map: &mut PlainMap, edit: &Edit, found: &Admitted) -> Result<(), Memory>
     requires allowed { first_refusal_of map.old edit.now ≡ None }
     requires corners { HasCorners map.old edit.now found.now.corners }
     requires chain { HasChain map.old edit.now found.now.chain }
+    requires strings { HasStrings map.old edit.now found.now.strings }
     ensures { OnOk result (map.new ≡ after map.old edit.now) }
 {
     match edit {
@@ -131,7 +133,7 @@ fn make(map: &mut PlainMap, edit: &Edit, found: &Admitted) -> Result<(), Memory>
             };
             split(map, *string, &halves)
         }
-        Edit::Join { point, string } => join(map, *point, *string),
+        Edit::Join { point, string } => join(map, *point, *string, found.strings),
         Edit::Divide {
             face,
             chain,

@@ -1,17 +1,16 @@
 //! Which holes of a face go to a new face with the ring that is put round them.
-ghost use Rattle.std.specs.Prelude.{◌≡◌, IsTrue, ◌&&◌, IfOk};
-ghost use Rattle.std.specs.List.{AllByRecursion, Contains};
-ghost use Rattle.cad_map.specs.Map.{has_point, sum_of_ring, is_negative, is_in_ring as is_in_ring_of};
+ghost use Rattle.std.specs.Prelude.{◌≡◌, ◌&&◌, IfOk};
+ghost use Rattle.std.specs.List.{Contains};
+ghost use Rattle.cad_map.specs.Map.{is_negative, is_in_ring as is_in_ring_of};
 ghost use Rattle.cad_map.specs.Division.{hole_placed as hole_placed_of};
 ghost use Rattle.cad_map.specs.Rings.{HasWholeRings};
-ghost use Rattle.geo_exact.specs.Measure.{doubled_area as doubled_area_of};
 ghost use Rattle.cad_rings.specs.Cycle.{anchor_of};
 ghost use Rattle.cad_map.specs.Boundaries.{is_face as is_face_of};
 
-use cad_map::{Boundary, PlainMap, is_face, position};
+use cad_map::{Boundary, PlainMap, is_face, position, sum_round};
 use cad_rings::Ring;
 use cad_rows::{Face, Memory, PointNo};
-use geo_exact::{DoubledArea, SideMeasure, crosses};
+use geo_exact::{DoubledArea, crosses};
 
 /// A ring of the map, at a new face if it is a hole of the face whose anchor is inside the new ring, and else as it is.
 pub(crate) fn hole_placed(
@@ -23,7 +22,6 @@ pub(crate) fn hole_placed(
 ) -> Result<Boundary, Memory>
     requires whole { HasWholeRings map.now }
     requires there { Contains map.now.boundaries boundary.now }
-    requires points { AllByRecursion (λ p. IsTrue (has_point map.now p)) ring.now }
     ensures { IfOk result (λ placed. placed ≡ hole_placed_of map.now face.now new.now ring.now boundary.now) }
 {
     let mut placed = boundary.copy()?;
@@ -37,31 +35,15 @@ pub(crate) fn hole_placed(
 fn is_hole_inside(map: &PlainMap, face: &Face, ring: &Ring, boundary: &Boundary) -> bool
     requires whole { HasWholeRings map.now }
     requires there { Contains map.now.boundaries boundary.now }
-    requires points { AllByRecursion (λ p. IsTrue (has_point map.now p)) ring.now }
     ensures { result ≡ (is_face_of face.now boundary.now.face && is_negative map.now boundary.now.ring && is_in_ring_of map.now ring.now (anchor_of boundary.now.ring)) }
 {
     is_face(face, &boundary.face)
-        && doubled_area(map, boundary) < 0
+        && sum_round(map, &boundary.ring, &DoubledArea) < 0
         && is_in_ring(map, ring, boundary.ring.anchor())
-}
-
-/// The doubled area of a ring of the map, in doubled square millimetres.
-fn doubled_area(map: &PlainMap, boundary: &Boundary) -> i128
-    requires whole { HasWholeRings map.now }
-    requires there { Contains map.now.boundaries boundary.now }
-    ensures { result ≡ sum_of_ring doubled_area_of map.now boundary.now.ring }
-{
-    let mut sum = 0;
-    for (from, to) in boundary.ring.sides() {
-        sum += DoubledArea.of(position(map, from), position(map, to));
-    }
-    sum
 }
 
 /// Whether a point is inside a ring: an odd number of the ring's sides is counted there.
 fn is_in_ring(map: &PlainMap, ring: &Ring, point: PointNo) -> bool
-    requires points { AllByRecursion (λ p. IsTrue (has_point map.now p)) ring.now }
-    requires point { IsTrue (has_point map.now point) }
     ensures { result ≡ is_in_ring_of map.now ring.now point }
 {
     let at = position(map, point);

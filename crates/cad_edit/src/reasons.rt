@@ -1,7 +1,8 @@
 //! The reasons for a refusal that several edits have.
 ghost use Rattle.std.specs.Prelude.{◌≡◌, ◌+◌, None, length, ◌||◌, nat_lt, nat_le};
 ghost use Rattle.cad_map.specs.Valid.{IsValid};
-ghost use Rattle.cad_map.specs.Refusals.{unknown, retired, not_free, bad_chain, range, no_change, not_degree_two, full};
+ghost use Rattle.cad_map.specs.Refusals.{unknown, retired, not_free, bad_chain, range, no_change, full};
+ghost use Rattle.cad_edit.specs.Admitted.{HasStrings};
 ghost use Rattle.cad_rows.specs.Limits.{row_limit, string_limit};
 ghost use Rattle.geo_exact.specs.Position.{in_range};
 
@@ -11,7 +12,7 @@ use crate::edits::points::is_at;
 use crate::edits::sources::has_all_sources;
 use crate::strings_at::joined_source_count;
 use cad_map::MapView;
-use cad_rows::{Edit, ROW_LIMIT, Refusal, SOURCE_LIMIT, STRING_LIMIT};
+use cad_rows::{Edit, ROW_LIMIT, Refusal, SOURCE_LIMIT, STRING_LIMIT, StringNo};
 use geo_exact::COORDINATE_LIMIT;
 
 fn is_in_range(coordinate: i64) -> bool
@@ -116,9 +117,13 @@ fn has_no_room_for_parcel<M: MapView>(map: &M, strings: usize) -> bool
 }
 
 /// A limit would be passed.
-pub(crate) fn full_refusal<M: MapView>(map: &M, edit: &Edit) -> Option<Refusal>
+pub(crate) fn full_refusal<M: MapView>(
+    map: &M,
+    edit: &Edit,
+    strings: Option<(StringNo, StringNo)>,
+) -> Option<Refusal>
     requires valid { IsValid (M.map map.now) }
-    requires two { not_degree_two (M.map map.now) edit.now ≡ None }
+    requires strings { HasStrings (M.map map.now) edit.now strings }
     ensures { result ≡ full (M.map map.now) edit.now }
 {
     let is_full = match edit {
@@ -127,7 +132,7 @@ pub(crate) fn full_refusal<M: MapView>(map: &M, edit: &Edit) -> Option<Refusal>
         Edit::Split { .. } => {
             ROW_LIMIT <= map.counts().points || STRING_LIMIT <= map.counts().strings
         }
-        Edit::Join { point, .. } => SOURCE_LIMIT < joined_source_count(map, *point),
+        Edit::Join { point, .. } => SOURCE_LIMIT < joined_source_count(map, *point, strings),
         Edit::Divide { strings, .. } | Edit::Enclose { strings, .. } => {
             has_no_room_for_parcel(map, strings.len())
         }

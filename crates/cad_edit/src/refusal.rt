@@ -3,11 +3,11 @@
 ghost use Rattle.std.specs.Prelude.{◌≡◌, Some, None, [], ◌∷◌, IfOk, IfErr};
 ghost use Rattle.cad_map.specs.Valid.{IsValid};
 ghost use Rattle.cad_map.specs.Refusals.{first_of, range, unknown, taken, retired, outside, no_change, not_free, not_degree_two, bad_chain, not_in_parcel, chain_joins_rings, same_parcel, not_neighbours, not_one_chain, already_attached, not_attached, full, first_refusal as first_refusal_of};
-ghost use Rattle.cad_edit.specs.Admitted.{HasCorners, HasChain};
+ghost use Rattle.cad_edit.specs.Admitted.{HasCorners, HasChain, HasStrings};
 
 use crate::admitted::Admitted;
 use crate::edits::divide::corners_of;
-use crate::edits::join::not_degree_two_refusal;
+use crate::edits::join::{not_degree_two_refusal, strings_of};
 use crate::edits::merge::{chain_of, outside_refusal};
 use crate::edits::sources::{already_attached_refusal, not_attached_refusal};
 use crate::naming::{taken_refusal, unknown_refusal};
@@ -16,7 +16,7 @@ use crate::reasons::{
     retired_refusal,
 };
 use cad_map::MapView;
-use cad_rows::{Edit, Refusal};
+use cad_rows::{Edit, Refusal, StringNo};
 
 /// The first reason to refuse an edit of a valid map before anything is tried, if there is one. Takes no memory.
 pub fn first_refusal<M: MapView>(map: &M, edit: &Edit) -> Option<Refusal>
@@ -37,6 +37,7 @@ pub fn admit<M: MapView>(map: &M, edit: &Edit) -> Result<Admitted, Refusal>
     ensures allowed { IfOk result (λ found. first_refusal_of (M.map map.now) edit.now ≡ None) }
     ensures corners { IfOk result (λ found. HasCorners (M.map map.now) edit.now found.corners) }
     ensures chain { IfOk result (λ found. HasChain (M.map map.now) edit.now found.chain) }
+    ensures strings { IfOk result (λ found. HasStrings (M.map map.now) edit.now found.strings) }
 {
     if let Some(refusal) = early_refusal(map, edit) {
         return Err(refusal);
@@ -81,7 +82,6 @@ fn early_refusal<M: MapView>(map: &M, edit: &Edit) -> Option<Refusal>
 /// rings, at sources and at limits, where one does.
 fn admit_later<M: MapView>(map: &M, edit: &Edit) -> Result<Admitted, Refusal>
     requires valid { IsValid (M.map map.now) }
-    requires unknown { unknown (M.map map.now) edit.now ≡ None }
     requires two { not_degree_two (M.map map.now) edit.now ≡ None }
     requires chain { bad_chain edit.now ≡ None }
     ensures refused { IfErr result (λ r. first_of (not_in_parcel (M.map map.now) edit.now ∷ chain_joins_rings (M.map map.now) edit.now ∷ same_parcel edit.now
@@ -92,19 +92,29 @@ fn admit_later<M: MapView>(map: &M, edit: &Edit) -> Result<Admitted, Refusal>
         ∷ not_attached (M.map map.now) edit.now ∷ full (M.map map.now) edit.now ∷ []) ≡ None) }
     ensures corners { IfOk result (λ found. HasCorners (M.map map.now) edit.now found.corners) }
     ensures chain { IfOk result (λ found. HasChain (M.map map.now) edit.now found.chain) }
+    ensures strings { IfOk result (λ found. HasStrings (M.map map.now) edit.now found.strings) }
 {
     let corners = corners_of(map, edit)?;
     let chain = chain_of(map, edit)?;
-    match last_refusal(map, edit) {
+    let strings = strings_of(map, edit);
+    match last_refusal(map, edit, &strings) {
         Some(refusal) => Err(refusal),
-        None => Ok(Admitted { corners, chain }),
+        None => Ok(Admitted {
+            corners,
+            strings,
+            chain,
+        }),
     }
 }
 
 /// The first reason of those that look at sources and at limits.
-fn last_refusal<M: MapView>(map: &M, edit: &Edit) -> Option<Refusal>
+fn last_refusal<M: MapView>(
+    map: &M,
+    edit: &Edit,
+    strings: &Option<(StringNo, StringNo)>,
+) -> Option<Refusal>
     requires valid { IsValid (M.map map.now) }
-    requires two { not_degree_two (M.map map.now) edit.now ≡ None }
+    requires strings { HasStrings (M.map map.now) edit.now strings.now }
     ensures { result ≡ first_of (already_attached (M.map map.now) edit.now ∷ not_attached (M.map map.now) edit.now ∷ full (M.map map.now) edit.now ∷ []) }
 {
     if let Some(refusal) = already_attached_refusal(map, edit) {
@@ -113,5 +123,5 @@ fn last_refusal<M: MapView>(map: &M, edit: &Edit) -> Option<Refusal>
     if let Some(refusal) = not_attached_refusal(map, edit) {
         return Some(refusal);
     }
-    full_refusal(map, edit)
+    full_refusal(map, edit, *strings)
 }

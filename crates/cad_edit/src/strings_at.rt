@@ -1,40 +1,50 @@
 //! The strings that meet in a point.
-ghost use Rattle.std.specs.Prelude.{◌≡◌, ◌≤◌, length, [], ◌∷◌, not, filter, ◌==◌, drop, IfSome, IfNone};
+ghost use Rattle.std.specs.Prelude.{◌≡◌, ◌≤◌, length, [], ◌∷◌, not, filter, ◌==◌};
 ghost use Rattle.cad_map.specs.Valid.{IsValid};
 ghost use Rattle.std.specs.List.{list_any};
-ghost use Rattle.cad_map.specs.Map.{degree, is_end as is_end_of, strings_at};
+ghost use Rattle.cad_map.specs.Map.{degree, strings_at};
 ghost use Rattle.cad_map.specs.Changes.{by_number, joined_sources};
+ghost use Rattle.cad_edit.specs.Admitted.{AreStrings};
 
-use cad_map::{MapView, is_end};
-use cad_rows::{Numbers, PointNo, SourceNo, StringRow};
+use cad_map::MapView;
+use cad_rows::{Numbers, PointNo, SourceNo, StringNo, StringRow};
 
-/// The first string from a place on that ends at a point, and the place behind it.
-fn next_at<M: MapView>(map: &M, point: PointNo, start: usize) -> Option<(&StringRow, usize)>
-    ensures some { IfSome result (λ found. filter (λ s. is_end_of s point) (drop start (M.map map.now).strings)
-        ≡ found.0.now ∷ filter (λ s. is_end_of s point) (drop found.1 (M.map map.now).strings)) }
-    ensures none { IfNone result (filter (λ s. is_end_of s point) (drop start (M.map map.now).strings) ≡ []) }
+/// Two strings, the lower-numbered one first.
+fn in_order<'a>(first: &'a StringRow, second: &'a StringRow) -> (&'a StringRow, &'a StringRow)
+    ensures { by_number (first.now ∷ second.now ∷ []) ≡ result.0.now ∷ result.1.now ∷ [] }
 {
-    for place in start..map.counts().strings {
-        let row = map.string_at(place).unwrap();
-        if is_end(row, point) {
-            return Some((row, place + 1));
-        }
-    }
-    None
-}
-
-/// The two strings that end at a point, the lower-numbered one first.
-pub(crate) fn two_at<M: MapView>(map: &M, point: PointNo) -> (&StringRow, &StringRow)
-    requires { degree (M.map map.now) point ≡ 2 }
-    ensures { by_number (strings_at (M.map map.now) point) ≡ result.0.now ∷ result.1.now ∷ [] }
-{
-    let (first, behind) = next_at(map, point, 0).unwrap();
-    let (second, _) = next_at(map, point, behind).unwrap();
     if second.number.get() < first.number.get() {
         (second, first)
     } else {
         (first, second)
     }
+}
+
+/// The two strings that end at a point, the lower-numbered one first.
+pub(crate) fn two_at<M: MapView>(map: &M, point: PointNo) -> (&StringRow, &StringRow)
+    requires valid { IsValid (M.map map.now) }
+    requires two { degree (M.map map.now) point ≡ 2 }
+    ensures { by_number (strings_at (M.map map.now) point) ≡ result.0.now ∷ result.1.now ∷ [] }
+{
+    let first = map.string_with(point, 0).unwrap();
+    let second = map.string_with(point, 1).unwrap();
+    in_order(first, second)
+}
+
+/// The two strings with these numbers, which are those at a point.
+pub(crate) fn two_found<'a, M: MapView>(
+    map: &'a M,
+    point: PointNo,
+    strings: Option<(StringNo, StringNo)>,
+) -> (&'a StringRow, &'a StringRow)
+    requires valid { IsValid (M.map map.now) }
+    requires strings { AreStrings (M.map map.now) point strings }
+    ensures { by_number (strings_at (M.map map.now) point) ≡ result.0.now ∷ result.1.now ∷ [] }
+{
+    let (first, second) = strings.unwrap();
+    let one = map.string(first).unwrap();
+    let other = map.string(second).unwrap();
+    (one, other)
 }
 
 /// Whether a source is one of these.
@@ -57,11 +67,15 @@ fn count_others(sources: &Numbers<SourceNo>, among: &Numbers<SourceNo>) -> usize
 }
 
 /// How many sources the two strings at a point have together, each counted once.
-pub(crate) fn joined_source_count<M: MapView>(map: &M, point: PointNo) -> usize
+pub(crate) fn joined_source_count<M: MapView>(
+    map: &M,
+    point: PointNo,
+    strings: Option<(StringNo, StringNo)>,
+) -> usize
     requires valid { IsValid (M.map map.now) }
-    requires two { degree (M.map map.now) point ≡ 2 }
+    requires strings { AreStrings (M.map map.now) point strings }
     ensures { result ≡ length (joined_sources (by_number (strings_at (M.map map.now) point))) }
 {
-    let (first, second) = two_at(map, point);
+    let (first, second) = two_found(map, point, strings);
     first.sources.len() + count_others(&second.sources, &first.sources)
 }

@@ -28,7 +28,6 @@ use cad_rows::{Edit, Face, Memory, ParcelNo, PointNo, Refusal, StringNo};
 fn first_corner<M: MapView>(map: &M, face: &Face, chain: &[PointNo]) -> Option<Corner>
     requires valid { IsValid (M.map map.now) }
     requires long { 2 ≤ length chain.now }
-    requires points { AllByRecursion (λ p. IsTrue (has_point (M.map map.now) p)) chain.now }
     ensures { result ≡ chosen_corner_of (M.map map.now) face.now (start_of chain.now) (next_of chain.now) }
 {
     chosen_corner(map, face, chain[0], chain[1])
@@ -38,7 +37,6 @@ fn first_corner<M: MapView>(map: &M, face: &Face, chain: &[PointNo]) -> Option<C
 fn last_corner<M: MapView>(map: &M, face: &Face, chain: &[PointNo]) -> Option<Corner>
     requires valid { IsValid (M.map map.now) }
     requires long { 2 ≤ length chain.now }
-    requires points { AllByRecursion (λ p. IsTrue (has_point (M.map map.now) p)) chain.now }
     ensures { result ≡ chosen_corner_of (M.map map.now) face.now (end_of chain.now) (last_but_one chain.now) }
 {
     let last = chain.len() - 1;
@@ -52,7 +50,6 @@ pub(crate) fn corners_of<M: MapView>(
     edit: &Edit,
 ) -> Result<Option<(Corner, Corner)>, Refusal>
     requires valid { IsValid (M.map map.now) }
-    requires unknown { unknown (M.map map.now) edit.now ≡ None }
     requires chain { bad_chain edit.now ≡ None }
     ensures refused { IfErr result (λ r. first_of (not_in_parcel (M.map map.now) edit.now ∷ chain_joins_rings (M.map map.now) edit.now ∷ []) ≡ Some r) }
     ensures in_parcel { IfOk result (λ found. not_in_parcel (M.map map.now) edit.now ≡ None) }
@@ -113,7 +110,6 @@ fn divided_boundaries(
 ) -> Result<Vec<Boundary>, Memory>
     requires whole { HasWholeRings map.now }
     requires long { 2 ≤ length chain.now }
-    requires points { AllByRecursion (λ p. IsTrue (has_point map.now p)) chain.now }
     requires apart { first.now.at ≢ last.now.at }
     requires one_ring { IsTrue (list_any (λ r. has_side (leaving first.now) (sides_of r) && has_side (leaving last.now) (sides_of r)) (rings_of map.now face)) }
     ensures { IfOk result (λ made. canonical_order made.items ≡ canonical_order (boundaries_divided map.now face (Parcel new) chain.now first.now last.now)) }
@@ -160,7 +156,6 @@ fn others_placed(
     corner: &Corner,
 ) -> Result<Vec<Boundary>, Memory>
     requires whole { HasWholeRings map.now }
-    requires points { AllByRecursion (λ p. IsTrue (has_point map.now p)) ring.now }
     ensures { IfOk result (λ placed. placed.items ≡ map_of (hole_placed_of map.now face.now new.now ring.now) (filter (λ b. not (has_side (leaving corner.now) (sides_of b.ring))) map.now.boundaries)) }
 {
     let mut placed = Vec::new(map.allocator());

@@ -62,7 +62,6 @@ pub(crate) fn enclosed_boundaries(
 ) -> Result<Vec<Boundary>, Memory>
     requires whole { HasWholeRings map.now }
     requires long { 2 ≤ length points.now }
-    requires points { AllByRecursion (λ p. IsTrue (has_point map.now p)) points.now }
     ensures { IfOk result (λ made. canonical_order made.items ≡ canonical_order (boundaries_enclosed map.now face (Parcel new) points.now)) }
 {
     let ring = Ring::from_points(map.allocator(), points)?;
@@ -80,7 +79,6 @@ pub(crate) fn enclosed_boundaries(
 /// Each ring of the map, as it is placed after a ring is put round holes of a face.
 fn all_placed(map: &PlainMap, face: &Face, new: &Face, ring: &Ring) -> Result<Vec<Boundary>, Memory>
     requires whole { HasWholeRings map.now }
-    requires points { AllByRecursion (λ p. IsTrue (has_point map.now p)) ring.now }
     ensures { IfOk result (λ placed. placed.items ≡ map_of (hole_placed_of map.now face.now new.now ring.now) map.now.boundaries) }
 {
     let mut placed = Vec::new(map.allocator());

@@ -8,8 +8,9 @@ ghost use Rattle.cad_map.specs.Boundaries.{bounding};
 ghost use Rattle.cad_map.specs.Map.{string_of, degree};
 ghost use Rattle.cad_map.specs.Changes.{both_sources, join as join_of};
 ghost use Rattle.cad_map.specs.Refusals.{not_degree_two};
+ghost use Rattle.cad_edit.specs.Admitted.{AreStrings, HasStrings};
 
-use crate::strings_at::{is_among, two_at};
+use crate::strings_at::{is_among, two_at, two_found};
 use cad_map::{Boundary, MapView, PlainMap, far_end};
 use cad_rows::{Edit, Memory, Numbers, PointNo, Refusal, SourceNo, StringNo, StringRow};
 
@@ -30,15 +31,34 @@ pub(crate) fn not_degree_two_refusal<M: MapView>(map: &M, edit: &Edit) -> Option
     }
 }
 
-/// Joins the two strings at a point, and takes the point out.
-pub(crate) fn join(map: &mut PlainMap, point: PointNo, string: StringNo) -> Result<(), Memory>
+/// Of a join, the numbers of the two strings at its point, the lower first.
+pub(crate) fn strings_of<M: MapView>(map: &M, edit: &Edit) -> Option<(StringNo, StringNo)>
+    requires valid { IsValid (M.map map.now) }
+    requires two { not_degree_two (M.map map.now) edit.now ≡ None }
+    ensures { HasStrings (M.map map.now) edit.now result }
+{
+    let Edit::Join { point, .. } = edit else {
+        return None;
+    };
+    let (first, second) = two_at(map, *point);
+    Some((first.number, second.number))
+}
+
+/// Joins the two strings at a point, which have these numbers, and takes the point out.
+pub(crate) fn join(
+    map: &mut PlainMap,
+    point: PointNo,
+    string: StringNo,
+    strings: Option<(StringNo, StringNo)>,
+) -> Result<(), Memory>
     requires valid { IsValid map.old }
     requires two { degree map.old point ≡ 2 }
+    requires strings { AreStrings map.old point strings }
     requires new { string_of map.old string ≡ None }
     ensures { OnOk result (map.new ≡ join_of map.old point string) }
 {
     let boundaries = rings_without(map, point)?;
-    let (first, second) = two_at(map, point);
+    let (first, second) = two_found(map, point, strings);
     let (first, second) = (first.copy()?, second.copy()?);
     map.take_string(first.number);
     map.take_string(second.number);

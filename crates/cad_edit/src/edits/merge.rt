@@ -12,7 +12,7 @@ ghost use Rattle.cad_map.specs.Table.{without_row};
 
 use crate::rings::ring_with;
 use cad_map::{
-    Boundary, MapView, PlainMap, SharedChain, find_shared_chain, is_face, is_shared, shared_count,
+    Boundary, MapView, PlainMap, SharedChain, find_chain_of_sides, is_face, is_shared, shared_count,
 };
 use cad_rings::Ring;
 use cad_rows::{Edit, Face, Memory, PointNo, Refusal, StringNo};
@@ -50,10 +50,11 @@ pub(crate) fn chain_of<M: MapView>(map: &M, edit: &Edit) -> Result<Option<Shared
     if is_face(kept, ended) {
         return Err(Refusal::SameParcel);
     }
-    if shared_count(map, kept, ended) == 0 {
+    let sides = shared_count(map, kept, ended);
+    if sides == 0 {
         return Err(Refusal::NotNeighbours);
     }
-    let found = find_shared_chain(map, kept, ended);
+    let found = find_chain_of_sides(map, kept, ended, sides);
     if found.is_none() {
         return Err(Refusal::NotOneChain);
     }

@@ -1,9 +1,10 @@
-use Rattle.std.proofs.Common.{ℕ, sym, subst}
-use Rattle.std.specs.Prelude.{IsTrue}
-use Rattle.cad_map.specs.Map.{has_point}
-use Rattle.cad_edit.proofs.SidesGiven.{anchor-there}
+use Rattle.std.proofs.Common.{arith}
+use Rattle.cad_rings.proofs.CallerLemmas.{length-sides_of}
+use Rattle.cad_edit.proofs.SidesGiven.{sides-few}
 use Rattle.cad_edit.proofs.placing.is_hole_inside.Goals as goal
 
-pub is_in_ring-requires-clause-point : goal.is_in_ring-requires-clause-point
-is_in_ring-requires-clause-point c =
-    subst (λ (p : ℕ). IsTrue (has_point c.args.map.now p)) (sym c.anchor.ensures) (anchor-there c.args.map.now c.requires.whole c.args.boundary.now c.requires.there)
+pub sum_round-requires : goal.sum_round-requires
+sum_round-requires c =
+    let few = sides-few c.args.map.now c.requires.whole c.args.boundary.now c.requires.there in
+    let long = length-sides_of c.args.boundary.now.ring in
+    omega (arith, few, long)

@@ -1,12 +1,12 @@
 use Rattle.std.proofs.Common.{refl, sym, ap, ◌∙◌, List, ◌++◌, true, false}
 use Rattle.std.proofs.lemmas.List.{append-nil}
-use Rattle.std.specs.Prelude.{IsTrue, not}
+use Rattle.std.specs.Prelude.{not}
 use Rattle.geo_exact.specs.Inside.{is_inside, is_counted}
 use Rattle.cad_rings.specs.Cycle.{Side, placed}
 use Rattle.cad_rings.specs.SidesLeft.{sides_left}
-use Rattle.cad_map.specs.Map.{has_point, position_of}
+use Rattle.cad_map.specs.Map.{position_of}
 use Rattle.cad_map.proofs.CallerLemmas.{inside-more}
-use Rattle.cad_edit.proofs.SidesGiven.{given-more, given-there, ends-of_ring}
+use Rattle.cad_edit.proofs.SidesGiven.{given-more}
 use Rattle.cad_edit.proofs.placing.is_in_ring.Goals as goal
 
 pub loop-from-init : goal.loop-from-init

@@ -28,9 +28,6 @@ early-none m e none =
     let j = first-none (bad_chain e) [] i.1 in
     (b.0, i.0, j.0)
 
-pub admit_later-requires-clause-unknown : goal.admit_later-requires-clause-unknown
-admit_later-requires-clause-unknown g c = (early-none (g.M.MapView.map c.args.map.now) c.args.edit.now (sym c.early_refusal.ensures ∙ c.in_default.is)).0
-
 pub admit_later-requires-clause-two : goal.admit_later-requires-clause-two
 admit_later-requires-clause-two g c = (early-none (g.M.MapView.map c.args.map.now) c.args.edit.now (sym c.early_refusal.ensures ∙ c.in_default.is)).1
 

@@ -1,13 +1,7 @@
 use Rattle.std.proofs.Common.{sym, true, false, [], ◌∷◌}
 use Rattle.cad_map.specs.Refusals.{first_of}
-use Rattle.cad_edit.proofs.ChainRows.{points-divided, in-chosen, joins-chosen}
+use Rattle.cad_edit.proofs.ChainRows.{in-chosen, joins-chosen}
 use Rattle.cad_edit.proofs.edits.divide.corners_of.Goals as goal
-
-pub first_corner-requires-clause-points : goal.first_corner-requires-clause-points
-first_corner-requires-clause-points g c = points-divided (g.M.MapView.map c.args.map.now) _ _ _ _ _ _ c.args.edit.now c.in-Divide.is c.as_slice-chain.result.now c.as_slice-chain.ensures c.requires.unknown
-
-pub last_corner-requires-clause-points : goal.last_corner-requires-clause-points
-last_corner-requires-clause-points g c = points-divided (g.M.MapView.map c.args.map.now) _ _ _ _ _ _ c.args.edit.now c.in-Divide.is c.as_slice-chain.result.now c.as_slice-chain.ensures c.requires.unknown
 
 pub returns-then-are_in_one_ring-clause-one_ring : goal.returns-then-are_in_one_ring-clause-one_ring
 returns-then-are_in_one_ring-clause-one_ring g c =

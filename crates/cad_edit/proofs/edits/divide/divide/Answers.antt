@@ -22,9 +22,6 @@ divided_boundaries-requires-clause-whole c = whole_valid c.args.map.now c.requir
 pub divided_boundaries-requires-clause-long : goal.divided_boundaries-requires-clause-long
 divided_boundaries-requires-clause-long c = (can c.args.map.now c.args.face c.args.chain.now c.args.strings.now c.args.new.now.number c.args.new.now.label.now c.args.new.now.source c.requires.range c.requires.allowed).long
 
-pub divided_boundaries-requires-clause-points : goal.divided_boundaries-requires-clause-points
-divided_boundaries-requires-clause-points c = (can c.args.map.now c.args.face c.args.chain.now c.args.strings.now c.args.new.now.number c.args.new.now.label.now c.args.new.now.source c.requires.range c.requires.allowed).points_there
-
 pub divided_boundaries-requires-clause-apart : goal.divided_boundaries-requires-clause-apart
 divided_boundaries-requires-clause-apart c = λ same.
     let m = c.args.map.now in

@@ -1,15 +1,13 @@
 use Rattle.std.proofs.Common.{◌≡◌, sym, ap, subst, ◌∙◌, List, [], ◌∷◌, ◌++◌, map, filter, not, ℕ}
 use Rattle.std.specs.Prelude.{IsTrue}
-use Rattle.std.specs.List.{AllByRecursion}
 use Rattle.cad_rows.specs.declared.names.Face.TheVariants.{Parcel}
 use Rattle.cad_rings.specs.Cycle.{Ring, has_side, sides_of}
 use Rattle.cad_map.specs.declared.boundary.Boundary.{Boundary}
 use Rattle.cad_map.specs.Boundaries.{bounding, canonical_order}
 use Rattle.cad_map.specs.Chain.{leaving}
-use Rattle.cad_map.specs.Division.{place_of, ring_with, hole_placed}
-use Rattle.cad_map.specs.Map.{has_point}
+use Rattle.cad_map.specs.Division.{ring_with, hole_placed}
 use Rattle.cad_edit.specs.Cut.{left_of, right_of}
-use Rattle.cad_edit.proofs.CutRing.{one-ring, left-points, canonical_order-last_two}
+use Rattle.cad_edit.proofs.CutRing.{one-ring, canonical_order-last_two}
 use Rattle.cad_edit.proofs.edits.divide.divided_boundaries.Goals as goal
 
 pub cut_along-requires-clause-first_there : goal.cut_along-requires-clause-first_there
@@ -24,15 +22,6 @@ cut_along-requires-clause-last_there c =
     let t = leaving c.args.last.now in
     let own = one-ring c.args.map.now c.requires.whole c.args.face c.args.first.now c.args.last.now c.requires.one_ring in
     subst (λ (bs : List Boundary). IsTrue (has_side t (sides_of (ring_with s bs)))) (sym c.boundaries.ensures) (subst (λ (r : Ring). IsTrue (has_side t (sides_of r))) (sym own.2) own.4)
-
-pub others_placed-requires-clause-points : goal.others_placed-requires-clause-points
-others_placed-requires-clause-points c =
-    let m = c.args.map.now in
-    let s = leaving c.args.first.now in
-    let left : c.in_ok-left.left ≡ left_of m.boundaries c.args.chain.now c.args.first.now c.args.last.now =
-    c.in_ok-left.ensures.left ∙ ap (λ (bs : List Boundary). left_of bs c.args.chain.now c.args.first.now c.args.last.now) c.boundaries.ensures in
-    subst (AllByRecursion (λ (p : ℕ). IsTrue (has_point m p))) (sym left)
-    (left-points m c.requires.whole c.args.face c.args.chain.now c.args.first.now c.args.last.now c.requires.long c.requires.points c.requires.one_ring (place_of (leaving c.args.last.now) (ring_with s m.boundaries)))
 
 pub returns : goal.returns
 returns c =

@@ -26,9 +26,6 @@ enclosed_boundaries-requires-clause-whole c = whole_valid c.args.map.now c.requi
 pub enclosed_boundaries-requires-clause-long : goal.enclosed_boundaries-requires-clause-long
 enclosed_boundaries-requires-clause-long c = let long = (can c.args.map.now c.args.face c.args.points.now c.args.strings.now c.args.new.now.number c.args.new.now.label.now c.args.new.now.source c.requires.range c.requires.allowed).long in omega (arith, long)
 
-pub enclosed_boundaries-requires-clause-points : goal.enclosed_boundaries-requires-clause-points
-enclosed_boundaries-requires-clause-points c = (can c.args.map.now c.args.face c.args.points.now c.args.strings.now c.args.new.now.number c.args.new.now.label.now c.args.new.now.source c.requires.range c.requires.allowed).points_there
-
 pub closed-requires : goal.closed-requires
 closed-requires c = let long = (can c.args.map.now c.args.face c.args.points.now c.args.strings.now c.args.new.now.number c.args.new.now.label.now c.args.new.now.source c.requires.range c.requires.allowed).long in omega (arith, long)
 
