@@ -18,7 +18,7 @@ loop-turn-init g c =
     let stands = c.in-Ok.ensures.opened in
     let start = beginning (g.M.MapView.map c.args.store) c.args.depth in
     record {
-      done = λ text plan h. ([], [], start, rw (append-nil plan) h, refl, (refl, refl), stands, Appends-nil _);
+      done = λ text plan h. record { script = []; written = []; now = start; read = rw (append-nil plan) h; count = refl; told = (refl, refl); stands = stands; wrote = Appends-nil _ };
       some = (start, stands);
       few = omega arith;
       quiet = refl;
@@ -26,58 +26,58 @@ loop-turn-init g c =
 
 pub returns-in-Ok-false-clause-does : goal.returns-in-Ok-false-clause-does
 returns-in-Ok-false-clause-does g c = λ text plan rows h opens.
-    let (script, written, now, read, count, told, stands, wrote) = c.loop-turn.invariant.done text plan h in
-    let whole = c.in-Ok-false.ensures.ends c.in-Ok-false.field-0-test text (plan ++ script) read in
-    let seven = all_seven g.R.Read.remaining text plan script c.loop-turn.reader rows opens read in (
-      written,
-      Appends-kept _ _ _ _ wrote c.flushed.ensures.kept,
-      flushed_does _ c.flushed.result text plan script (g.M.MapView.map c.args.store) c.args.depth written _ _ (begins _ _ _ _ read) (now, told) (script, whole, seven, (now, told)) c.flushed.ensures.ended,
+    let so_far = c.loop-turn.invariant.done text plan h in
+    let whole = c.in-Ok-false.ensures.ends c.in-Ok-false.field-0-test text (plan ++ so_far.script) so_far.read in
+    let seven = all_seven g.R.Read.remaining text plan so_far.script c.loop-turn.reader rows opens so_far.read in (
+      so_far.written,
+      Appends-kept _ _ _ _ so_far.wrote c.flushed.ensures.kept,
+      flushed_does _ c.flushed.result text plan so_far.script (g.M.MapView.map c.args.store) c.args.depth so_far.written _ _ (begins _ _ _ _ so_far.read) (so_far.now, so_far.told) (so_far.script, whole, seven, (so_far.now, so_far.told)) c.flushed.ensures.ended,
     )
 
 pub returns-in-Err-Read-clause-does : goal.returns-in-Err-Read-clause-does
 returns-in-Err-Read-clause-does g c = λ text plan rows h opens.
-    let (script, written, now, read, count, told, stands, wrote) = c.loop-turn.invariant.done text plan h in (
-      written,
-      Appends-kept _ _ _ _ wrote c.flushed-in-Err-Read.ensures.kept,
-      flushed_does _ c.flushed-in-Err-Read.result text plan script (g.M.MapView.map c.args.store) c.args.depth written _ _ (begins _ _ _ _ read) (now, told) (script, begins _ _ _ _ read, (now, told)) c.flushed-in-Err-Read.ensures.ended,
+    let so_far = c.loop-turn.invariant.done text plan h in (
+      so_far.written,
+      Appends-kept _ _ _ _ so_far.wrote c.flushed-in-Err-Read.ensures.kept,
+      flushed_does _ c.flushed-in-Err-Read.result text plan so_far.script (g.M.MapView.map c.args.store) c.args.depth so_far.written _ _ (begins _ _ _ _ so_far.read) (so_far.now, so_far.told) (so_far.script, begins _ _ _ _ so_far.read, (so_far.now, so_far.told)) c.flushed-in-Err-Read.ensures.ended,
     )
 
 pub returns-in-Err-Memory-clause-does : goal.returns-in-Err-Memory-clause-does
 returns-in-Err-Memory-clause-does g c = λ text plan rows h opens.
-    let (script, written, now, read, count, told, stands, wrote) = c.loop-turn.invariant.done text plan h in
-    (written, wrote, (script, begins _ _ _ _ read, front-whole _ _ script written (now, told)))
+    let so_far = c.loop-turn.invariant.done text plan h in
+    (so_far.written, so_far.wrote, (so_far.script, begins _ _ _ _ so_far.read, front-whole _ _ so_far.script so_far.written (so_far.now, so_far.told)))
 
 pub returns-then-turn-eq1000000-clause-does : goal.returns-then-turn-eq1000000-clause-does
 returns-then-turn-eq1000000-clause-does g c = λ text plan rows h opens.
-    let (script, written, now, read, count, told, stands, wrote) = c.loop-turn.invariant.done text plan h in
+    let so_far = c.loop-turn.invariant.done text plan h in
     let fields = fields_of c.next_row.new.row in
-    let after = c.in-Ok-true.ensures.more c.in-Ok-true.field-0-test text (plan ++ script) read in (
-      written,
-      Appends-kept _ _ _ _ wrote c.flushed-then-turn-eq1000000.ensures.kept,
-      flushed_does _ c.flushed-then-turn-eq1000000.result text plan script (g.M.MapView.map c.args.store) c.args.depth written _ _ (begins _ _ _ _ read) (now, told)
-          (script, fields, count ∙ c.if-turn-eq1000000.true, begins _ _ _ _ after, (now, told)) c.flushed-then-turn-eq1000000.ensures.ended,
+    let after = c.in-Ok-true.ensures.more c.in-Ok-true.field-0-test text (plan ++ so_far.script) so_far.read in (
+      so_far.written,
+      Appends-kept _ _ _ _ so_far.wrote c.flushed-then-turn-eq1000000.ensures.kept,
+      flushed_does _ c.flushed-then-turn-eq1000000.result text plan so_far.script (g.M.MapView.map c.args.store) c.args.depth so_far.written _ _ (begins _ _ _ _ so_far.read) (so_far.now, so_far.told)
+          (so_far.script, fields, so_far.count ∙ c.if-turn-eq1000000.true, begins _ _ _ _ after, (so_far.now, so_far.told)) c.flushed-then-turn-eq1000000.ensures.ended,
     )
 
 pub returns-in-Err-answer_of_row-clause-does : goal.returns-in-Err-answer_of_row-clause-does
 returns-in-Err-answer_of_row-clause-does g c = λ text plan rows h opens.
-    let (script, written, now, read, count, told, stands, wrote) = c.loop-turn.invariant.done text plan h in
-    (written, wrote, (script, begins _ _ _ _ read, front-whole _ _ script written (now, told)))
+    let so_far = c.loop-turn.invariant.done text plan h in
+    (so_far.written, so_far.wrote, (so_far.script, begins _ _ _ _ so_far.read, front-whole _ _ so_far.script so_far.written (so_far.now, so_far.told)))
 
 pub returns-in-Err-write_all-clause-does : goal.returns-in-Err-write_all-clause-does
 returns-in-Err-write_all-clause-does g c = λ text plan rows h opens.
-    let (script, written, now, read, count, told, stands, wrote) = c.loop-turn.invariant.done text plan h in
+    let so_far = c.loop-turn.invariant.done text plan h in
     let fields = fields_of c.next_row.new.row in
-    let after = c.in-Ok-true.ensures.more c.in-Ok-true.field-0-test text (plan ++ script) read in
-    let (end, answered, standing) = c.in-Ok-answer_of_row.ensures now stands in
+    let after = c.in-Ok-true.ensures.more c.in-Ok-true.field-0-test text (plan ++ so_far.script) so_far.read in
+    let (end, answered, standing) = c.in-Ok-answer_of_row.ensures so_far.now so_far.stands in
     let (front, front_of, grown) = c.in-Err-write_all.ensures.err in
     let (rest, whole) = front_of in
-    let more = AreAnswered-more (beginning (g.M.MapView.map c.args.store) c.args.depth) script written now fields _ end told answered in (
-      written ++ front,
-      Appends-trans _ _ _ _ _ wrote grown,
+    let more = AreAnswered-more (beginning (g.M.MapView.map c.args.store) c.args.depth) so_far.script so_far.written so_far.now fields _ end so_far.told answered in (
+      so_far.written ++ front,
+      Appends-trans _ _ _ _ _ so_far.wrote grown,
       (
-        script ++ (fields ∷ []),
-        rw (← append_assoc plan script (fields ∷ [])) (begins _ _ _ _ after),
-        (_, (end, more), (rest, ap (λ (t : List ℕ). written ++ t) (sym c.as_slice.ensures.value ∙ whole) ∙ sym (append_assoc written front rest))),
+        so_far.script ++ (fields ∷ []),
+        rw (← append_assoc plan so_far.script (fields ∷ [])) (begins _ _ _ _ after),
+        (_, (end, more), (rest, ap (λ (t : List ℕ). so_far.written ++ t) (sym c.as_slice.ensures.value ∙ whole) ∙ sym (append_assoc so_far.written front rest))),
       ),
     )
 
@@ -89,18 +89,19 @@ loop-turn-preserved g c =
     let (next, answered, stands) = c.in-Ok-answer_of_row.ensures h standing in
     record {
       done = λ text plan h.
-          let (script, written, now, read, count, told, standing, wrote) = c.loop-turn.invariant.done text plan h in
-          let after = c.in-Ok-true.ensures.more c.in-Ok-true.field-0-test text (plan ++ script) read in
-          let (end, answered, stands) = c.in-Ok-answer_of_row.ensures now standing in (
-            script ++ (fields ∷ []),
-            written ++ _,
-            end,
-            rw (← append_assoc plan script (fields ∷ [])) after,
-            length_push script fields ∙ ap (λ n. n + 1) count,
-            AreAnswered-more start script written now fields _ end told answered,
-            stands,
-            Appends-trans _ _ _ _ _ wrote (rw c.as_slice.ensures.value at c.in-Ok-write_all.ensures.ok),
-          );
+          let so_far = c.loop-turn.invariant.done text plan h in
+          let after = c.in-Ok-true.ensures.more c.in-Ok-true.field-0-test text (plan ++ so_far.script) so_far.read in
+          let (end, answered, stands) = c.in-Ok-answer_of_row.ensures so_far.now so_far.stands in
+          record {
+            script = so_far.script ++ (fields ∷ []);
+            written = so_far.written ++ _;
+            now = end;
+            read = rw (← append_assoc plan so_far.script (fields ∷ [])) after;
+            count = length_push so_far.script fields ∙ ap (λ n. n + 1) so_far.count;
+            told = AreAnswered-more start so_far.script so_far.written so_far.now fields _ end so_far.told answered;
+            stands = stands;
+            wrote = Appends-trans _ _ _ _ _ so_far.wrote (rw c.as_slice.ensures.value at c.in-Ok-write_all.ensures.ok);
+          };
       some = (next, stands);
       few = omega arith;
       quiet = c.in-Ok-write_all.ensures.passed ∙ c.loop-turn.invariant.quiet;

@@ -12,10 +12,16 @@ invariant-loop-turn g l =
     let map_of = g.M.MapView.map in
     let belongs = g.M.MapStore.belongs in
     record {
-      done : (text : List ℕ) (plan : List (List (List ℕ))) → HasRead g.R.Read.remaining text plan l.fn.reader
-          → (script : List (List (List ℕ))) × (written : List ℕ) × (h : History) × HasRead g.R.Read.remaining text (plan ++ script) l.reader × (length script ≡ l.turn)
-          × AreAnswered (beginning (map_of l.fn.store) l.fn.depth) script written h × StandsFor map_of belongs l.editor h
-          × Appends (g.S.Sink.taken l.fn.sink) (g.S.Sink.taken l.sink) written;
+      done : (text : List ℕ) (plan : List (List (List ℕ))) → HasRead g.R.Read.remaining text plan l.fn.reader → record {
+        script : List (List (List ℕ));
+        written : List ℕ;
+        now : History;
+        read : HasRead g.R.Read.remaining text (plan ++ script) l.reader;
+        count : length script ≡ l.turn;
+        told : AreAnswered (beginning (map_of l.fn.store) l.fn.depth) script written now;
+        stands : StandsFor map_of belongs l.editor now;
+        wrote : Appends (g.S.Sink.taken l.fn.sink) (g.S.Sink.taken l.sink) written;
+      };
       some : StandsForSome map_of belongs l.editor;
       few : l.turn ≤ 1000000;
       quiet : g.S.Sink.failures l.sink ≡ g.S.Sink.failures l.fn.sink;
