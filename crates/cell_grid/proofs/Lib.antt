@@ -7,3 +7,4 @@ mod Nearness
 mod Found
 mod Grids
 mod Passed
+mod Together

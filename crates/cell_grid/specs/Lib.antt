@@ -3,7 +3,9 @@ pub mod Entries
 pub mod Held
 pub mod Spread
 pub mod Kept
+pub mod Together
 pub mod Near
 pub mod Ahead
 pub mod Grid
 pub mod Inside
+pub mod Listed

@@ -7,8 +7,10 @@ ghost use Rattle.geo_exact.specs.Segment.{HaveCommonLocation, IsOnSegment};
 ghost use Rattle.geo_exact.specs.SignTest.{boxes_overlap};
 ghost use Rattle.cell_grid.specs.Cells.{IsSide};
 ghost use Rattle.cell_grid.specs.Kept.{HoldsNone, HoldsSame, HoldsOneMore, HoldsOneLess};
+ghost use Rattle.cell_grid.specs.Together.{HoldsMore, HoldsLess, AreNew, AreHeld};
 ghost use Rattle.cell_grid.specs.Grid.{HoldsString, HoldsPoint, entry_of};
 
+use crate::entries::Entries;
 use crate::entry::Entry;
 use crate::near::NearEntries;
 use crate::segments::Segments;
@@ -113,6 +115,37 @@ impl CellGrid {
             from: a,
             to: a,
         });
+    }
+
+    /// Puts strings and points in, none of which is held: all of them, or none where memory runs
+    /// out.
+    pub fn put_all(&mut self, entries: &Entries) -> Result<(), Memory>
+        requires strings { AreNew self.old.strings entries.now.strings }
+        requires points { AreNew self.old.points entries.now.points }
+        ensures put_strings { OnOk result
+            (HoldsMore self.old.strings entries.now.strings self.new.strings) }
+        ensures put_points { OnOk result
+            (HoldsMore self.old.points entries.now.points self.new.points) }
+        ensures err_strings { OnErr result (HoldsSame self.old.strings self.new.strings) }
+        ensures err_points { OnErr result (HoldsSame self.old.points self.new.points) }
+    {
+        self.strings.put_all(entries.strings.as_slice())?;
+        if let Err(memory) = self.points.put_all(entries.points.as_slice()) {
+            self.strings.take_all(entries.strings.as_slice());
+            return Err(memory);
+        }
+        Ok(())
+    }
+
+    /// Takes strings and points out that are held. It takes no memory.
+    pub fn take_all(&mut self, entries: &Entries)
+        requires strings { AreHeld self.old.strings entries.now.strings }
+        requires points { AreHeld self.old.points entries.now.points }
+        ensures strings { HoldsLess self.old.strings entries.now.strings self.new.strings }
+        ensures points { HoldsLess self.old.points entries.now.points self.new.points }
+    {
+        self.strings.take_all(entries.strings.as_slice());
+        self.points.take_all(entries.points.as_slice());
     }
 
     /// Strings held near the segment ab: all that have a common location with it, and others whose

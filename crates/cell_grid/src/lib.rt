@@ -8,12 +8,14 @@
 #![tactic(auto)]
 
 mod block;
+mod entries;
 mod entry;
 mod grid;
 mod lists;
 mod near;
 mod segments;
 
+pub use entries::Entries;
 pub use grid::{Candidates, CellGrid, PointCandidates};
 
 #[cfg(test)]

@@ -5,6 +5,7 @@ ghost use Rattle.cell_grid.specs.Cells.{IsSide, IsBlock, cell_count, cell_at};
 ghost use Rattle.cell_grid.specs.Held.{entries_at, HasSameEntries};
 ghost use Rattle.cell_grid.specs.Spread.{IsSoundEntry, HasRoomIn, IsPutIn, IsTakenOut};
 ghost use Rattle.cell_grid.specs.Kept.{kept, AreSpread, IsHeld, HoldsNone, HoldsSame, HoldsOneMore, HoldsOneLess};
+ghost use Rattle.cell_grid.specs.Together.{HoldsMore, HoldsLess, AreSound, AreNew, AreHeld};
 
 use crate::block::{Block, block_of};
 use crate::entry::{Entry, is_same};
@@ -128,6 +129,40 @@ impl Segments {
             self.long.swap_remove(place);
         } else {
             take_each(&mut self.lists, &block, &entry);
+        }
+    }
+
+    /// Puts entries in, none of which is held: all of them, or none where memory runs out.
+    pub(crate) fn put_all(&mut self, entries: &[Entry]) -> Result<(), Memory>
+        requires side { IsSide self.old.side }
+        requires spread { AreSpread self.old }
+        requires sound { AreSound entries.now }
+        requires fresh { AreNew (kept self.old) entries.now }
+        ensures side { self.new.side ≡ self.old.side }
+        ensures spread { AreSpread self.new }
+        ensures put { OnOk result (HoldsMore (kept self.old) entries.now (kept self.new)) }
+        ensures err { OnErr result (HoldsSame (kept self.old) (kept self.new)) }
+    {
+        for place in 0..entries.len() {
+            if let Err(memory) = self.put(entries[place]) {
+                self.take_all(&entries[..place]);
+                return Err(memory);
+            }
+        }
+        Ok(())
+    }
+
+    /// Takes entries out that are held. It takes no memory.
+    pub(crate) fn take_all(&mut self, entries: &[Entry])
+        requires side { IsSide self.old.side }
+        requires spread { AreSpread self.old }
+        requires held { AreHeld (kept self.old) entries.now }
+        ensures side { self.new.side ≡ self.old.side }
+        ensures spread { AreSpread self.new }
+        ensures taken { HoldsLess (kept self.old) entries.now (kept self.new) }
+    {
+        for place in 0..entries.len() {
+            self.take(entries[place]);
         }
     }
 }

@@ -1,6 +1,5 @@
 use Rattle.std.proofs.Common.{sym, subst}
 use Rattle.cell_grid.specs.Cells.{IsSide}
-use Rattle.cell_grid.specs.Grid.{entry_of}
 use Rattle.cell_grid.proofs.grid.CellGrid.new.Goals as goal
 
 pub returns-clause-strings : goal.returns-clause-strings
