@@ -5,3 +5,4 @@ mod TwoEnds
 mod Added
 mod Dropped
 mod Exchanged
+mod TestPaths

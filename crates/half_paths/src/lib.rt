@@ -20,3 +20,6 @@ pub use ends::{close_ring, cut_path, open_ring, put_path};
 pub use loose::{add_strings, drop_strings};
 pub use path::{loosen, string_up};
 pub use rerouting::reroute;
+
+#[cfg(test)]
+mod tests;
