@@ -20,6 +20,8 @@ mod faults;
 #[cfg(test)]
 mod files;
 #[cfg(test)]
+mod half_maps;
+#[cfg(test)]
 mod history;
 #[cfg(test)]
 mod merging;
