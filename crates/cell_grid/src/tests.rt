@@ -222,3 +222,18 @@ fn taken_out(rt: HostRuntime) -> Result<(), Fail> {
     assert_eq!(rt; points_near(&rt, &grid, SOUTHWEST, NORTHEAST), ALL);
     Ok(())
 }
+
+#[test]
+fn strings_across_many_cells(rt: HostRuntime) -> Result<(), Fail> {
+    let mut grid = CellGrid::new(rt.alloc(), 1000)?;
+    let a = position(&rt, (0, 0));
+    let below = position(&rt, (30_000, -5));
+    let above = position(&rt, (30_000, 5));
+    // 61 cells, each of which has it, and 71, so that it stands among the long ones.
+    for (number, east) in [(61, 60_000), (71, 70_000)] {
+        let no = string(&rt, number);
+        put(&rt, &mut grid, no, a, position(&rt, (east, 0)))?;
+        assert!(rt; is_candidate(&grid, no, below, above));
+    }
+    Ok(())
+}
