@@ -4,10 +4,10 @@ ghost use Rattle.cad_map.specs.Valid.{IsValid};
 ghost use Rattle.cad_files.specs.Texts.{HasAppended, record_text, text_of};
 ghost use Rattle.cad_files.specs.Reports.{hundredths_of, area_field, two_digits, area_record, area_record_in, area_records};
 
-use crate::writing::{finished, write_record};
+use crate::writing::{begun, finished, write_record};
 use cad_map::{MapView, sum_of};
 use cad_rows::{Face, Memory, ParcelRow};
-use csv::{Writer, WriterBuilder};
+use csv::Writer;
 use geo_exact::DoubledArea;
 use std::alloc::Global;
 
@@ -92,7 +92,7 @@ pub fn area_text<M: MapView>(alloc: Global, view: &M) -> Result<Vec<u8>, Memory>
     requires { IsValid (M.map view.now) }
     ensures { IfOk result (λ text. text.items ≡ text_of (area_records (M.map view.now))) }
 {
-    let mut writer = WriterBuilder::new().from_writer(Vec::new(alloc));
+    let mut writer = begun(alloc);
     write_areas(alloc, &mut writer, view)?;
     write_record(&mut writer, &[b"end", b"", b"", b"", b"", b"", b""])?;
     let text = finished(writer)?;

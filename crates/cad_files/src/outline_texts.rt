@@ -7,12 +7,12 @@ ghost use Rattle.cad_files.specs.Reports.{outlines_of, ring_record, end_record, 
 use crate::answers::answer_text;
 use crate::list_texts::list_text;
 use crate::plan_texts::face_number;
-use crate::writing::{finished, write_record};
+use crate::writing::{begun, finished, write_record};
 use cad_history::Answer;
 use cad_map::{MapView, outline};
 use cad_rings::Ring;
 use cad_rows::{Face, Memory, Name, Refusal};
-use csv::{Writer, WriterBuilder};
+use csv::Writer;
 use std::alloc::Global;
 
 // Writes the record of a ring of this kind.
@@ -65,7 +65,7 @@ fn rings_text(
         ∷ []))) }
 {
     let (outer, holes) = rings.split_at(outlines);
-    let mut writer = WriterBuilder::new().from_writer(Vec::new(alloc));
+    let mut writer = begun(alloc);
     write_rings(alloc, &mut writer, face, b"outer", outer)?;
     write_rings(alloc, &mut writer, face, b"hole", holes)?;
     write_record(&mut writer, &[b"end", b"", b"", b"", b"", b"", b""])?;

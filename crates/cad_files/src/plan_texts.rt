@@ -8,10 +8,10 @@ ghost use Rattle.cad_files.specs.Plan.{plan_of, opened};
 ghost use Rattle.cad_files.specs.Building.{rows_of, IsBuilt};
 
 use crate::list_texts::list_text;
-use crate::writing::{finished, write_record};
+use crate::writing::{begun, finished, write_record};
 use cad_map::MapView;
 use cad_rows::{Face, Memory, ParcelNo, ParcelRow, PointRow, SourceRow, StringRow};
-use csv::{Writer, WriterBuilder};
+use csv::Writer;
 use std::alloc::Global;
 
 // Writes the record of a source.
@@ -180,7 +180,7 @@ pub fn plan_text<M: MapView>(alloc: Global, view: &M) -> Result<Vec<u8>, Memory>
     requires { IsValid (M.map view.now) }
     ensures { IfOk result (λ text. text.items ≡ text_of (plan_records (M.map view.now))) }
 {
-    let mut writer = WriterBuilder::new().from_writer(Vec::new(alloc));
+    let mut writer = begun(alloc);
     write_record(&mut writer, &[b"plan", b"2", b"", b"", b"", b"", b""])?;
     write_rows(alloc, &mut writer, view, Kind::Sources)?;
     write_rows(alloc, &mut writer, view, Kind::Points)?;

@@ -21,6 +21,13 @@ pub(crate) fn one_record(alloc: Global, fields: &[&[u8]]) -> Result<Vec<u8>, Mem
     }
 }
 
+/// A writer of a text of which nothing is written yet.
+pub(crate) fn begun(alloc: Global) -> Writer<Vec<u8>>
+    ensures { HasWritten [] result }
+{
+    WriterBuilder::new().from_writer(Vec::new(alloc))
+}
+
 /// Writes one record more.
 #[tactic(auto, unfolding(crate::specs::Texts::record_text))]
 pub(crate) fn write_record(writer: &mut Writer<Vec<u8>>, fields: &[&[u8]]) -> Result<(), Memory>

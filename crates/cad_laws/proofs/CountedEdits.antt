@@ -317,7 +317,7 @@ counted m (Divide face chain strings parcel label source) v given none =
     parcel-made m v
     (divide_at m face chain parcel (chosen_corner m face (start_of chain) (next_of chain))
     (chosen_corner m face (end_of chain) (last_but_one chain)))
-    chain strings parcel label source can.as_many can.strings_new can.parcel_new
+    chain strings parcel label source can.as_many can.rows.strings_new can.rows.parcel_new
 counted m (Merge k e) v given none =
     let free = allowed m (Merge k e) none in
     let names = names-parcels m k e free in
@@ -344,4 +344,4 @@ counted m (Enclose face points strings parcel label source) v given none =
     parcel-made m v (boundaries_enclosed m face (Parcel parcel) points)
     (points ++ start_of points ∷ []) strings parcel label source
     (let more = length-push points (start_of points) in omega (arith, more, many))
-    can.strings_new can.parcel_new
+    can.rows.strings_new can.rows.parcel_new

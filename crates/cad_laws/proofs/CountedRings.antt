@@ -254,7 +254,7 @@ rings-counted_by m (Divide face chain strings parcel label source) v given none 
     let can = can-divide m face chain strings parcel label source given (allowed m e none) in
     let it = divided-faces m face chain strings parcel label source can.first can.last v given none
     can.at_first can.at_last in
-    let gone = ap (λ (o : Option ParcelRow). is_some o) can.parcel_new in
+    let gone = ap (λ (o : Option ParcelRow). is_some o) can.rows.parcel_new in
     rings-placed m (after m e) face (Parcel parcel) _ _ _ _ it.placed v.sound.v1
     (whole-after m e v given none tt) gone (new-parcel m face parcel can.face_there gone)
 rings-counted_by m (Merge Outside e) v given none =
@@ -272,6 +272,6 @@ rings-counted_by m (Enclose face points strings parcel label source) v given non
     let e = Enclose face points strings parcel label source in
     let can = can-enclose m face points strings parcel label source given (allowed m e none) in
     let it = enclosed-faces m face points strings parcel label source v in
-    let gone = ap (λ (o : Option ParcelRow). is_some o) can.parcel_new in
+    let gone = ap (λ (o : Option ParcelRow). is_some o) can.rows.parcel_new in
     rings-placed m (after m e) face (Parcel parcel) _ _ _ _ it v.sound.v1
     (whole-after m e v given none tt) gone (new-parcel m face parcel can.face_there gone)

@@ -146,7 +146,7 @@ sides-counted m (Divide face chain strings parcel label source) v given none =
     let e = Divide face chain strings parcel label source in
     let can = can-divide m face chain strings parcel label source given (allowed m e none) in
     let few = face-missing (Parcel parcel) (after m e) m v.sound.v1
-    (ap (λ (o : Option ParcelRow). is_some o) can.parcel_new) in
+    (ap (λ (o : Option ParcelRow). is_some o) can.rows.parcel_new) in
     omega (arith, few)
 sides-counted m (Merge k e) v given none =
     let names = names-parcels m k e (allowed m (Merge k e) none) in
@@ -164,5 +164,5 @@ sides-counted m (Enclose face points strings parcel label source) v given none =
     let e = Enclose face points strings parcel label source in
     let can = can-enclose m face points strings parcel label source given (allowed m e none) in
     let few = face-missing (Parcel parcel) (after m e) m v.sound.v1
-    (ap (λ (o : Option ParcelRow). is_some o) can.parcel_new) in
+    (ap (λ (o : Option ParcelRow). is_some o) can.rows.parcel_new) in
     omega (arith, few)

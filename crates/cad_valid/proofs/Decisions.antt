@@ -5,7 +5,7 @@ use Rattle.std.specs.List.{AllByRecursion}
 use Rattle.std.proofs.lemmas.Bool.{true≢false, iff_false, not-true, not_from_false, false_from_ne_true}
 use Rattle.std.proofs.lemmas.List.{drop_all}
 use Rattle.cad_map.specs.Valid.{EachPair}
-use Rattle.cad_valid.proofs.Tests.{drop-at}
+use Rattle.cad_map.proofs.CallerLemmas.{drop-at}
 
 pub not-iff : (b : Bool) (P : Type 0) → IsTrue b ↔ P → IsTrue (not b) ↔ (¬ P)
 not-iff b P is = ((λ t. iff_false is (not-true b t)), (λ no. not_from_false b (false_from_ne_true b (λ t. no (is.0 t)))))

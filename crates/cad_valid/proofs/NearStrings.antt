@@ -20,6 +20,18 @@ meet-turned m s t meet common =
     let shared = meet turned in
     (shared.0, record { of_first = shared.1.of_second; of_second = shared.1.of_first; there = common.same ∙ shared.1.there })
 
+-- segments whose ends stand where others' ends stand have a common location where those have
+kept-common : {a b c d p q r s : Position} → a ≡ p → b ≡ q → c ≡ r → d ≡ s → HaveCommonLocation a b c d → HaveCommonLocation p q r s
+kept-common e f g h common = record {
+  n = common.n;
+  s = common.s;
+  t = common.t;
+  some = common.some;
+  on_first = common.on_first;
+  on_second = common.on_second;
+  same = (λ i. location common.n (sym e i) common.s (sym f i)) ∙ common.same ∙ (λ i. location common.n (g i) common.t (h i));
+}
+
 module _ (old new : Map) (t : Touched) (valid : IsValid old) (sound : HasSoundRows new) (touched : IsTouched old new t) where
   end-stands : (s : StringRow) → (a : StringStands old new s) → (p : ℕ) → (a.before.from ≡ p) ⊎ (a.before.to ≡ p) → position_of new p ≡ position_of old p
   end-stands s a p (inl e) = subst (λ (q : ℕ). position_of new q ≡ position_of old q) (sym a.from ∙ e) a.from_position
@@ -35,15 +47,7 @@ module _ (old new : Map) (t : Touched) (valid : IsValid old) (sound : HasSoundRo
   kept-meet : (r s : StringRow) (a : StringStands old new r) (b : StringStands old new s) → MeetAtEnds old a.before b.before → MeetAtEnds new r s
   kept-meet r s a b meet common =
       let p1 = from-before r a in let p2 = to-before r a in let q1 = from-before s b in let q2 = to-before s b in
-      let before : HaveCommon old a.before b.before = record {
-        n = common.n;
-        s = common.s;
-        t = common.t;
-        some = common.some;
-        on_first = common.on_first;
-        on_second = common.on_second;
-        same = (λ i. location common.n (sym p1 i) common.s (sym p2 i)) ∙ common.same ∙ (λ i. location common.n (q1 i) common.t (q2 i));
-      } in
+      let before : HaveCommon old a.before b.before = kept-common p1 p2 q1 q2 common in
       let shared = meet before in
       let p = shared.0 in
       let at = end-stands r a p shared.1.of_first in (
@@ -78,15 +82,7 @@ module _ (old new : Map) (t : Touched) (valid : IsValid old) (sound : HasSoundRo
       let p1 = from-before s b in let p2 = to-before s b in
       let at : p.position ≡ row.row.position = sym (point-position new sound p hp) ∙ a.position ∙ sym row.position in
       let lies = All-at_each (λ s. LiesOnlyAsEnd old row.row s) old.strings b.before (All-at_each (λ p. AllByRecursion (LiesOnlyAsEnd old p) old.strings) old.points row.row valid.keeps.v4.points row.there) b.there in
-      named (lies (record {
-        n = common.n;
-        s = common.s;
-        t = common.t;
-        some = common.some;
-        on_first = common.on_first;
-        on_second = common.on_second;
-        same = (λ i. location common.n (sym p1 i) common.s (sym p2 i)) ∙ common.same ∙ (λ i. location common.n (at i) common.t (at i));
-      }))
+      named (lies (kept-common p1 p2 at at common))
     where
       number_is : (row-of old p.number a.there).row.number ≡ p.number
       number_is = (row-of old p.number a.there).number

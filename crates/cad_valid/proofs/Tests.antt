@@ -1,14 +1,10 @@
 -- Tests of what is left of a list from a place on, step by step.
-use Rattle.std.proofs.Common.{◌≡◌, ℕ, zero, suc, ◌+◌, add-one, List, [], ◌∷◌, Bool, true, false, drop, slice_get, Some, length, ◌≤◌, refl, ap, ◌∙◌}
+use Rattle.std.proofs.Common.{◌≡◌, ℕ, ◌+◌, List, Bool, true, false, drop, get_or, slice_get, Some, length, ◌<◌, ◌≤◌, refl, arith}
 use Rattle.std.proofs.lemmas.List.{drop_all}
+use Rattle.std.proofs.lemmas.Option.{slice_get-get_or}
 use Rattle.std.specs.List.{list_all}
 use Rattle.cad_map.specs.Valid.{each_pair}
-
--- the element at a place comes first of what is left
-pub drop-at : {X : Type 0} (xs : List X) (i : ℕ) (x : X) → slice_get xs i ≡ Some x → drop i xs ≡ x ∷ drop (i + 1) xs
-drop-at [] i x at = cc
-drop-at (y ∷ xs) zero x at = let same : y ≡ x = cc in ap (λ (z : _). z ∷ xs) same
-drop-at (y ∷ xs) (suc i) x at = rw (add-one (suc i)) (drop-at xs i x at ∙ ap (λ (n : ℕ). x ∷ drop n xs) (add-one i))
+use Rattle.cad_map.proofs.CallerLemmas.{drop-at}
 
 module _ {X : Type 0} (test : X → Bool) (xs : List X) (i : ℕ) (x : X) (at : slice_get xs i ≡ Some x) where
   pub all-stops : test x ≡ false → list_all test (drop i xs) ≡ false
@@ -21,6 +17,15 @@ module _ {X : Type 0} (test : X → Bool) (xs : List X) (i : ℕ) (x : X) (at : 
 pub all-done : {X : Type 0} (test : X → Bool) (xs : List X) (i : ℕ) → length xs ≤ i → list_all test (drop i xs) ≡ true
 all-done test xs i past = rw (drop_all i xs past) refl
 
+-- the same of a list of so many elements, by what reads as the element at a place
+module _ {X : Type 0} (test : X → Bool) (xs : List X) (none : X) (count : ℕ) (counted : count ≡ length xs) (i : ℕ) where
+  pub all-stops_at : i < count → test (get_or xs i none) ≡ false → list_all test (drop i xs) ≡ false
+  all-stops_at within fails = all-stops test xs i (get_or xs i none) (slice_get-get_or xs i none (omega arith)) fails
+
+  pub all-done_at : count ≤ i → list_all test (drop i xs) ≡ true
+  all-done_at past = all-done test xs i (omega arith)
+
+-- and of a test of two elements
 module _ {X : Type 0} (test : X → X → Bool) (xs : List X) (i : ℕ) (x : X) (at : slice_get xs i ≡ Some x) where
   pub pairs-stop : list_all (test x) (drop (i + 1) xs) ≡ false → each_pair test (drop i xs) ≡ false
   pairs-stop fails = rw (drop-at xs i x at, fails) refl
@@ -30,3 +35,13 @@ module _ {X : Type 0} (test : X → X → Bool) (xs : List X) (i : ℕ) (x : X) 
 
 pub pairs-done : {X : Type 0} (test : X → X → Bool) (xs : List X) (i : ℕ) → length xs ≤ i → each_pair test (drop i xs) ≡ true
 pairs-done test xs i past = rw (drop_all i xs past) refl
+
+module _ {X : Type 0} (test : X → X → Bool) (xs : List X) (none : X) (count : ℕ) (counted : count ≡ length xs) (i : ℕ) where
+  pub pairs-stop_at : i < count → list_all (test (get_or xs i none)) (drop (i + 1) xs) ≡ false → each_pair test (drop i xs) ≡ false
+  pairs-stop_at within fails = pairs-stop test xs i (get_or xs i none) (slice_get-get_or xs i none (omega arith)) fails
+
+  pub pairs-go_at : i < count → list_all (test (get_or xs i none)) (drop (i + 1) xs) ≡ true → each_pair test (drop i xs) ≡ each_pair test (drop (i + 1) xs)
+  pairs-go_at within passes = pairs-go test xs i (get_or xs i none) (slice_get-get_or xs i none (omega arith)) passes
+
+  pub pairs-done_at : count ≤ i → each_pair test (drop i xs) ≡ true
+  pairs-done_at past = pairs-done test xs i (omega arith)

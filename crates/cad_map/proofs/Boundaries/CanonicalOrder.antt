@@ -108,12 +108,15 @@ one_of k b = if boundary_comes_first k b && boundary_comes_first b k then 1 else
 abbrev times : Boundary → List Boundary → ℕ
 times k bs = sum_by (one_of k) bs
 
-itself : (k : Boundary) → one_of k k ≡ 1
-itself k = by (boundary_comes_first k k) refl
+itself_first : (k : Boundary) → boundary_comes_first k k ≡ true
+itself_first k = by (boundary_comes_first k k) refl
   where
-    by : (t : Bool) → boundary_comes_first k k ≡ t → one_of k k ≡ 1
-    by true is = simp is
-    by false is = let other = boundary_comes_first-total k k is in absurd (true≢false (sym other ∙ is))
+    by : (t : Bool) → boundary_comes_first k k ≡ t → boundary_comes_first k k ≡ true
+    by true is = is
+    by false is = boundary_comes_first-total k k is
+
+itself : (k : Boundary) → one_of k k ≡ 1
+itself k = let is = itself_first k in simp is
 
 -- one that doesn't come after b isn't among those that come after b
 never : (k b : Boundary) (bs : List Boundary) → boundary_comes_first b k ≡ false → AllByRecursion (λ c. boundary_comes_first b c ≡ true) bs → times k bs ≡ 0
@@ -142,26 +145,12 @@ in_order-one (x ∷ xs) (y ∷ ys) ox oy same = by (λ tails. in_order-one xs ys
         let m = sum_by-cons (one_of y) y ys in
         let i = itself y in
         absurd (omega (arith, s, n, m, i))
-      where
-        itself_first : (b : Boundary) → boundary_comes_first b b ≡ true
-        itself_first b = go (boundary_comes_first b b) refl
-          where
-            go : (t : Bool) → boundary_comes_first b b ≡ t → boundary_comes_first b b ≡ true
-            go true is = is
-            go false is = boundary_comes_first-total b b is
     by again true false et eu =
         let s = same x in
         let n = never x y (y ∷ ys) eu (itself_first y, oy.0) in
         let m = sum_by-cons (one_of x) x xs in
         let i = itself x in
         absurd (omega (arith, s, n, m, i))
-      where
-        itself_first : (b : Boundary) → boundary_comes_first b b ≡ true
-        itself_first b = go (boundary_comes_first b b) refl
-          where
-            go : (t : Bool) → boundary_comes_first b b ≡ t → boundary_comes_first b b ≡ true
-            go true is = is
-            go false is = boundary_comes_first-total b b is
 
 -- boundaries in order, which are the canonical forms of these, are these in canonical order
 pub canonical_order-is : (bs ys : List Boundary) → IsPermutation (map canonical_form bs) ys → InOrder ys → ys ≡ canonical_order bs

@@ -13,12 +13,13 @@ use Rattle.cad_rows.specs.declared.names.Name.TheVariants as name
 use Rattle.cad_rows.specs.declared.refusals.Refusal.TheVariants as told
 use Rattle.cad_rings.specs.Cycle.{Corner}
 use Rattle.cad_map.specs.Chain.{start_of, next_of, end_of, last_but_one, inner_of, are_distinct, chosen_corner}
-use Rattle.cad_map.specs.Map.{Map, has_face, has_point, parcel_of, string_of, is_free}
+use Rattle.cad_map.specs.Map.{Map, has_face, has_point, parcel_of, string_of, is_free, is_retired}
 use Rattle.cad_map.specs.Merger.{ChainInRings, shared_chains}
 use Rattle.cad_map.specs.Refusals.{first_of, is_there, face_named, points_named, strings_named, first_not_free, corner_missing, have_one_ring, is_bad_chain}
 use Rattle.cad_map.proofs.Edits.Allowed.{IsAllowed, not-when, none-from_some, free-each, room}
 use Rattle.cad_map.proofs.Lists.EachElement.{All-append}
 use Rattle.cad_map.proofs.Edits.KeptRows.{or-none, differs}
+use Rattle.cad_map.proofs.Parcels.AddedChain.{CanAddRows}
 use Rattle.cad_map.proofs.Parcels.Divided.{CanDivide}
 use Rattle.cad_map.proofs.Parcels.Enclosed.{CanEnclose}
 use Rattle.cad_map.proofs.Mergers.MergedRows.{CanMerge}
@@ -93,36 +94,19 @@ fits-parcel strings more parcels none =
     let both = or-none (nat_lt string_limit (strings + more)) (nat_le row_limit parcels) none in
     (not-less (strings + more) string_limit both.0, room row_limit parcels both.1)
 
--- ---- The three edits
-
-pub can-divide : (m : Map) (face : Face) (chain strings : List ℕ) (parcel : ℕ) (label : List ℕ) (source : ℕ) → AllByRecursion IsNumber strings × IsNumber parcel × IsLabel label → IsAllowed m (Divide face chain strings parcel label source)
-    → CanDivide m face chain strings parcel label source
-can-divide m face chain strings parcel label source given free =
-    let there = All-append (λ n. is_there m n ≡ true) (face_named face ++ points_named chain) (name.Source source ∷ []) (there-each m ((face_named face ++ points_named chain) ++ name.Source source ∷ []) free.unknown) in
-    let known = All-append (λ n. is_there m n ≡ true) (face_named face) (points_named chain) there.0 in
-    let new = All-append (λ n. is_there m n ≡ false) (strings_named strings) (name.Parcel parcel ∷ []) (free-each m (strings_named strings ++ name.Parcel parcel ∷ []) free.taken) in
-    let good = good-chain chain 2 strings (length chain - 1) (not-when _ _ free.bad_chain) in
-    let long = good.long in
-    let many = good.as_many in
-    let corners = corners-there (chosen_corner m face (start_of chain) (next_of chain)) (chosen_corner m face (end_of chain) (last_but_one chain)) (start_of chain) (end_of chain) free.not_in_parcel in
-    let fits = fits-parcel (length m.strings) (length strings) (length m.parcels) (not-when _ _ free.full) in
+-- what each new parcel asks of the map
+can-add_rows : (m : Map) (strings : List ℕ) (parcel : ℕ) (label : List ℕ) (source : ℕ) → AllByRecursion IsNumber strings × IsNumber parcel × IsLabel label → is_there m (name.Source source) ≡ true
+    → AllByRecursion (λ n. is_there m n ≡ false) (strings_named strings ++ name.Parcel parcel ∷ []) → is_retired m parcel ≡ false → are_distinct strings ≡ true
+    → (nat_lt string_limit (length m.strings + length strings) || nat_le row_limit (length m.parcels)) ≡ false → CanAddRows m strings parcel label source
+can-add_rows m strings parcel label source given there free not_retired distinct not_full =
+    let new = All-append (λ n. is_there m n ≡ false) (strings_named strings) (name.Parcel parcel ∷ []) free in
+    let fits = fits-parcel (length m.strings) (length strings) (length m.parcels) not_full in
     record {
-      face_there = face-there m face known.0;
-      points_there = points-there m chain known.1;
-      source_there = there.1.0;
+      source_there = there;
       strings_new = strings-new m strings new.0;
       parcel_new = none-from_some (parcel_of m parcel) new.1.0;
-      not_retired = not-when _ _ free.retired;
-      inner_free = all-free m (inner_of chain) free.not_free;
-      long = long;
-      as_many = omega (arith, long, many);
-      points_distinct = good.points_distinct;
-      strings_distinct = good.strings_distinct;
-      first = corners.0.0;
-      at_first = corners.0.1;
-      last = corners.1.0;
-      at_last = corners.1.1;
-      one_ring = not-not _ ((λ i. not (have_one_ring m face (sym corners.0.1 i) (sym corners.1.1 i))) ∙ not-when _ _ free.chain_joins_rings);
+      not_retired = not_retired;
+      strings_distinct = distinct;
       few_strings = fits.0;
       few_parcels = fits.1;
       string_numbers = given.0;
@@ -130,31 +114,48 @@ can-divide m face chain strings parcel label source given free =
       is_label = given.2;
     }
 
+-- ---- The three edits
+
+pub can-divide : (m : Map) (face : Face) (chain strings : List ℕ) (parcel : ℕ) (label : List ℕ) (source : ℕ) → AllByRecursion IsNumber strings × IsNumber parcel × IsLabel label → IsAllowed m (Divide face chain strings parcel label source)
+    → CanDivide m face chain strings parcel label source
+can-divide m face chain strings parcel label source given free =
+    let there = All-append (λ n. is_there m n ≡ true) (face_named face ++ points_named chain) (name.Source source ∷ []) (there-each m ((face_named face ++ points_named chain) ++ name.Source source ∷ []) free.unknown) in
+    let known = All-append (λ n. is_there m n ≡ true) (face_named face) (points_named chain) there.0 in
+    let good = good-chain chain 2 strings (length chain - 1) (not-when _ _ free.bad_chain) in
+    let long = good.long in
+    let many = good.as_many in
+    let corners = corners-there (chosen_corner m face (start_of chain) (next_of chain)) (chosen_corner m face (end_of chain) (last_but_one chain)) (start_of chain) (end_of chain) free.not_in_parcel in
+    record {
+      rows = can-add_rows m strings parcel label source given there.1.0 (free-each m (strings_named strings ++ name.Parcel parcel ∷ []) free.taken)
+          (not-when _ _ free.retired) good.strings_distinct (not-when _ _ free.full);
+      face_there = face-there m face known.0;
+      points_there = points-there m chain known.1;
+      inner_free = all-free m (inner_of chain) free.not_free;
+      long = long;
+      as_many = omega (arith, long, many);
+      points_distinct = good.points_distinct;
+      first = corners.0.0;
+      at_first = corners.0.1;
+      last = corners.1.0;
+      at_last = corners.1.1;
+      one_ring = not-not _ ((λ i. not (have_one_ring m face (sym corners.0.1 i) (sym corners.1.1 i))) ∙ not-when _ _ free.chain_joins_rings);
+    }
+
 pub can-enclose : (m : Map) (face : Face) (points strings : List ℕ) (parcel : ℕ) (label : List ℕ) (source : ℕ) → AllByRecursion IsNumber strings × IsNumber parcel × IsLabel label → IsAllowed m (Enclose face points strings parcel label source)
     → CanEnclose m face points strings parcel label source
 can-enclose m face points strings parcel label source given free =
     let there = All-append (λ n. is_there m n ≡ true) (face_named face ++ points_named points) (name.Source source ∷ []) (there-each m ((face_named face ++ points_named points) ++ name.Source source ∷ []) free.unknown) in
     let known = All-append (λ n. is_there m n ≡ true) (face_named face) (points_named points) there.0 in
-    let new = All-append (λ n. is_there m n ≡ false) (strings_named strings) (name.Parcel parcel ∷ []) (free-each m (strings_named strings ++ name.Parcel parcel ∷ []) free.taken) in
     let good = good-chain points 3 strings (length points) (not-when _ _ free.bad_chain) in
-    let fits = fits-parcel (length m.strings) (length strings) (length m.parcels) (not-when _ _ free.full) in
     record {
+      rows = can-add_rows m strings parcel label source given there.1.0 (free-each m (strings_named strings ++ name.Parcel parcel ∷ []) free.taken)
+          (not-when _ _ free.retired) good.strings_distinct (not-when _ _ free.full);
       face_there = face-there m face known.0;
       points_there = points-there m points known.1;
-      source_there = there.1.0;
-      strings_new = strings-new m strings new.0;
-      parcel_new = none-from_some (parcel_of m parcel) new.1.0;
-      not_retired = not-when _ _ free.retired;
       free = all-free m points free.not_free;
       long = good.long;
       as_many = good.as_many;
       points_distinct = good.points_distinct;
-      strings_distinct = good.strings_distinct;
-      few_strings = fits.0;
-      few_parcels = fits.1;
-      string_numbers = given.0;
-      parcel_number = given.1;
-      is_label = given.2;
     }
 
 -- a merger names two parcels

@@ -18,7 +18,7 @@ use Rattle.cad_rings.proofs.CallerLemmas.{IsSameRing-least_rotation, round_permu
 use Rattle.cad_map.specs.declared.boundary.Boundary.{Boundary}
 use Rattle.cad_map.specs.Boundaries.{canonical_form, canonical_order}
 use Rattle.cad_map.specs.Map.{Map, point_of, string_of, has_point, has_parcel, has_face, is_end, is_free, side_of, string_sides, all_sides}
-use Rattle.cad_map.specs.Table.{row_with, without_row}
+use Rattle.cad_map.specs.Table.{row_with, with_row, without_row}
 use Rattle.cad_map.specs.Valid.{AreNumbers, AreSources, HasSoundRows, HasCompleteRings, IsSound}
 use Rattle.cad_map.specs.Changes.{with_point, with_parcel, with_string, with_boundaries}
 use Rattle.cad_map.proofs.Edits.Allowed.{IsAllowed, not-when, free-source, room}
@@ -106,11 +106,12 @@ rings-follow m there more rings =
     All-follows (λ b. AllByRecursion (λ p. IsTrue (has_point m p)) b.ring) (λ b. AllByRecursion (λ p. IsTrue (there p)) b.ring)
     (λ b all. All-follows (λ p. IsTrue (has_point m p)) (λ p. IsTrue (there p)) more b.ring all) m.boundaries rings
 
-pub kept-point : (m : Map) (row : PointRow) → HasSoundRows m → IsNumber row.number → point_of m row.number ≡ None → OnTheMap row.position → AreSources m.sources row.sources → length m.points + 1 ≤ row_limit
-    → HasSoundRows (record m { points = m.points ++ row ∷ [] })
-kept-point m row v number new position sources fits =
-    let there : ℕ → Bool = λ n. is_some (row_with (λ (r : PointRow). r.number) n (m.points ++ row ∷ [])) in
-    let more : (n : ℕ) → IsTrue (has_point m n) → IsTrue (there n) = λ n found. found-push (λ (r : PointRow). r.number) n m.points row found in
+-- other points in the place of the points, where strings and rings name none that isn't among them
+pub kept-points : (m : Map) (points : List PointRow) → HasSoundRows m → AreNumbers (map (λ (r : PointRow). r.number) points) → AllByRecursion (λ (r : PointRow). OnTheMap r.position) points
+    → AllByRecursion (λ s. IsTrue (is_some (row_with (λ (r : PointRow). r.number) s.from points)) × IsTrue (is_some (row_with (λ (r : PointRow). r.number) s.to points))) m.strings
+    → AllByRecursion (λ b. AllByRecursion (λ p. IsTrue (is_some (row_with (λ (r : PointRow). r.number) p points))) b.ring) m.boundaries
+    → AllByRecursion (λ (r : PointRow). AreSources m.sources r.sources) points → length points ≤ row_limit → HasSoundRows (record m { points = points })
+kept-points m points v numbers positions ends points_of_rings sources few =
     record {
       sources = v.sources;
       parcels = v.parcels;
@@ -127,13 +128,26 @@ kept-point m row v number new position sources fits =
       few_strings = v.few_strings;
       few_retired = v.few_retired;
       canonical = v.canonical;
-      points = rw (map-push (λ (r : PointRow). r.number) m.points row) (AreNumbers-push (map (λ (r : PointRow). r.number) m.points) row.number v.points number (others-from_none (λ (r : PointRow). r.number) row.number m.points new));
-      positions = All-push (λ (r : PointRow). OnTheMap r.position) m.points row v.positions position;
-      ends = ends-follow m there more m.strings v.ends;
-      points_of_rings = rings-follow m there more v.points_of_rings;
-      point_sources = All-push (λ (r : PointRow). AreSources m.sources r.sources) m.points row v.point_sources sources;
-      few_points = let e = length-push m.points row in omega (arith, e, fits);
+      points = numbers;
+      positions = positions;
+      ends = ends;
+      points_of_rings = points_of_rings;
+      point_sources = sources;
+      few_points = few;
     }
+
+pub kept-point : (m : Map) (row : PointRow) → HasSoundRows m → IsNumber row.number → point_of m row.number ≡ None → OnTheMap row.position → AreSources m.sources row.sources → length m.points + 1 ≤ row_limit
+    → HasSoundRows (record m { points = m.points ++ row ∷ [] })
+kept-point m row v number new position sources fits =
+    let there : ℕ → Bool = λ n. is_some (row_with (λ (r : PointRow). r.number) n (m.points ++ row ∷ [])) in
+    let more : (n : ℕ) → IsTrue (has_point m n) → IsTrue (there n) = λ n found. found-push (λ (r : PointRow). r.number) n m.points row found in
+    kept-points m (m.points ++ row ∷ []) v
+    (rw (map-push (λ (r : PointRow). r.number) m.points row) (AreNumbers-push (map (λ (r : PointRow). r.number) m.points) row.number v.points number (others-from_none (λ (r : PointRow). r.number) row.number m.points new)))
+    (All-push (λ (r : PointRow). OnTheMap r.position) m.points row v.positions position)
+    (ends-follow m there more m.strings v.ends)
+    (rings-follow m there more v.points_of_rings)
+    (All-push (λ (r : PointRow). AreSources m.sources r.sources) m.points row v.point_sources sources)
+    (let e = length-push m.points row in omega (arith, e, fits))
 
 -- ---- A free point dropped
 
@@ -195,36 +209,13 @@ pub kept-without_point : (m : Map) (p : ℕ) → HasSoundRows m → AllByRecursi
 kept-without_point m p v no_string no_ring =
     let there : ℕ → Bool = λ n. is_some (row_with (λ (r : PointRow). r.number) n (without_row (λ (r : PointRow). r.number) p m.points)) in
     let stays : (n : ℕ) → IsTrue (has_point m n) → n ≢ p → IsTrue (there n) = λ n found other. found-without (λ (r : PointRow). r.number) n p m.points other found in
-    record {
-      sources = v.sources;
-      parcels = v.parcels;
-      strings = v.strings;
-      retired = v.retired;
-      retired_for_good = v.retired_for_good;
-      texts = v.texts;
-      labels = v.labels;
-      faces_of_rings = v.faces_of_rings;
-      parcel_sources = v.parcel_sources;
-      string_sources = v.string_sources;
-      few_sources = v.few_sources;
-      few_parcels = v.few_parcels;
-      few_strings = v.few_strings;
-      few_retired = v.few_retired;
-      canonical = v.canonical;
-      points = record {
-        in_range = All-filter-map IsNumber (λ (r : PointRow). r.number) _ m.points v.points.in_range;
-        distinct = EachPair-filter-map (λ a b. a ≢ b) (λ (r : PointRow). r.number) _ m.points v.points.distinct;
-      };
-      positions = All-filter (λ (r : PointRow). OnTheMap r.position) _ m.points v.positions;
-      ends =
-          both-of (λ s. IsTrue (has_point m s.from) × IsTrue (has_point m s.to)) (λ s. (s.from ≢ p) × (s.to ≢ p)) (λ s. IsTrue (there s.from) × IsTrue (there s.to))
-          (λ s known other. (stays s.from known.0 other.0, stays s.to known.1 other.1)) m.strings v.ends no_string;
-      points_of_rings =
-          both-of (λ b. AllByRecursion (λ q. IsTrue (has_point m q)) b.ring) (λ b. AllByRecursion (λ q. q ≢ p) b.ring) (λ b. AllByRecursion (λ q. IsTrue (there q)) b.ring)
-          (λ b known other. both-of (λ q. IsTrue (has_point m q)) (λ q. q ≢ p) (λ q. IsTrue (there q)) stays b.ring known other) m.boundaries v.points_of_rings no_ring;
-      point_sources = All-filter (λ (r : PointRow). AreSources m.sources r.sources) _ m.points v.point_sources;
-      few_points = let fewer = length-without_row (λ (r : PointRow). r.number) p m.points in omega (arith, fewer, v.few_points);
-    }
+    kept-points m (without_row (λ (r : PointRow). r.number) p m.points) v
+    (record { in_range = All-filter-map IsNumber (λ (r : PointRow). r.number) _ m.points v.points.in_range; distinct = EachPair-filter-map (λ a b. a ≢ b) (λ (r : PointRow). r.number) _ m.points v.points.distinct })
+    (All-filter (λ (r : PointRow). OnTheMap r.position) _ m.points v.positions)
+    (both-of (λ s. IsTrue (has_point m s.from) × IsTrue (has_point m s.to)) (λ s. (s.from ≢ p) × (s.to ≢ p)) (λ s. IsTrue (there s.from) × IsTrue (there s.to)) (λ s known other. (stays s.from known.0 other.0, stays s.to known.1 other.1)) m.strings v.ends no_string)
+    (both-of (λ b. AllByRecursion (λ q. IsTrue (has_point m q)) b.ring) (λ b. AllByRecursion (λ q. q ≢ p) b.ring) (λ b. AllByRecursion (λ q. IsTrue (there q)) b.ring) (λ b known other. both-of (λ q. IsTrue (has_point m q)) (λ q. q ≢ p) (λ q. IsTrue (there q)) stays b.ring known other) m.boundaries v.points_of_rings no_ring)
+    (All-filter (λ (r : PointRow). AreSources m.sources r.sources) _ m.points v.point_sources)
+    (let fewer = length-without_row (λ (r : PointRow). r.number) p m.points in omega (arith, fewer, v.few_points))
 
 pub kept-drop : (m : Map) (p : ℕ) → IsSound m → is_free m p ≡ true → HasSoundRows (record m { points = without_row (λ r. r.number) p m.points })
 kept-drop m p sound free = kept-without_point m p sound.v1 (no_end p m.strings (is_nothing (filter (λ s. is_end s p) m.strings) free)) (rings-elsewhere m p sound.v5 free)
@@ -239,8 +230,11 @@ length-filter test (x ∷ xs) = by (test x) (length-filter test xs)
     by true rest = omega (arith, rest)
     by false rest = omega (arith, rest)
 
-pub kept-strings_left : (m : Map) (test : StringRow → Bool) → HasSoundRows m → HasSoundRows (record m { strings = filter test m.strings })
-kept-strings_left m test v =
+-- other strings of known points and sources in the place of the strings
+kept-strings : (m : Map) (strings : List StringRow) → HasSoundRows m → AreNumbers (map (λ (r : StringRow). r.number) strings)
+    → AllByRecursion (λ (r : StringRow). IsTrue (has_point m r.from) × IsTrue (has_point m r.to)) strings → AllByRecursion (λ (r : StringRow). AreSources m.sources r.sources) strings
+    → length strings ≤ string_limit → HasSoundRows (record m { strings = strings })
+kept-strings m strings v numbers ends sources few =
     record {
       sources = v.sources;
       points = v.points;
@@ -259,41 +253,28 @@ kept-strings_left m test v =
       few_parcels = v.few_parcels;
       few_retired = v.few_retired;
       canonical = v.canonical;
-      strings = record {
-        in_range = All-filter-map IsNumber (λ (r : StringRow). r.number) test m.strings v.strings.in_range;
-        distinct = EachPair-filter-map (λ a b. a ≢ b) (λ (r : StringRow). r.number) test m.strings v.strings.distinct;
-      };
-      ends = All-filter (λ (r : StringRow). IsTrue (has_point m r.from) × IsTrue (has_point m r.to)) test m.strings v.ends;
-      string_sources = All-filter (λ (r : StringRow). AreSources m.sources r.sources) test m.strings v.string_sources;
-      few_strings = let fewer = length-filter test m.strings in omega (arith, fewer, v.few_strings);
+      strings = numbers;
+      ends = ends;
+      string_sources = sources;
+      few_strings = few;
     }
+
+pub kept-strings_left : (m : Map) (test : StringRow → Bool) → HasSoundRows m → HasSoundRows (record m { strings = filter test m.strings })
+kept-strings_left m test v =
+    kept-strings m (filter test m.strings) v
+    (record { in_range = All-filter-map IsNumber (λ (r : StringRow). r.number) test m.strings v.strings.in_range; distinct = EachPair-filter-map (λ a b. a ≢ b) (λ (r : StringRow). r.number) test m.strings v.strings.distinct })
+    (All-filter (λ (r : StringRow). IsTrue (has_point m r.from) × IsTrue (has_point m r.to)) test m.strings v.ends)
+    (All-filter (λ (r : StringRow). AreSources m.sources r.sources) test m.strings v.string_sources)
+    (let fewer = length-filter test m.strings in omega (arith, fewer, v.few_strings))
 
 pub kept-string : (m : Map) (row : StringRow) → HasSoundRows m → IsNumber row.number → string_of m row.number ≡ None → IsTrue (has_point m row.from) × IsTrue (has_point m row.to) → AreSources m.sources row.sources
     → length m.strings + 1 ≤ string_limit → HasSoundRows (record m { strings = m.strings ++ row ∷ [] })
 kept-string m row v number new ends sources fits =
-    record {
-      sources = v.sources;
-      points = v.points;
-      parcels = v.parcels;
-      retired = v.retired;
-      retired_for_good = v.retired_for_good;
-      texts = v.texts;
-      labels = v.labels;
-      positions = v.positions;
-      points_of_rings = v.points_of_rings;
-      faces_of_rings = v.faces_of_rings;
-      point_sources = v.point_sources;
-      parcel_sources = v.parcel_sources;
-      few_sources = v.few_sources;
-      few_points = v.few_points;
-      few_parcels = v.few_parcels;
-      few_retired = v.few_retired;
-      canonical = v.canonical;
-      strings = rw (map-push (λ (r : StringRow). r.number) m.strings row) (AreNumbers-push (map (λ (r : StringRow). r.number) m.strings) row.number v.strings number (others-from_none (λ (r : StringRow). r.number) row.number m.strings new));
-      ends = All-push (λ (r : StringRow). IsTrue (has_point m r.from) × IsTrue (has_point m r.to)) m.strings row v.ends ends;
-      string_sources = All-push (λ (r : StringRow). AreSources m.sources r.sources) m.strings row v.string_sources sources;
-      few_strings = let e = length-push m.strings row in omega (arith, e, fits);
-    }
+    kept-strings m (m.strings ++ row ∷ []) v
+    (rw (map-push (λ (r : StringRow). r.number) m.strings row) (AreNumbers-push (map (λ (r : StringRow). r.number) m.strings) row.number v.strings number (others-from_none (λ (r : StringRow). r.number) row.number m.strings new)))
+    (All-push (λ (r : StringRow). IsTrue (has_point m r.from) × IsTrue (has_point m r.to)) m.strings row v.ends ends)
+    (All-push (λ (r : StringRow). AreSources m.sources r.sources) m.strings row v.string_sources sources)
+    (let e = length-push m.strings row in omega (arith, e, fits))
 
 points-canonical_form : (P : ℕ → Type 0) (b : Boundary) → AllByRecursion P b.ring → AllByRecursion P (canonical_form b).ring
 points-canonical_form P b known =
@@ -339,29 +320,13 @@ pub kept-point_row : (m : Map) (row : PointRow) → HasSoundRows m → OnTheMap 
 kept-point_row m row v position sources =
     let there : ℕ → Bool = λ n. has_point (with_point m row) n in
     let more : (n : ℕ) → IsTrue (has_point m n) → IsTrue (there n) = λ n found. found-with_row (λ (r : PointRow). r.number) n row m.points ∙ found in
-    record {
-      sources = v.sources;
-      parcels = v.parcels;
-      strings = v.strings;
-      retired = v.retired;
-      retired_for_good = v.retired_for_good;
-      texts = v.texts;
-      labels = v.labels;
-      faces_of_rings = v.faces_of_rings;
-      parcel_sources = v.parcel_sources;
-      string_sources = v.string_sources;
-      few_sources = v.few_sources;
-      few_parcels = v.few_parcels;
-      few_strings = v.few_strings;
-      few_retired = v.few_retired;
-      canonical = v.canonical;
-      points = rw (map-with_row (λ (r : PointRow). r.number) row m.points) v.points;
-      positions = All-with_row (λ (r : PointRow). r.number) (λ (r : PointRow). OnTheMap r.position) row m.points v.positions position;
-      ends = ends-follow m there more m.strings v.ends;
-      points_of_rings = rings-follow m there more v.points_of_rings;
-      point_sources = All-with_row (λ (r : PointRow). r.number) (λ (r : PointRow). AreSources m.sources r.sources) row m.points v.point_sources sources;
-      few_points = rw (length-with_row (λ (r : PointRow). r.number) row m.points) v.few_points;
-    }
+    kept-points m (with_row (λ (r : PointRow). r.number) row m.points) v
+    (rw (map-with_row (λ (r : PointRow). r.number) row m.points) v.points)
+    (All-with_row (λ (r : PointRow). r.number) (λ (r : PointRow). OnTheMap r.position) row m.points v.positions position)
+    (ends-follow m there more m.strings v.ends)
+    (rings-follow m there more v.points_of_rings)
+    (All-with_row (λ (r : PointRow). r.number) (λ (r : PointRow). AreSources m.sources r.sources) row m.points v.point_sources sources)
+    (rw (length-with_row (λ (r : PointRow). r.number) row m.points) v.few_points)
 
 pub kept-parcel_row : (m : Map) (row : ParcelRow) → HasSoundRows m → IsLabel row.label → AreSources m.sources row.sources → HasSoundRows (with_parcel m row)
 kept-parcel_row m row v label sources =
@@ -396,26 +361,8 @@ kept-parcel_row m row v label sources =
 
 pub kept-string_row : (m : Map) (row : StringRow) → HasSoundRows m → IsTrue (has_point m row.from) × IsTrue (has_point m row.to) → AreSources m.sources row.sources → HasSoundRows (with_string m row)
 kept-string_row m row v ends sources =
-    record {
-      sources = v.sources;
-      points = v.points;
-      parcels = v.parcels;
-      retired = v.retired;
-      retired_for_good = v.retired_for_good;
-      texts = v.texts;
-      labels = v.labels;
-      positions = v.positions;
-      points_of_rings = v.points_of_rings;
-      faces_of_rings = v.faces_of_rings;
-      point_sources = v.point_sources;
-      parcel_sources = v.parcel_sources;
-      few_sources = v.few_sources;
-      few_points = v.few_points;
-      few_parcels = v.few_parcels;
-      few_retired = v.few_retired;
-      canonical = v.canonical;
-      strings = rw (map-with_row (λ (r : StringRow). r.number) row m.strings) v.strings;
-      ends = All-with_row (λ (r : StringRow). r.number) (λ (r : StringRow). IsTrue (has_point m r.from) × IsTrue (has_point m r.to)) row m.strings v.ends ends;
-      string_sources = All-with_row (λ (r : StringRow). r.number) (λ (r : StringRow). AreSources m.sources r.sources) row m.strings v.string_sources sources;
-      few_strings = rw (length-with_row (λ (r : StringRow). r.number) row m.strings) v.few_strings;
-    }
+    kept-strings m (with_row (λ (r : StringRow). r.number) row m.strings) v
+    (rw (map-with_row (λ (r : StringRow). r.number) row m.strings) v.strings)
+    (All-with_row (λ (r : StringRow). r.number) (λ (r : StringRow). IsTrue (has_point m r.from) × IsTrue (has_point m r.to)) row m.strings v.ends ends)
+    (All-with_row (λ (r : StringRow). r.number) (λ (r : StringRow). AreSources m.sources r.sources) row m.strings v.string_sources sources)
+    (rw (length-with_row (λ (r : StringRow). r.number) row m.strings) v.few_strings)

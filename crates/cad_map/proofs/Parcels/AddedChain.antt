@@ -20,21 +20,25 @@ use Rattle.cad_map.proofs.Parcels.AddedRows.{CanBeAdded, one_source}
 
 -- ---- Strings along a chain can be added
 
--- what speaks for new strings along a chain, and a new parcel
-pub record CanAddAlong (m : Map) (chain strings : List ℕ) (parcel : ℕ) (label : List ℕ) (source : ℕ) : Type 0 where
-  pub points_there : AllByRecursion (λ p. IsTrue (has_point m p)) chain
+-- what speaks for new strings and a new parcel
+pub record CanAddRows (m : Map) (strings : List ℕ) (parcel : ℕ) (label : List ℕ) (source : ℕ) : Type 0 where
   pub source_there : has_source m source ≡ true
   pub strings_new : AllByRecursion (λ s. string_of m s ≡ None) strings
   pub parcel_new : parcel_of m parcel ≡ None
   pub not_retired : is_retired m parcel ≡ false
-  pub as_many : length strings + 1 ≡ length chain
-  pub no_opposites : HasNoOpposites (sides_of_chain chain)
   pub strings_distinct : are_distinct strings ≡ true
   pub few_strings : length m.strings + length strings ≤ string_limit
   pub few_parcels : length m.parcels + 1 ≤ row_limit
   pub string_numbers : AllByRecursion IsNumber strings
   pub parcel_number : IsNumber parcel
   pub is_label : IsLabel label
+
+-- and for such strings along a chain
+pub record CanAddAlong (m : Map) (chain strings : List ℕ) (parcel : ℕ) (label : List ℕ) (source : ℕ) : Type 0 where
+  pub rows : CanAddRows m strings parcel label source
+  pub points_there : AllByRecursion (λ p. IsTrue (has_point m p)) chain
+  pub as_many : length strings + 1 ≡ length chain
+  pub no_opposites : HasNoOpposites (sides_of_chain chain)
 
 -- a fact of what comes of each element is one of each element
 pub All-of_map : {X Y : Type 0} (P : Y → Type 0) (f : X → Y) (xs : List X) → AllByRecursion P (map f xs) → AllByRecursion (λ x. P (f x)) xs
@@ -52,18 +56,18 @@ along-can_be_added m chain strings parcel label source can =
     let numbered = numbers-strings_along (source ∷ []) strings chain can.as_many in
     let ended : AllByRecursion (λ (s : Side). IsTrue (has_point m s.0) × IsTrue (has_point m s.1)) (sides_of_chain chain) = ends-chain (λ p. IsTrue (has_point m p)) chain can.points_there in
     record {
-      source_there = can.source_there;
-      numbers = rw numbered (record { in_range = can.string_numbers; distinct = pairs-from_distinct strings can.strings_distinct });
-      new = rw numbered can.strings_new;
+      source_there = can.rows.source_there;
+      numbers = rw numbered (record { in_range = can.rows.string_numbers; distinct = pairs-from_distinct strings can.rows.strings_distinct });
+      new = rw numbered can.rows.strings_new;
       ends = All-of_map (λ (s : Side). IsTrue (has_point m s.0) × IsTrue (has_point m s.1)) side_of rows (rw along ended);
       two = All-of_map (λ (s : Side). s.0 ≢ s.1) side_of rows (rw along (two_ends (sides_of_chain chain) can.no_opposites));
-      sources = sources-strings_along (source ∷ []) (AreSources m.sources) (one_source m source can.source_there) strings chain;
-      few_strings = let e = sym (length-map rows (λ (r : StringRow). r.number)) ∙ ap length numbered in omega (arith, e, can.few_strings);
-      parcel_number = can.parcel_number;
-      parcel_new = can.parcel_new;
-      not_retired = can.not_retired;
-      is_label = can.is_label;
-      few_parcels = can.few_parcels;
+      sources = sources-strings_along (source ∷ []) (AreSources m.sources) (one_source m source can.rows.source_there) strings chain;
+      few_strings = let e = sym (length-map rows (λ (r : StringRow). r.number)) ∙ ap length numbered in omega (arith, e, can.rows.few_strings);
+      parcel_number = can.rows.parcel_number;
+      parcel_new = can.rows.parcel_new;
+      not_retired = can.rows.not_retired;
+      is_label = can.rows.is_label;
+      few_parcels = can.rows.few_parcels;
     }
 
 -- ---- Points that no string has

@@ -27,7 +27,7 @@ use Rattle.cad_map.proofs.Walks.AlongRing.{once-from_pairs}
 use Rattle.cad_map.proofs.Boundaries.FacesBeside.{IsBeside, has_side-Contains, sides-once}
 use Rattle.cad_map.proofs.Boundaries.Balance.{sum, part}
 use Rattle.cad_map.proofs.Parcels.ChainFacts.{HasNoOpposites, in_parts, pairs-from_distinct, inner-along, no_opposites-along, sides-strings_along}
-use Rattle.cad_map.proofs.Parcels.AddedChain.{CanAddAlong, along-can_be_added, joined-in, no_side-free, no_side_to-free}
+use Rattle.cad_map.proofs.Parcels.AddedChain.{CanAddRows, CanAddAlong, along-can_be_added, joined-in, no_side-free, no_side_to-free}
 use Rattle.cad_map.proofs.Walks.ChosenCorners.{IsChosen, chosen, any-found, face-ring, none-in_sector}
 use Rattle.cad_map.proofs.Parcels.CutSides.{place-of, IsOnlyIn, only-in, sides-among, left-sides, right-sides, left-long, right-long}
 use Rattle.cad_map.proofs.Parcels.PlacedRings.{IsDivision, placed-sound}
@@ -35,27 +35,18 @@ use Rattle.cad_map.proofs.Parcels.PlacedSums.{adds-own, part-among, placed-adds_
 
 -- what speaks for a division: none of its refusals applies
 pub record CanDivide (m : Map) (face : Face) (chain strings : List ℕ) (parcel : ℕ) (label : List ℕ) (source : ℕ) : Type 0 where
+  pub rows : CanAddRows m strings parcel label source
   pub face_there : has_face m face ≡ true
   pub points_there : AllByRecursion (λ p. IsTrue (has_point m p)) chain
-  pub source_there : has_source m source ≡ true
-  pub strings_new : AllByRecursion (λ s. string_of m s ≡ None) strings
-  pub parcel_new : parcel_of m parcel ≡ None
-  pub not_retired : is_retired m parcel ≡ false
   pub inner_free : AllByRecursion (λ p. is_free m p ≡ true) (inner_of chain)
   pub long : 2 ≤ length chain
   pub as_many : length strings + 1 ≡ length chain
   pub points_distinct : are_distinct chain ≡ true
-  pub strings_distinct : are_distinct strings ≡ true
   pub first : Corner
   pub at_first : chosen_corner m face (start_of chain) (next_of chain) ≡ Some first
   pub last : Corner
   pub at_last : chosen_corner m face (end_of chain) (last_but_one chain) ≡ Some last
   pub one_ring : list_any (λ r. has_side (leaving first) (sides_of r) && has_side (leaving last) (sides_of r)) (rings_of m face) ≡ true
-  pub few_strings : length m.strings + length strings ≤ string_limit
-  pub few_parcels : length m.parcels + 1 ≤ row_limit
-  pub string_numbers : AllByRecursion IsNumber strings
-  pub parcel_number : IsNumber parcel
-  pub is_label : IsLabel label
 
 -- the ring of the face that both corners' sides are of
 pub record IsCutRing (m : Map) (face : Face) (first last : Corner) (b : Boundary) : Type 0 where
@@ -143,19 +134,10 @@ module _ (m : Map) (valid : IsValid m) (face : Face) (chain strings : List ℕ) 
 
   can_add : CanAddAlong m chain strings parcel label source
   can_add = record {
+    rows = can.rows;
     points_there = can.points_there;
-    source_there = can.source_there;
-    strings_new = can.strings_new;
-    parcel_new = can.parcel_new;
-    not_retired = can.not_retired;
     as_many = can.as_many;
     no_opposites = none-opposite;
-    strings_distinct = can.strings_distinct;
-    few_strings = can.few_strings;
-    few_parcels = can.few_parcels;
-    string_numbers = can.string_numbers;
-    parcel_number = can.parcel_number;
-    is_label = can.is_label;
   }
 
   -- ---- The ring that is cut
@@ -205,7 +187,7 @@ module _ (m : Map) (valid : IsValid m) (face : Face) (chain strings : List ℕ) 
     pub is_division-divided : IsDivision m face parcel (sides_of_chain chain) (left_ring i j inner b.ring) (right_ring i j inner b.ring) (sides_of b.ring) others
     is_division-divided = record {
       face_there = can.face_there;
-      parcel_new = can.parcel_new;
+      parcel_new = can.rows.parcel_new;
       no_opposites = none-opposite;
       new = new-side;
       new_back = new-side_back;

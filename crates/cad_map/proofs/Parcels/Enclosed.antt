@@ -21,27 +21,18 @@ use Rattle.cad_map.proofs.Lists.Elements.{All-at_each}
 use Rattle.cad_map.proofs.Lists.ElementFacts.{map-Contains}
 use Rattle.cad_map.proofs.Lists.EachElement.{All-push}
 use Rattle.cad_map.proofs.Parcels.ChainFacts.{HasNoOpposites, pairs-from_distinct, ends-along, no_opposites-round, sides-strings_along}
-use Rattle.cad_map.proofs.Parcels.AddedChain.{CanAddAlong, along-can_be_added, no_side-free}
+use Rattle.cad_map.proofs.Parcels.AddedChain.{CanAddRows, CanAddAlong, along-can_be_added, no_side-free}
 use Rattle.cad_map.proofs.Parcels.PlacedRings.{IsDivision, placed-sound}
 
 -- what speaks for an enclosure: none of its refusals applies
 pub record CanEnclose (m : Map) (face : Face) (points strings : List ℕ) (parcel : ℕ) (label : List ℕ) (source : ℕ) : Type 0 where
+  pub rows : CanAddRows m strings parcel label source
   pub face_there : has_face m face ≡ true
   pub points_there : AllByRecursion (λ p. IsTrue (has_point m p)) points
-  pub source_there : has_source m source ≡ true
-  pub strings_new : AllByRecursion (λ s. string_of m s ≡ None) strings
-  pub parcel_new : parcel_of m parcel ≡ None
-  pub not_retired : is_retired m parcel ≡ false
   pub free : AllByRecursion (λ p. is_free m p ≡ true) points
   pub long : 3 ≤ length points
   pub as_many : length strings ≡ length points
   pub points_distinct : are_distinct points ≡ true
-  pub strings_distinct : are_distinct strings ≡ true
-  pub few_strings : length m.strings + length strings ≤ string_limit
-  pub few_parcels : length m.parcels + 1 ≤ row_limit
-  pub string_numbers : AllByRecursion IsNumber strings
-  pub parcel_number : IsNumber parcel
-  pub is_label : IsLabel label
 
 module _ (m : Map) (valid : IsValid m) (face : Face) (a : ℕ) (points strings : List ℕ) (parcel : ℕ) (label : List ℕ) (source : ℕ) (can : CanEnclose m face (a ∷ points) strings parcel label source) where
   abbrev ring : List ℕ
@@ -81,7 +72,7 @@ module _ (m : Map) (valid : IsValid m) (face : Face) (a : ℕ) (points strings :
   pub is_division-enclosed : IsDivision m face parcel (sides_of ring) ring (reverse ring) [] m.boundaries
   is_division-enclosed = record {
     face_there = can.face_there;
-    parcel_new = can.parcel_new;
+    parcel_new = can.rows.parcel_new;
     no_opposites = none-opposite;
     new = λ s h. no_side-free m valid s (free-at s h).0;
     new_back = λ s h. no_side-free m valid (opposite s) (free-at s h).1;
@@ -96,19 +87,10 @@ module _ (m : Map) (valid : IsValid m) (face : Face) (a : ℕ) (points strings :
 
   can_add : CanAddAlong m closed strings parcel label source
   can_add = record {
+    rows = can.rows;
     points_there = All-push (λ p. IsTrue (has_point m p)) ring a can.points_there can.points_there.0;
-    source_there = can.source_there;
-    strings_new = can.strings_new;
-    parcel_new = can.parcel_new;
-    not_retired = can.not_retired;
     as_many = let e = length-append ring (a ∷ []) in omega (arith, e, can.as_many);
     no_opposites = rw sides-closed none-opposite;
-    strings_distinct = can.strings_distinct;
-    few_strings = can.few_strings;
-    few_parcels = can.few_parcels;
-    string_numbers = can.string_numbers;
-    parcel_number = can.parcel_number;
-    is_label = can.is_label;
   }
 
   sound-enclosed : IsSound (enclose m face ring strings parcel label source)

@@ -18,45 +18,49 @@ its_label = record { some = omega arith; within = omega arith; text = (label_c, 
 
 diagonal : CanDivide square (Parcel 1) (1 ∷ 3 ∷ []) (21 ∷ []) 2 label_c 1
 diagonal = record {
+  rows = record {
+    source_there = refl;
+    strings_new = (refl, tt);
+    parcel_new = refl;
+    not_retired = refl;
+    strings_distinct = refl;
+    few_strings = omega arith;
+    few_parcels = omega arith;
+    string_numbers = (number 21 (omega arith) (omega arith), tt);
+    parcel_number = number 2 (omega arith) (omega arith);
+    is_label = its_label;
+  };
   face_there = refl;
   points_there = (refl, (refl, tt));
-  source_there = refl;
-  strings_new = (refl, tt);
-  parcel_new = refl;
-  not_retired = refl;
   inner_free = tt;
   long = omega arith;
   as_many = refl;
   points_distinct = refl;
-  strings_distinct = refl;
   first = record { before = 4; at = 1; after = 2 };
   at_first = refl;
   last = record { before = 2; at = 3; after = 4 };
   at_last = refl;
   one_ring = refl;
-  few_strings = omega arith;
-  few_parcels = omega arith;
-  string_numbers = (number 21 (omega arith) (omega arith), tt);
-  parcel_number = number 2 (omega arith) (omega arith);
-  is_label = its_label;
 }
 
 ring_round : CanEnclose round_it (Parcel 1) (9 ∷ 10 ∷ 11 ∷ 12 ∷ []) (41 ∷ 42 ∷ 43 ∷ 44 ∷ []) 3 label_c 1
 ring_round = record {
+  rows = record {
+    source_there = refl;
+    strings_new = (refl, (refl, (refl, (refl, tt))));
+    parcel_new = refl;
+    not_retired = refl;
+    strings_distinct = refl;
+    few_strings = omega arith;
+    few_parcels = omega arith;
+    string_numbers = (number 41 (omega arith) (omega arith), (number 42 (omega arith) (omega arith), (number 43 (omega arith) (omega arith), (number 44 (omega arith) (omega arith), tt))));
+    parcel_number = number 3 (omega arith) (omega arith);
+    is_label = its_label;
+  };
   face_there = refl;
   points_there = (refl, (refl, (refl, (refl, tt))));
-  source_there = refl;
-  strings_new = (refl, (refl, (refl, (refl, tt))));
-  parcel_new = refl;
-  not_retired = refl;
   free = (refl, (refl, (refl, (refl, tt))));
   long = omega arith;
   as_many = refl;
   points_distinct = refl;
-  strings_distinct = refl;
-  few_strings = omega arith;
-  few_parcels = omega arith;
-  string_numbers = (number 41 (omega arith) (omega arith), (number 42 (omega arith) (omega arith), (number 43 (omega arith) (omega arith), (number 44 (omega arith) (omega arith), tt))));
-  parcel_number = number 3 (omega arith) (omega arith);
-  is_label = its_label;
 }

@@ -1,14 +1,11 @@
-use Rattle.std.proofs.Common.{◌∙◌, sym, map, [], refl, codes}
-use Rattle.cad_files.specs.Texts.{HasWritten}
+use Rattle.std.proofs.Common.{◌∙◌, sym, map, [], codes}
 use Rattle.cad_files.specs.Reports.{ring_record, end_record}
 use Rattle.cad_files.proofs.TextFacts.{text_of-two}
 use Rattle.cad_files.proofs.outline_texts.rings_text.Goals as goal
 
 pub returns : goal.returns
 returns c =
-    let from = c.from_writer-writer.ensures in
-    let start : HasWritten [] c.from_writer-writer.result = record { setup = from.cfg ∙ c.new.ensures; between = from.fields; clean = from.wrote; written = rw (from.empty, from.wtr, c.new-2.ensures.items) refl } in
-    let outer = c.in_ok-write_rings.ensures [] start in
+    let outer = c.in_ok-write_rings.ensures [] c.begun-writer.ensures in
     let holes = c.in_ok-write_rings-2.ensures _ outer in
     let last = c.in_ok-write_record.ensures _ holes in
     c.in_ok-text.ensures _ last

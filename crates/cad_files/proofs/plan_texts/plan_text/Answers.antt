@@ -1,19 +1,12 @@
-use Rattle.std.proofs.Common.{◌∙◌, sym, refl, []}
-use Rattle.cad_files.specs.Texts.{HasWritten, first_record, open_record, records_of}
+use Rattle.std.proofs.Common.{◌∙◌, sym, []}
+use Rattle.cad_files.specs.Texts.{first_record, open_record, records_of}
 use Rattle.cad_files.specs.declared.plan_texts.Kind.TheVariants.{Sources, Points, Parcels, Strings, Retired}
 use Rattle.cad_files.proofs.TextFacts.{text_of-between}
 use Rattle.cad_files.proofs.plan_texts.plan_text.Goals as goal
 
 pub returns : goal.returns
 returns g c =
-    let from = c.from_writer-writer.ensures in
-    let start : HasWritten [] c.from_writer-writer.result = record {
-      setup = from.cfg ∙ c.new.ensures;
-      between = from.fields;
-      clean = from.wrote;
-      written = rw (from.empty, from.wtr, c.new-2.ensures.items) refl;
-    } in
-    let first = c.in_ok-write_record.ensures [] start in
+    let first = c.in_ok-write_record.ensures [] c.begun-writer.ensures in
     let sources = c.in_ok-write_rows.ensures _ first in
     let points = c.in_ok-write_rows-2.ensures _ sources in
     let parcels = c.in_ok-write_rows-3.ensures _ points in

@@ -22,8 +22,7 @@ loop-place-preserved g c =
 pub returns : goal.returns
 returns g c =
     let m = g.M.MapView.map c.args.map.now in
-    let bs = g.M.MapView.rings c.args.map.now in
-    let rings = rings_at c.args.face.now bs in
-    let past : length rings ≤ c.loop-place.place = subst (λ (n : ℕ). n ≤ c.loop-place.place) c.ring_count-place-end.ensures.count c.loop-place-test.false in
-    c.is.ensures ∙ counted-all m rings c.loop-place.place c.args.wanted c.loop-place.outlines past c.loop-place.invariant
-    ∙ outlines-canonical_order m c.args.face.now bs c.ring_count-place-end.ensures.canonical_order c.args.wanted
+    let told = c.ring_count-place-end.ensures in
+    let past = subst (λ (n : ℕ). n ≤ c.loop-place.place) told.count c.loop-place-test.false in
+    c.is.ensures ∙ counted-all m _ c.loop-place.place c.args.wanted c.loop-place.outlines past c.loop-place.invariant
+    ∙ outlines-canonical_order m c.args.face.now _ told.canonical_order c.args.wanted

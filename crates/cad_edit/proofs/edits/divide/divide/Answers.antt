@@ -43,14 +43,14 @@ rows_along-requires c = (can c.args.map.now c.args.face c.args.chain.now c.args.
 pub put_strings-requires-clause-new : goal.put_strings-requires-clause-new
 put_strings-requires-clause-new c =
     let k = can c.args.map.now c.args.face c.args.chain.now c.args.strings.now c.args.new.now.number c.args.new.now.label.now c.args.new.now.source c.requires.range c.requires.allowed in
-    rw (c.as_slice.ensures.value ∙ c.in_ok-rows.ensures) (free-numbers c.args.map.now (strings_along (c.args.new.now.source ∷ []) c.args.strings.now c.args.chain.now) c.args.strings.now (numbers-strings_along (c.args.new.now.source ∷ []) c.args.strings.now c.args.chain.now k.as_many) k.strings_new)
+    rw (c.as_slice.ensures.value ∙ c.in_ok-rows.ensures) (free-numbers c.args.map.now (strings_along (c.args.new.now.source ∷ []) c.args.strings.now c.args.chain.now) c.args.strings.now (numbers-strings_along (c.args.new.now.source ∷ []) c.args.strings.now c.args.chain.now k.as_many) k.rows.strings_new)
 
 pub put_strings-requires-clause-distinct : goal.put_strings-requires-clause-distinct
 put_strings-requires-clause-distinct c =
     let k = can c.args.map.now c.args.face c.args.chain.now c.args.strings.now c.args.new.now.number c.args.new.now.label.now c.args.new.now.source c.requires.range c.requires.allowed in
-    rw (c.as_slice.ensures.value ∙ c.in_ok-rows.ensures) (subst (EachPair (λ a b. a ≢ b)) (sym (numbers-strings_along (c.args.new.now.source ∷ []) c.args.strings.now c.args.chain.now k.as_many)) (pairs-from_distinct c.args.strings.now k.strings_distinct))
+    rw (c.as_slice.ensures.value ∙ c.in_ok-rows.ensures) (subst (EachPair (λ a b. a ≢ b)) (sym (numbers-strings_along (c.args.new.now.source ∷ []) c.args.strings.now c.args.chain.now k.as_many)) (pairs-from_distinct c.args.strings.now k.rows.strings_distinct))
 
 pub put_new_parcel-requires : goal.put_new_parcel-requires
 put_new_parcel-requires c =
     let k = can c.args.map.now c.args.face c.args.chain.now c.args.strings.now c.args.new.now.number c.args.new.now.label.now c.args.new.now.source c.requires.range c.requires.allowed in
-    rw c.in_ok-put_strings.ensures k.parcel_new
+    rw c.in_ok-put_strings.ensures k.rows.parcel_new

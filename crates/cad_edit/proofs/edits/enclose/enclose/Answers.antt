@@ -43,7 +43,7 @@ put_strings-requires-clause-new c =
     let round = c.args.points.now ++ start_of c.args.points.now ∷ [] in
     let rows = c.as_slice-2.ensures.value ∙ c.in_ok-rows.ensures ∙ ap (strings_along (c.args.new.now.source ∷ []) c.args.strings.now) (c.as_slice.ensures.value ∙ c.in_ok-closed.ensures) in
     rw rows (free-numbers c.args.map.now (strings_along (c.args.new.now.source ∷ []) c.args.strings.now round) c.args.strings.now
-    (numbers-strings_along (c.args.new.now.source ∷ []) c.args.strings.now round (as_many c.args.points.now c.args.strings.now (start_of c.args.points.now) k.as_many)) k.strings_new)
+    (numbers-strings_along (c.args.new.now.source ∷ []) c.args.strings.now round (as_many c.args.points.now c.args.strings.now (start_of c.args.points.now) k.as_many)) k.rows.strings_new)
 
 pub put_strings-requires-clause-distinct : goal.put_strings-requires-clause-distinct
 put_strings-requires-clause-distinct c =
@@ -51,7 +51,7 @@ put_strings-requires-clause-distinct c =
     let round = c.args.points.now ++ start_of c.args.points.now ∷ [] in
     let rows = c.as_slice-2.ensures.value ∙ c.in_ok-rows.ensures ∙ ap (strings_along (c.args.new.now.source ∷ []) c.args.strings.now) (c.as_slice.ensures.value ∙ c.in_ok-closed.ensures) in
     rw rows (subst (EachPair (λ a b. a ≢ b)) (sym (numbers-strings_along (c.args.new.now.source ∷ []) c.args.strings.now round (as_many c.args.points.now c.args.strings.now (start_of c.args.points.now) k.as_many)))
-    (pairs-from_distinct c.args.strings.now k.strings_distinct))
+    (pairs-from_distinct c.args.strings.now k.rows.strings_distinct))
 
 pub put_new_parcel-requires : goal.put_new_parcel-requires
-put_new_parcel-requires c = let k = can c.args.map.now c.args.face c.args.points.now c.args.strings.now c.args.new.now.number c.args.new.now.label.now c.args.new.now.source c.requires.range c.requires.allowed in rw c.in_ok-put_strings.ensures k.parcel_new
+put_new_parcel-requires c = let k = can c.args.map.now c.args.face c.args.points.now c.args.strings.now c.args.new.now.number c.args.new.now.label.now c.args.new.now.source c.requires.range c.requires.allowed in rw c.in_ok-put_strings.ensures k.rows.parcel_new
