@@ -45,6 +45,7 @@ module _ (old new : Map) (t : Touched) (valid : IsValid old) (sound : HasSoundRo
   to-before s a = a.to_position ∙ ap (position_of old) (sym a.to)
 
   kept-meet : (r s : StringRow) (a : StringStands old new r) (b : StringStands old new s) → MeetAtEnds old a.before b.before → MeetAtEnds new r s
+  unfolding kept-common
   kept-meet r s a b meet common =
       let p1 = from-before r a in let p2 = to-before r a in let q1 = from-before s b in let q2 = to-before s b in
       let before : HaveCommon old a.before b.before = kept-common p1 p2 q1 q2 common in

@@ -155,23 +155,17 @@ set-each i y n j marks sums h l e (inl same) =
       total-set-lt (j * 512 + 512) i y marks (omega arith) l,
     )
 set-each i y n j marks sums h l e (inr (inl lt)) =
-    let ne : j ≢ i / 512 = omega arith in
-    let a : get_or (set sums (i / 512) n) j 0 ≡ get_or sums j 0 =
-    get_or-set_other sums (i / 512) j n 0 ne in
     omega (
       arith,
-      a,
+      get_or-set_other sums (i / 512) j n 0 (omega arith),
       h.each j,
       total-set-le (j * 512) i y marks (omega arith),
       total-set-le (j * 512 + 512) i y marks (omega arith),
     )
 set-each i y n j marks sums h l e (inr (inr gt)) =
-    let ne : j ≢ i / 512 = omega arith in
-    let a : get_or (set sums (i / 512) n) j 0 ≡ get_or sums j 0 =
-    get_or-set_other sums (i / 512) j n 0 ne in
     omega (
       arith,
-      a,
+      get_or-set_other sums (i / 512) j n 0 (omega arith),
       h.each j,
       total-set-lt (j * 512) i y marks (omega arith) l,
       total-set-lt (j * 512 + 512) i y marks (omega arith) l,
