@@ -28,6 +28,7 @@ use Rattle.cad_map.specs.Valid.{IsValid}
 use Rattle.cad_map.proofs.CallerLemmas.{allowed, IsAllowed, free-point, free-source, free-split, free-join, two-joined, there-one, can-divide, can-enclose, can-merge, names-parcels, Contains-cases, Contains-map, found-number, map-with_row, All-Contains, numbers-strings_along, MeetAt, meet-at, length-push}
 use Rattle.cad_laws.specs.Counts.{rows_by, sources_by, shared_strings, sources_of_strings}
 use Rattle.cad_laws.proofs.CountedRows.{Turn, Turns, turns, turned, turned-put, turned-out, turned-same, row-out, row-turned, filter-alike}
+use Rattle.cad_laws.proofs.NamedParcels.{of-parcels}
 
 -- a list of one
 only : {X : Type 0} (P : X → Type 0) (y : X) → P y → (x : X) → Contains (y ∷ []) x → P x
@@ -319,17 +320,10 @@ counted m (Divide face chain strings parcel label source) v given none =
     (chosen_corner m face (end_of chain) (last_but_one chain)))
     chain strings parcel label source can.as_many can.rows.strings_new can.rows.parcel_new
 counted m (Merge k e) v given none =
-    let free = allowed m (Merge k e) none in
-    let names = names-parcels m k e free in
-    let two = subst (λ (f : Face). IsAllowed m (Merge f (Parcel names.second))) names.kept_is
-    (subst (λ (f : Face). IsAllowed m (Merge k f)) names.ended_is free) in
-    let there = some-from (parcel_of m names.second)
-    (can-merge m names.first names.second two).ended_there in
-    subst (λ (f : Face). Turns m (merge m f e) (rows_by m (Merge f e)) (sources_by m (Merge f e)))
-    (sym names.kept_is)
-    (subst (λ (f : Face). Turns m (merge m (Parcel names.first) f)
-    (rows_by m (Merge (Parcel names.first) f)) (sources_by m (Merge (Parcel names.first) f)))
-    (sym names.ended_is) (parcels-merged m v names.first names.second there.0 there.1))
+    of-parcels m (λ k e. Turns m (merge m k e) (rows_by m (Merge k e)) (sources_by m (Merge k e)))
+    (λ k e free.
+    let there = some-from (parcel_of m e) (can-merge m k e free).ended_there in
+    parcels-merged m v k e there.0 there.1) k e (allowed m (Merge k e) none)
 counted m (Move p x y) v given none =
     changed-point m v p (λ row. record row { position = record { x = x; y = y } })
 counted m (Attach i s) v given none = changed-sources m v i (λ sources. sources ++ s ∷ [])

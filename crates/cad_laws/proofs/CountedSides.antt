@@ -24,6 +24,7 @@ use Rattle.cad_map.proofs.CallerLemmas.{allowed, free-split, can-divide, can-enc
 use Rattle.cad_laws.specs.Counts.{sides_where, sides_of_face, sides_through, sides_by}
 use Rattle.cad_laws.specs.Touching.{passes}
 use Rattle.cad_laws.proofs.Elsewhere.{none-without}
+use Rattle.cad_laws.proofs.NamedParcels.{of-parcels}
 
 -- ---- Lists
 
@@ -149,11 +150,9 @@ sides-counted m (Divide face chain strings parcel label source) v given none =
     (ap (λ (o : Option ParcelRow). is_some o) can.rows.parcel_new) in
     omega (arith, few)
 sides-counted m (Merge k e) v given none =
-    let names = names-parcels m k e (allowed m (Merge k e) none) in
-    let gone : has_face (after m (Merge k e)) e ≡ false =
-    subst (λ (f : Face). has_face (after m (Merge f e)) e ≡ false) (sym names.kept_is)
-    (subst (λ (f : Face). has_face (after m (Merge (Parcel names.first) f)) f ≡ false)
-    (sym names.ended_is) (ended-gone m names.first names.second)) in
+    let gone =
+    of-parcels m (λ k e. has_face (after m (Merge k e)) e ≡ false) (λ a b free. ended-gone m a b) k e
+    (allowed m (Merge k e) none) in
     let few = face-missing e m (after m (Merge k e)) (kept m (Merge k e) v given none).v1 gone in
     omega (arith, few)
 sides-counted m (Move p x y) v given none = omega arith

@@ -173,6 +173,25 @@ module _ (m : Map) (valid : IsValid m) (face : Face) (chain strings : List ℕ) 
       (λ t. (across t, first-is t, last-is t))
       (is_parted A k.xs Z k.ys inner rest m new before-is after-is free)
 
+-- what holds of the corners that a division finds in one ring holds of the chosen ones
+pub of-chosen : (m : Map) (face : Face) (chain strings : List ℕ) (parcel : ℕ) (label : List ℕ)
+    (source : ℕ) (first last : Corner)
+    → GivesInRange (Divide face chain strings parcel label source)
+    → first_refusal m (Divide face chain strings parcel label source) ≡ None
+    → chosen_corner m face (start_of chain) (next_of chain) ≡ Some first
+    → chosen_corner m face (end_of chain) (last_but_one chain) ≡ Some last
+    → (P : Corner → Corner → Type 0)
+    → ((can : CanDivide m face chain strings parcel label source) (b : Boundary)
+    → IsCutRing m face can.first can.last b → P can.first can.last) → P first last
+of-chosen m face chain strings parcel label source first last given none is_a is_z P each =
+    let can =
+    can-divide m face chain strings parcel label source given
+    (allowed m (Divide face chain strings parcel label source) none) in
+    let ring = cut_ring m face can.first can.last can.one_ring in
+    let e1 = same_Some can.first first (sym can.at_first ∙ is_a) in
+    let e2 = same_Some can.last last (sym can.at_last ∙ is_z) in
+    subst (λ (t : Corner × Corner). P t.0 t.1) (λ t. (e1 t, e2 t)) (each can ring.0 ring.1)
+
 -- A division that is not refused parts the two chosen corners.
 pub divided-parted : (m : Map) (face : Face) (chain strings : List ℕ) (parcel : ℕ) (label : List ℕ)
     (source : ℕ) (first last : Corner) → IsValid m
@@ -183,13 +202,6 @@ pub divided-parted : (m : Map) (face : Face) (chain strings : List ℕ) (parcel 
     → IsParted m (after m (Divide face chain strings parcel label source)) chain first last
 unfolding after
 divided-parted m face chain strings parcel label source first last valid given none is_a is_z =
-    let can =
-    can-divide m face chain strings parcel label source given
-    (allowed m (Divide face chain strings parcel label source) none) in
-    let ring = cut_ring m face can.first can.last can.one_ring in
-    let e1 = same_Some can.first first (sym can.at_first ∙ is_a) in
-    let e2 = same_Some can.last last (sym can.at_last ∙ is_z) in
-    subst (λ (t : Corner × Corner).
-    IsParted m (divide m face chain strings parcel label source) chain t.0 t.1)
-    (λ t. (e1 t, e2 t))
-    (parted-divided m valid face chain strings parcel label source can ring.0 ring.1)
+    of-chosen m face chain strings parcel label source first last given none is_a is_z
+    (IsParted m (divide m face chain strings parcel label source) chain)
+    (λ can b ring. parted-divided m valid face chain strings parcel label source can b ring)

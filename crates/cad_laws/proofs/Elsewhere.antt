@@ -9,7 +9,7 @@ use Rattle.cad_map.specs.Boundaries.{is_face, canonical_order}
 use Rattle.cad_map.specs.Map.{Map, rings_at, rings_of}
 use Rattle.cad_map.specs.Table.{row_with, with_row, without_row}
 use Rattle.cad_map.specs.Valid.{HasSoundRows}
-use Rattle.cad_map.proofs.CallerLemmas.{Contains-cases, Contains-first, Contains-later, is_face-same, filter-append, differs, canonical_order-filter}
+use Rattle.cad_map.proofs.CallerLemmas.{Contains-cases, Contains-first, Contains-later, is_face-same, filter-append, differs, none-filter, canonical_order-filter}
 
 -- ---- Elements
 
@@ -198,6 +198,23 @@ module _ {R : Type 0} (number : R → ℕ) where
           → row_with number p (without_row number p (r ∷ rows)) ≡ None
       by true is rest = rw is rest
       by false is rest = rw is (rw is rest)
+
+  -- and one that is found among the others was found, under another number
+  pub in-without : (n p : ℕ) (rows : List R)
+      → is_some (row_with number n (without_row number p rows)) ≡ true
+      → (is_some (row_with number n rows) ≡ true) × (n ≢ p)
+  in-without n p rows found = (
+    by (row_with number n rows) refl,
+    λ same. true≢false (sym found
+    ∙ ap (λ (k : ℕ). is_some (row_with number k (without_row number p rows))) same
+    ∙ ap (λ (o : Option R). is_some o) (none-without p rows)),
+  )
+    where
+      by : (o : Option R) → row_with number n rows ≡ o → is_some (row_with number n rows) ≡ true
+      by (Some r) is = ap (λ (o : Option R). is_some o) is
+      by None is =
+          absurd (true≢false (sym found
+          ∙ ap (λ (o : Option R). is_some o) (none-filter number _ n rows is)))
 
   -- a row of another number is found as it was, where one takes the place of one
   pub same-with_row : (n : ℕ) (new : R) (rows : List R) → n ≢ number new

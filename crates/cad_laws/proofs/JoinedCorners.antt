@@ -266,17 +266,21 @@ module _ (m : Map) (valid : IsValid m) (p : ℕ) (s t : StringRow)
     own-sides : Contains (sides_of r.ring) (w, p) × Contains (sides_of r.ring) (p, n)
     own-sides = sides-at r k.ring d k.there
 
+    -- a corner that has one of the ring's sides is one of the ring
+    of-ring : (c : Corner) (s : Side)
+        → ((q : Boundary) → Contains (corners_of q.ring) c → Contains m.boundaries q → Contains (sides_of q.ring) s)
+        → Contains (sides_of r.ring) s → Contains (all_corners m) c → Contains (corners_of r.ring) c
+    of-ring c s has own h =
+        let part = Contains-in_part (λ (q : Boundary). corners_of q.ring) m.boundaries c h in
+        subst (λ (q : Boundary). Contains (corners_of q.ring) c)
+        (one-ring s part.0 r part.1 k.ring (has part.0 part.2 part.1) own) part.2
+
     -- what came before the point sees beyond it
     to : (y : ℕ) → Contains (all_corners m) (corner y w p)
         → Contains (all_corners made) (corner y w n)
     to y h =
-        let part =
-        Contains-in_part (λ (q : Boundary). corners_of q.ring) m.boundaries (corner y w p) h in
-        let same =
-        one-ring (w, p) part.0 r part.1 k.ring
-        (sides-at part.0 part.1 (corner y w p) part.2).1 own-sides.0 in
-        let here : Contains (corners_of r.ring) (corner y w p) =
-        subst (λ (q : Boundary). Contains (corners_of q.ring) (corner y w p)) same part.2 in
+        let here = of-ring (corner y w p) (w, p) (λ q at there.
+        (sides-at q there (corner y w p) at).1) own-sides.0 h in
         elim (cases (corner y w p) (old (corner y w p) here)) [
           | inl e ↦
               put r (corner y w n) k.ring
@@ -294,13 +298,8 @@ module _ (m : Map) (valid : IsValid m) (p : ℕ) (s t : StringRow)
     from : (y : ℕ) → Contains (all_corners m) (corner p n y)
         → Contains (all_corners made) (corner w n y)
     from y h =
-        let part =
-        Contains-in_part (λ (q : Boundary). corners_of q.ring) m.boundaries (corner p n y) h in
-        let same =
-        one-ring (p, n) part.0 r part.1 k.ring
-        (sides-at part.0 part.1 (corner p n y) part.2).0 own-sides.1 in
-        let here : Contains (corners_of r.ring) (corner p n y) =
-        subst (λ (q : Boundary). Contains (corners_of q.ring) (corner p n y)) same part.2 in
+        let here = of-ring (corner p n y) (p, n) (λ q at there.
+        (sides-at q there (corner p n y) at).0) own-sides.1 h in
         elim (cases (corner p n y) (old (corner p n y) here)) [
           | inl e ↦ absurd (two (ap (λ (c : Corner). c.at) e))
           | inr h ↦ elim h [

@@ -29,3 +29,4 @@ pub mod CountedRings
 pub mod CountedShared
 pub mod WholeFaces
 pub mod WorkedCounts
+pub mod NamedParcels

@@ -27,6 +27,7 @@ use Rattle.cad_laws.specs.Parting.{IsOn, IsParted, HasIsland, IsMergedBy}
 use Rattle.cad_laws.proofs.PartedCorners.{is_parted}
 use Rattle.cad_laws.proofs.MapCorners.{corner-in, two-sides}
 use Rattle.cad_laws.proofs.IslandCorners.{has_island}
+use Rattle.cad_laws.proofs.NamedParcels.{of-parcels, merged-by}
 
 corners_in-handed : (kept ended : Face) (bs : List Boundary)
     → corners_in (map (handed_over kept ended) bs) ≡ corners_in bs
@@ -178,29 +179,14 @@ pub merged-corners : (m : Map) (kept ended : Face) (x : ChainInRings) → IsVali
     → IsMergedBy x (after m (Merge kept ended)) m
 unfolding after
 merged-corners m kept ended x valid none h =
-    let free = allowed m (Merge kept ended) none in
-    let names = names-parcels m kept ended free in
-    let at =
-    subst (λ (f : Face). IsAllowed m (Merge f (Parcel names.second))) names.kept_is
-    (subst (λ (f : Face). IsAllowed m (Merge kept f)) names.ended_is free) in
-    let there =
-    subst (λ (f : Face). Contains (shared_chains m f (Parcel names.second)) x) names.kept_is
-    (subst (λ (f : Face). Contains (shared_chains m kept f) x) names.ended_is h) in
-    subst (λ (f : Face). IsMergedBy x (merge m f ended) m) (sym names.kept_is)
-    (subst (λ (f : Face). IsMergedBy x (merge m (Parcel names.first) f) m) (sym names.ended_is)
-    (two-parcels names.first names.second at there))
+    of-parcels m (λ k e. Contains (shared_chains m k e) x → IsMergedBy x (merge m k e) m) two-parcels
+    kept ended (allowed m (Merge kept ended) none) h
   where
     two-parcels : (k e : ℕ) → IsAllowed m (Merge (Parcel k) (Parcel e))
         → Contains (shared_chains m (Parcel k) (Parcel e)) x
         → IsMergedBy x (merge m (Parcel k) (Parcel e)) m
     two-parcels k e free there =
         let can = can-merge m k e free in
-        let two = faces-differ m k e valid can in
-        let others = rows m k e valid can in
-        let is : merge m (Parcel k) (Parcel e) ≡ with_boundaries
-        (boundaries_by m (Parcel k) (Parcel e) x) others =
-        ap (λ (bs : List Boundary). with_boundaries bs others)
-        (merged-any m valid (Parcel k) (Parcel e) two x there) in
-        subst (λ (a : Map). IsMergedBy x a m) (sym is)
-        (by-shared_chain m valid (Parcel k) (Parcel e) two others x
-        (found m valid (Parcel k) (Parcel e) x there))
+        subst (λ (a : Map). IsMergedBy x a m) (sym (merged-by m valid k e can x there))
+        (by-shared_chain m valid (Parcel k) (Parcel e) (faces-differ m k e valid can)
+        (rows m k e valid can) x (found m valid (Parcel k) (Parcel e) x there))

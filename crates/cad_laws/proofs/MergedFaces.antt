@@ -24,6 +24,7 @@ use Rattle.cad_map.specs.Valid.{IsValid}
 use Rattle.cad_map.proofs.CallerLemmas.{IsAllowed, allowed, can-merge, names-parcels, Contains-in_part, Contains-flat_map, beside, has_side-Contains, Contains-has_side, one_ring, face-told, IsPermutation-canonical_order, two_out, stays, sides-parted, was-beside, of_face, faces-differ, rows, filter-Contains, IsChainInRings, along-found, around-found, IsFound, found, merged-any}
 use Rattle.cad_laws.specs.Faces.{over, HasMerged, IsMergedIn}
 use Rattle.cad_laws.proofs.PlacedFaces.{has-side_canonical, as-shown, map-same, map-map}
+use Rattle.cad_laws.proofs.NamedParcels.{of-parcels, merged-by}
 
 singles : {X : Type 0} (xs : List X) → flat_map (λ x. x ∷ []) xs ≡ xs
 singles [] = refl
@@ -114,30 +115,15 @@ pub merged-faces : (m : Map) (kept ended : Face) (x : ChainInRings) → IsValid 
     → IsMergedIn x m (after m (Merge kept ended)) kept ended
 unfolding after
 merged-faces m kept ended x valid none h =
-    let free = allowed m (Merge kept ended) none in
-    let names = names-parcels m kept ended free in
-    let at =
-    subst (λ (f : Face). IsAllowed m (Merge f (Parcel names.second))) names.kept_is
-    (subst (λ (f : Face). IsAllowed m (Merge kept f)) names.ended_is free) in
-    let there =
-    subst (λ (f : Face). Contains (shared_chains m f (Parcel names.second)) x) names.kept_is
-    (subst (λ (f : Face). Contains (shared_chains m kept f) x) names.ended_is h) in
-    subst (λ (f : Face). IsMergedIn x m (merge m f ended) f ended) (sym names.kept_is)
-    (subst (λ (f : Face).
-    IsMergedIn x m (merge m (Parcel names.first) f) (Parcel names.first) f)
-    (sym names.ended_is) (two-parcels names.first names.second at there))
+    of-parcels m (λ k e. Contains (shared_chains m k e) x → IsMergedIn x m (merge m k e) k e)
+    two-parcels kept ended (allowed m (Merge kept ended) none) h
   where
     two-parcels : (k e : ℕ) → IsAllowed m (Merge (Parcel k) (Parcel e))
         → Contains (shared_chains m (Parcel k) (Parcel e)) x
         → IsMergedIn x m (merge m (Parcel k) (Parcel e)) (Parcel k) (Parcel e)
     two-parcels k e free there =
         let can = can-merge m k e free in
-        let two = faces-differ m k e valid can in
-        let others = rows m k e valid can in
-        let is : merge m (Parcel k) (Parcel e) ≡ with_boundaries
-        (boundaries_by m (Parcel k) (Parcel e) x) others =
-        ap (λ (bs : List Boundary). with_boundaries bs others)
-        (merged-any m valid (Parcel k) (Parcel e) two x there) in
-        subst (λ (a : Map). IsMergedIn x m a (Parcel k) (Parcel e)) (sym is)
-        (by-shared_chain m valid (Parcel k) (Parcel e) two others x
-        (found m valid (Parcel k) (Parcel e) x there))
+        subst (λ (a : Map). IsMergedIn x m a (Parcel k) (Parcel e))
+        (sym (merged-by m valid k e can x there))
+        (by-shared_chain m valid (Parcel k) (Parcel e) (faces-differ m k e valid can)
+        (rows m k e valid can) x (found m valid (Parcel k) (Parcel e) x there))

@@ -25,6 +25,7 @@ use Rattle.cad_map.specs.Valid.{IsValid}
 use Rattle.cad_map.proofs.CallerLemmas.{allowed, can-divide, CanDivide, IsCutRing, cut_ring, Contains-cases, Contains-first, Contains-later, Contains-map, All-at_each, IsBeside, beside, has_side-Contains, Contains-has_side, IsPermutation-canonical_order, each_canonical, of_face, ring-hole_placed, face-hole_placed}
 use Rattle.cad_map.proofs.CallerLemmas as maps
 use Rattle.cad_laws.specs.Faces.{IsOfMoved, IsOfNew, HasPlaced, left_of_chain, right_of_chain, IsDividedIn}
+use Rattle.cad_laws.proofs.DividedCorners.{of-chosen}
 
 -- ---- A boundary's sides are its face's
 
@@ -253,16 +254,9 @@ pub divided-faces : (m : Map) (face : Face) (chain strings : List ℕ) (parcel :
     (Parcel parcel) chain first last
 unfolding after
 divided-faces m face chain strings parcel label source first last valid given none is_a is_z =
-    let can =
-    can-divide m face chain strings parcel label source given
-    (allowed m (Divide face chain strings parcel label source) none) in
-    let ring = cut_ring m face can.first can.last can.one_ring in
-    let e1 = same_Some can.first first (sym can.at_first ∙ is_a) in
-    let e2 = same_Some can.last last (sym can.at_last ∙ is_z) in
-    subst (λ (t : Corner × Corner).
-    IsDividedIn m (divide m face chain strings parcel label source) face
-    (Parcel parcel) chain t.0 t.1) (λ t. (e1 t, e2 t))
-    (placed-divided m valid face chain strings parcel label source can ring.0 ring.1)
+    of-chosen m face chain strings parcel label source first last given none is_a is_z
+    (IsDividedIn m (divide m face chain strings parcel label source) face (Parcel parcel) chain)
+    (λ can b ring. placed-divided m valid face chain strings parcel label source can b ring)
 
 -- An enclosure: all rings stay, and two come.
 pub enclosed-faces : (m : Map) (face : Face) (points strings : List ℕ) (parcel : ℕ)

@@ -29,6 +29,7 @@ use Rattle.cad_laws.proofs.CornersElsewhere.{chain-ends, ring-ends, corners-part
 use Rattle.cad_laws.proofs.Elsewhere.{one-face, not-face, filter-none, filter-among, filter-changed, rings-elsewhere, none-without}
 use Rattle.cad_laws.proofs.MergedCorners.{merged-corners}
 use Rattle.cad_laws.proofs.StandsElsewhere.{KeepsPoints, KeepsStrings, stands-elsewhere}
+use Rattle.cad_laws.proofs.NamedParcels.{of-parcels}
 
 -- ---- The shared chain's points
 
@@ -253,15 +254,9 @@ pub merged-touched : (m : Map) (kept ended : Face) → IsValid m
     → IsTouched m (after m (Merge kept ended)) (touched_by m (Merge kept ended))
 unfolding after
 merged-touched m kept ended valid none =
-    let names = names-parcels m kept ended (allowed m (Merge kept ended) none) in
-    let at =
-    subst (λ (f : Face). first_refusal m (Merge f (Parcel names.second)) ≡ None) names.kept_is
-    (subst (λ (f : Face). first_refusal m (Merge kept f) ≡ None) names.ended_is none) in
-    subst (λ (f : Face). IsTouched m (merge m f ended) (touched_by m (Merge f ended)))
-    (sym names.kept_is)
-    (subst (λ (f : Face). IsTouched m (merge m (Parcel names.first) f)
-    (touched_by m (Merge (Parcel names.first) f))) (sym names.ended_is)
-    (two-parcels names.first names.second at))
+    of-parcels m (λ k e. first_refusal m (Merge k e) ≡ None
+    → IsTouched m (merge m k e) (touched_by m (Merge k e)))
+    (λ k e free at. two-parcels k e at) kept ended (allowed m (Merge kept ended) none) none
   where
     two-parcels : (k e : ℕ) → first_refusal m (Merge (Parcel k) (Parcel e)) ≡ None
         → IsTouched m (merge m (Parcel k) (Parcel e)) (touched_by m (Merge (Parcel k) (Parcel e)))

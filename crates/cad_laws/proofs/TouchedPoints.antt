@@ -28,7 +28,7 @@ use Rattle.cad_map.proofs.CallerLemmas.{IsAllowed, allowed, there-one, two-joine
 use Rattle.cad_laws.specs.Joining.{IsJoinedAt}
 use Rattle.cad_laws.specs.Touching.{touching, faces_where, passes, goes_along, touched_by_split, touched_by}
 use Rattle.cad_laws.proofs.CornersElsewhere.{corners-joined}
-use Rattle.cad_laws.proofs.Elsewhere.{face-or_not, filter-changed, rings-elsewhere, found-pushed, same-pushed, same-without, none-without, same-with_row}
+use Rattle.cad_laws.proofs.Elsewhere.{face-or_not, filter-changed, rings-elsewhere, found-pushed, same-pushed, same-without, in-without, same-with_row}
 use Rattle.cad_laws.proofs.JoinedCorners.{join-at}
 use Rattle.cad_laws.proofs.SplitAt.{starts-of, split-between}
 use Rattle.cad_laws.proofs.StandsElsewhere.{KeepsPoints, KeepsStrings, stands-elsewhere}
@@ -276,19 +276,7 @@ module _ (m : Map) (valid : IsValid m) (p new : ℕ) (two : MeetAt m p) where
   Off q = q ≢ p
 
   not-dropped : (q : ℕ) → IsTrue (has_point joined q) → IsTrue (has_point m q) × Off q
-  not-dropped q known = (
-    by (point_of m q) refl,
-    λ same.
-        true≢false (sym known ∙ ap (λ (n : ℕ). has_point joined n) same
-        ∙ ap (λ (o : Option PointRow). is_some o)
-        (none-without (λ (r : PointRow). r.number) p m.points)),
-  )
-    where
-      by : (o : Option PointRow) → point_of m q ≡ o → IsTrue (has_point m q)
-      by (Some r) is = ap (λ (o : Option PointRow). is_some o) is
-      by None is =
-          absurd (true≢false (sym known ∙ ap (λ (o : Option PointRow). is_some o)
-          (none-filter (λ (r : PointRow). r.number) _ q m.points is)))
+  not-dropped q known = in-without (λ (r : PointRow). r.number) q p m.points known
 
   join-points : KeepsPoints m joined far valid.sound.v1 Off
   join-points = record {

@@ -24,7 +24,7 @@ use Rattle.cad_map.specs.Valid.{IsValid}
 use Rattle.cad_map.proofs.CallerLemmas.{allowed, free-dropped, Contains-first, Contains-map, All-at_each, All-from_each, map-Contains, is_nothing, no_end, differs, found-number, found-with_row, map-with_row-same, none-filter}
 use Rattle.cad_map.proofs.CallerLemmas as maps
 use Rattle.cad_laws.specs.Touching.{touching, touched_by}
-use Rattle.cad_laws.proofs.Elsewhere.{found-pushed, same-pushed, same-without, none-without, same-with_row, own-with_row}
+use Rattle.cad_laws.proofs.Elsewhere.{found-pushed, same-pushed, same-without, in-without, same-with_row, own-with_row}
 use Rattle.cad_laws.proofs.StandsElsewhere.{KeepsPoints, stands-elsewhere}
 
 abbrev nothing : Touched
@@ -280,7 +280,7 @@ dropped-touched m p valid none =
       position = λ q known off.
           ap (λ (o : Option PointRow). unwrap_or (option_map (λ r. r.position) o) origin)
           (same-without (λ (r : PointRow). r.number) q p m.points off);
-      points = λ q known. inr (there q known, λ same. gone q known same);
+      points = λ q known. inr (in-without (λ (r : PointRow). r.number) q p m.points known);
     })
   where
     new : Map
@@ -288,18 +288,3 @@ dropped-touched m p valid none =
 
     free : is_free m p ≡ true
     free = free-dropped m p (allowed m (DropPoint p) none).not_free
-
-    there : (q : ℕ) → IsTrue (has_point new q) → IsTrue (has_point m q)
-    there q known = by (point_of m q) refl
-      where
-        by : (o : Option PointRow) → point_of m q ≡ o → IsTrue (has_point m q)
-        by (Some r) is = ap (λ (o : Option PointRow). is_some o) is
-        by None is =
-            absurd (true≢false (sym known ∙ ap (λ (o : Option PointRow). is_some o)
-            (none-filter (λ (r : PointRow). r.number) _ q m.points is)))
-
-    gone : (q : ℕ) → IsTrue (has_point new q) → q ≡ p → ⊥
-    gone q known same =
-        true≢false (sym known ∙ ap (λ (n : ℕ). has_point new n) same
-        ∙ ap (λ (o : Option PointRow). is_some o)
-        (none-without (λ (r : PointRow). r.number) p m.points))

@@ -34,6 +34,7 @@ use Rattle.cad_map.specs.Valid.{EachPair, HasCompleteRings, IsSound, IsValid, Fi
 use Rattle.cad_map.proofs.CallerLemmas.{EachPair-join, IsAllowed, allowed, not-when, there-one, free-point, free-split, free-dropped, position-in_range, room, two-joined, can-divide, can-enclose, can-merge, names-parcels, HasNoOpposites, in_parts, pairs-from_distinct, no_opposites-along, sides-from_ends, sides-strings_along, times-append, permuted-from_times, CanDivide, divided-sound, Contains-cases, Contains-map, Contains-flat_map, Contains-in_part, All-at_each, All-from_each, filter-Contains, map-Contains, list_all-at, list_all-from, find-Contains, CanEnclose, enclosed-sound, is_division-enclosed, complete, sides-once, in_all, string_side, dropped, both, AreApartEnds, MeetAt, meet-at, kept-join, three-join, apart-join, ends-apart, kept-source, kept-point, kept-drop, kept-move, kept-attach, kept-detach, kept-rename, kept-split, merged-sound, pairs-IsPermutation, is_side-is, string_sides-once, EachPair-append}
 use Rattle.cad_map.proofs.CallerLemmas as maps
 use Rattle.cad_laws.specs.Joining.{AreNotJoined, FarEndsAreApart}
+use Rattle.cad_laws.proofs.NamedParcels.{of-parcels}
 
 -- ---- Sides of which none stands twice
 
@@ -237,19 +238,11 @@ module _ (m : Map) (valid : IsValid m) where
   -- ---- A merger
 
   whole-merge : (k e : Face) → IsAllowed m (Merge k e) → HasWholeRings (merge m k e)
-  whole-merge k e free =
-      let names = names-parcels m k e free in
-      let two =
-      subst (λ (f : Face). IsAllowed m (Merge f (Parcel names.second))) names.kept_is
-      (subst (λ (f : Face). IsAllowed m (Merge k f)) names.ended_is free) in
-      subst (λ (f : Face). HasWholeRings (merge m f e)) (sym names.kept_is)
-      (subst (λ (f : Face). HasWholeRings (merge m (Parcel names.first) f))
-      (sym names.ended_is)
-      (whole-sound (merge m (Parcel names.first) (Parcel names.second))
-      (merged-sound m names.first names.second valid
-      (can-merge m names.first names.second two))
-      (part-once (λ s.
-      not (is_shared m (Parcel names.first) (Parcel names.second) s)) m.strings old-once)))
+  whole-merge =
+      of-parcels m (λ k e. HasWholeRings (merge m k e))
+      (λ k e free. whole-sound (merge m (Parcel k) (Parcel e))
+      (merged-sound m k e valid (can-merge m k e free))
+      (part-once (λ s. not (is_shared m (Parcel k) (Parcel e) s)) m.strings old-once))
 
   -- ---- A split
 
