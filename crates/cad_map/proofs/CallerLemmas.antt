@@ -18,9 +18,9 @@ pub use Rattle.cad_map.proofs.Boundaries.TwoFaces.{apart-valid, beside-canonical
 pub use Rattle.cad_map.proofs.Boundaries.Looks.{first_face-some, is_face-refl, point_after-none, point_after-some}
 pub use Rattle.cad_map.proofs.Boundaries.RingsOfMap.{ring-sides-few, rings_of_map, side_is_told, side_told, string-side-points, whole_valid}
 -- walks along rings, and the corners that are met
-pub use Rattle.cad_map.proofs.Walks.AlongRing.{begins_with, corner-found, corner-only, is_side-refl, once-from_pairs, side_before, side_behind, sides-before, sides-behind, sides_in-before}
+pub use Rattle.cad_map.proofs.Walks.AlongRing.{HaveDistinctSides, begins_with, corner-found, corner-only, is_side-refl, once-from_pairs, once-in_ring, side_before, side_behind, sides-before, sides-behind, sides_in-before}
 pub use Rattle.cad_map.proofs.Walks.Walked.{anchor-there, inside-more, least-all, least-more, position-on_map, sum-fits, sum-more, walked, walked-all, walked-points}
-pub use Rattle.cad_map.proofs.Walks.Counted.{counted-Contains, permuted-from_times, times, times-append, times-cons, times-flat_map, times-permuted}
+pub use Rattle.cad_map.proofs.Walks.Counted.{counted-Contains, parted-at, permuted-from_times, times, times-append, times-cons, times-flat_map, times-permuted}
 pub use Rattle.cad_map.proofs.Walks.CornersAt.{corners_at, new_side, old_sides, sides-without, through-corners}
 pub use Rattle.cad_map.proofs.Walks.FirstCorners.{corner-all_sides, corner-points, distinct-whole, two-each}
 pub use Rattle.cad_map.proofs.Walks.ChosenCorners.{IsChosen, chosen, face-ring}
@@ -34,7 +34,7 @@ pub use Rattle.cad_map.proofs.Ends.StringsTold.{all-told, lent-is, lent-some, st
 -- edits that are allowed: what they keep of a valid map
 pub use Rattle.cad_map.proofs.Edits.Allowed.{IsAllowed, allowed, free-dropped, free-join, free-point, free-source, free-split, halves-differ, none-from_some, not-when, position-in_range, room, there-one, two-joined}
 pub use Rattle.cad_map.proofs.Edits.AllowedParcels.{can-divide, can-enclose, can-merge, names-parcels, points-there, there-each}
-pub use Rattle.cad_map.proofs.Edits.Broken.{leads-not_refused, leads-one, refused-but_memory, refused-one}
+pub use Rattle.cad_map.proofs.Edits.Broken.{broken-one, leads-not_refused, leads-one, none_broken, refused-but_memory, refused-one}
 pub use Rattle.cad_map.proofs.Edits.Kept.{kept, valid-from_kept}
 pub use Rattle.cad_map.proofs.Edits.KeptRows.{differs, is_nothing, kept-drop, kept-point, kept-source, length-push, no_end, rings-elsewhere}
 pub use Rattle.cad_map.proofs.Edits.KeptChanges.{kept-attach, kept-detach, kept-move, kept-rename}

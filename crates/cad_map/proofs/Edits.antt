@@ -10,3 +10,4 @@ pub mod KeptJoin
 pub mod JoinedRings
 pub mod JoinedStrings
 pub mod StringsMeeting
+pub mod AddedUp

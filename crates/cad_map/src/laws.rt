@@ -12,7 +12,6 @@ ghost use Rattle.cad_map.specs.declared.boundary.Boundary.{Boundary};
 ghost use Rattle.cad_map.specs.Boundaries.{canonical_form, canonical_order, sides_in, corners_in};
 ghost use Rattle.cad_map.specs.Sums.{IsBalanced, IsSharedOut, IsTakenIn};
 ghost use Rattle.cad_map.specs.Valid.{IsValid, FirstBroken};
-ghost use Rattle.cad_map.specs.Asked.{GivesInRange};
 ghost use Rattle.cad_map.specs.Outcome.{LeadsTo, IsRefused};
 ghost use Rattle.cad_map.specs.Merger.{ChainInRings, shared_chains, boundaries_by};
 ghost use Rattle.cad_map.specs.Changes.{merge_at};
@@ -36,11 +35,16 @@ pub fn faces_balance()
 /// had, and the kept parcel of a merger has what both had. So it holds of doubled areas, and of the winding at every
 /// location.
 pub fn parcels_add_up()
-    ensures divided { (f : Measure) → IsOdd f → (m new : Map) (face : Face) (chain strings : List ℕ) (parcel : ℕ) (label : List ℕ) (source : ℕ) → IsValid m
-        → GivesInRange (Divide face chain strings parcel label source) → LeadsTo m (Divide face chain strings parcel label source) new → IsSharedOut f m face parcel new }
-    ensures enclosed { (f : Measure) → IsOdd f → (m new : Map) (face : Face) (points strings : List ℕ) (parcel : ℕ) (label : List ℕ) (source : ℕ) → IsValid m
-        → GivesInRange (Enclose face points strings parcel label source) → LeadsTo m (Enclose face points strings parcel label source) new → IsSharedOut f m face parcel new }
-    ensures merged { (f : Measure) → IsOdd f → (m new : Map) (kept ended : Face) → IsValid m → LeadsTo m (Merge kept ended) new → IsTakenIn f m kept ended new }
+    ensures divided { (f : Measure) → IsOdd f → (m new : Map) (face : Face) (chain strings : List ℕ)
+        (parcel : ℕ) (label : List ℕ) (source : ℕ) → IsValid m
+        → LeadsTo m (Divide face chain strings parcel label source) new
+        → IsSharedOut f m face parcel new }
+    ensures enclosed { (f : Measure) → IsOdd f → (m new : Map) (face : Face) (points strings : List ℕ)
+        (parcel : ℕ) (label : List ℕ) (source : ℕ) → IsValid m
+        → LeadsTo m (Enclose face points strings parcel label source) new
+        → IsSharedOut f m face parcel new }
+    ensures merged { (f : Measure) → IsOdd f → (m new : Map) (kept ended : Face) → IsValid m
+        → LeadsTo m (Merge kept ended) new → IsTakenIn f m kept ended new }
 {}
 
 /// Boundaries have one list, however they are kept: that list is its own, and boundaries in another order have

@@ -15,7 +15,7 @@ use Rattle.cad_map.specs.declared.boundary.Boundary.{Boundary}
 use Rattle.cad_map.specs.Boundaries.{is_face, sides_in}
 use Rattle.cad_map.specs.Map.{Map, faces, has_face, rings_at, all_sides, position_of, side_of, string_sides}
 use Rattle.cad_map.specs.Table.{row_with}
-use Rattle.cad_map.specs.Valid.{EachPair, IsSound}
+use Rattle.cad_map.specs.Valid.{EachPair, HasSoundRows, HasCompleteRings}
 use Rattle.cad_map.specs.Sums.{total, IsBalanced}
 use Rattle.cad_map.proofs.Parcels.ChainFacts.{sides-from_ends}
 
@@ -107,9 +107,9 @@ faces-among m [] known = tt
 faces-among m (b ∷ bs) known = (face-among m b.face known.0, faces-among m bs known.1)
 
 -- The sums of all faces, the outside included, add up to nothing.
-pub balanced : (f : Measure) → IsOdd f → (m : Map) → IsSound m → IsBalanced f m
-balanced f odd m sound =
-    by_faces f (position_of m) m.boundaries (faces m) (outside-differs m.parcels, parcels-distinct m.parcels sound.v1.parcels.distinct) (faces-among m m.boundaries sound.v1.faces_of_rings)
-    ∙ sym (sum-permuted f (position_of m) (string_sides m) (all_sides m) sound.v5.once)
+pub balanced : (f : Measure) → IsOdd f → (m : Map) → HasSoundRows m → HasCompleteRings m → IsBalanced f m
+balanced f odd m v1 v5 =
+    by_faces f (position_of m) m.boundaries (faces m) (outside-differs m.parcels, parcels-distinct m.parcels v1.parcels.distinct) (faces-among m m.boundaries v1.faces_of_rings)
+    ∙ sym (sum-permuted f (position_of m) (string_sides m) (all_sides m) v5.once)
     ∙ ap (λ (sides : List Side). sum_over f (placed (position_of m) sides)) (sides-from_ends m.strings)
     ∙ sum-both_ways f odd (position_of m) (map side_of m.strings)

@@ -20,7 +20,8 @@ keeps m V6 valid = valid.keeps.v6
 keeps m V7 valid = valid.keeps.v7
 keeps m V8 valid = valid.keeps.v8
 
-none_broken : (m : Map) (r : Rule) → IsValid m → ¬ FirstBroken m r
+-- a valid map breaks no rule
+pub none_broken : (m : Map) (r : Rule) → IsValid m → ¬ FirstBroken m r
 none_broken m r valid b = b.broken (keeps m r valid)
 
 -- at most one rule is the first that a map breaks
