@@ -8,6 +8,7 @@ use Rattle.half_table.specs.declared.half.Half.{Half}
 use Rattle.half_table.specs.Rows.{Table}
 use Rattle.cad_surgery.specs.declared.stars.Spoke.{Spoke}
 use Rattle.key_lists.specs.Held.{Held}
+use Rattle.cell_grid.specs.Grid.{Grid}
 use Rattle.cad_laws.specs.Local.{IsLocal}
 use Rattle.cad_surgery.specs.Parts.{FitTogether, map_of}
 use Rattle.cad_surgery.specs.Fits.{FitRings}
@@ -17,20 +18,20 @@ use Rattle.cad_surgery.proofs.Labels.{faced}
 use Rattle.cad_surgery.proofs.KeptHalves.{keeps-rings, none-kept}
 use Rattle.cad_surgery.proofs.FromHalves.{fit-together, map-is}
 
-module _ (m : Map) (whole : HasWholeRings m) (table : Table) (kept : Held Half) (stars : Held Spoke) (st : HoldsStrings m table.rows stars) (local : IsLocal m table.rows)
+module _ (m : Map) (whole : HasWholeRings m) (table : Table) (kept : Held Half) (stars : Held Spoke) (grid : Grid) (st : HoldsStrings m table.rows stars) (local : IsLocal m table.rows)
     (labelled : (b : Boundary) → Contains m.boundaries b → IsLabelled m table.rows b) (holds : HoldsRings m table.rows kept m.boundaries) where
-  fits : FitRings (parts_of m table kept stars) m.boundaries
+  fits : FitRings (parts_of m table kept stars grid) m.boundaries
   fits = record {
     local = local;
     ends = st.ends;
     faces = faced m whole table.rows stars st labelled;
-    kept = keeps-rings (parts_of m table kept stars) m.boundaries whole holds;
-    no_face = none-kept (parts_of m table kept stars) m.boundaries whole holds;
+    kept = keeps-rings (parts_of m table kept stars grid) m.boundaries whole holds;
+    no_face = none-kept (parts_of m table kept stars grid) m.boundaries whole holds;
     stars = st.stars;
   }
 
-  pub built-fit : (r : Map) → r ≡ record m { boundaries = [] } → FitTogether (parts_of r table kept stars)
-  built-fit r is = subst (λ (q : Map). FitTogether (parts_of q table kept stars)) (sym is) (fit-together (parts_of m table kept stars) m.boundaries whole fits)
+  pub built-fit : (r : Map) → r ≡ record m { boundaries = [] } → FitTogether (parts_of r table kept stars grid)
+  built-fit r is = subst (λ (q : Map). FitTogether (parts_of q table kept stars grid)) (sym is) (fit-together (parts_of m table kept stars grid) m.boundaries whole fits)
 
-  pub built-map : (r : Map) → r ≡ record m { boundaries = [] } → map_of (parts_of r table kept stars) ≡ m
-  built-map r is = subst (λ (q : Map). map_of (parts_of q table kept stars) ≡ m) (sym is) (map-is (parts_of m table kept stars) m.boundaries whole fits)
+  pub built-map : (r : Map) → r ≡ record m { boundaries = [] } → map_of (parts_of r table kept stars grid) ≡ m
+  built-map r is = subst (λ (q : Map). map_of (parts_of q table kept stars grid) ≡ m) (sym is) (map-is (parts_of m table kept stars grid) m.boundaries whole fits)

@@ -32,13 +32,13 @@ use Rattle.cad_surgery.specs.declared.stars.Spoke.{Spoke}
 use Rattle.key_lists.specs.Held.{Held}
 use Rattle.cad_laws.specs.Local.{IsShown, side_by, IsLocal}
 use Rattle.cad_surgery.specs.Parts.{HasHalves}
-use Rattle.cad_surgery.specs.Building.{parts_of, HoldsStrings, IsLinkedAt}
+use Rattle.cad_surgery.specs.Building.{HoldsStrings, IsLinkedAt}
 use Rattle.cad_surgery.specs.Labels.{IsOnRing, IsLabelled, KeepsLabels}
 use Rattle.cad_surgery.proofs.RingsOfHalves.{cycle-same_ring}
 use Rattle.cad_surgery.proofs.CycleRings.{cycle-each, cycle-sides}
 use Rattle.cad_surgery.proofs.PartsRings.{found-row, half-two, rings_at-there}
 use Rattle.cad_surgery.proofs.ToHalves.{side-half_of}
-use Rattle.cad_surgery.proofs.Strings.{sides-apart, told-some, told-is}
+use Rattle.cad_surgery.proofs.Strings.{sides-apart, told-some, told-is, with_stars}
 
 -- ---- All halves are linked
 
@@ -57,13 +57,13 @@ module _ (m : Map) (whole : HasWholeRings m) (rows : HalfRows) (held : Held Spok
   pub half-among : (h : Half) → IsShown m h → Contains (all_sides m) (side_by rows h)
   half-among h shown =
       let row = found-row m.strings h.string shown in
-      let d = parts_of m (record { rows = rows; work = 0 }) [] held in
+      let d = with_stars m rows held in
       let on = subst (λ (g : Half). Contains (side_of row.0 ∷ opposite (side_of row.0) ∷ []) (side_by rows g)) (λ i. half_of (row.2 i) h.forward)
       (side-half_of d st.ends (two-ends m whole) (strings-once m whole) row.0 row.1 h.forward) in
       Contains-permutation (string_sides m) (all_sides m) (side_by rows h) whole.v5.once (Contains-flat_map (λ t. side_of t ∷ opposite (side_of t) ∷ []) m.strings row.0 (side_by rows h) row.1 on)
 
   pub half-two_ends : (h : Half) → IsShown m h → origin_of rows h ≢ origin_of rows (twin h)
-  half-two_ends h shown = half-two (parts_of m (record { rows = rows; work = 0 }) [] held) st.ends (two-ends m whole) h shown
+  half-two_ends h shown = half-two (with_stars m rows held) st.ends (two-ends m whole) h shown
 
   pub all-local : ((s : Side) → Contains (all_sides m) s → IsLinkedAt m rows s) → IsLocal m rows
   all-local made = record {

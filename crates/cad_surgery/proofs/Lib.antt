@@ -1,4 +1,5 @@
 pub mod RowLists
+pub mod GridRows
 pub mod WholeStrings
 pub mod RingsOfHalves
 pub mod CycleRings

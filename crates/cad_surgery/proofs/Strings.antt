@@ -17,6 +17,7 @@ use Rattle.half_table.specs.Rows.{HalfRows, IsLinked, has, next, prev, origin_of
 use Rattle.half_table.specs.Surgery.{KeepsHalves, IsSpliced}
 use Rattle.cad_surgery.specs.declared.stars.Spoke.{Spoke}
 use Rattle.key_lists.specs.Held.{Held, items_at}
+use Rattle.cell_grid.specs.Kept.{Kept}
 use Rattle.cad_laws.specs.Local.{IsShown, side_by}
 use Rattle.cad_surgery.specs.Parts.{Parts, HasHalves, rows_of}
 use Rattle.cad_surgery.specs.Views.{view_half}
@@ -27,9 +28,15 @@ use Rattle.cad_surgery.proofs.ToHalves.{halves-apart}
 use Rattle.cad_surgery.proofs.StarHalves.{along-some, half-told}
 use Rattle.cad_surgery.proofs.Linking.{link-now, link-kept}
 
+-- a map's rows with a table and stars alone
+abbrev pub with_stars : Map → HalfRows → Held Spoke → Parts
+with_stars m rows held =
+    let none : Kept = record { lists = []; long = [] } in
+    parts_of m (record { rows = rows; work = 0 }) [] held (record { strings = none; points = none })
+
 module _ (m : Map) (whole : HasWholeRings m) (rows : HalfRows) (held : Held Spoke) (st : HoldsStrings m rows held) where
   abbrev d : Parts
-  d = parts_of m (record { rows = rows; work = 0 }) [] held
+  d = with_stars m rows held
 
   -- the half along a side of the map
   pub side-shown : (s : Side) → Contains (all_sides m) s → (h : Half) × IsShown m h × (side_by rows h ≡ s)

@@ -9,13 +9,14 @@ use Rattle.half_table.specs.declared.half.Half.{Half}
 use Rattle.half_table.specs.Rows.{HalfRows, Table, IsLinked, has}
 use Rattle.cad_laws.specs.Local.{IsShown, side_by, next_side_by}
 use Rattle.key_lists.specs.Held.{Held, items_at}
+use Rattle.cell_grid.specs.Grid.{Grid}
 use Rattle.cad_surgery.specs.declared.stars.Spoke.{Spoke}
 use Rattle.cad_surgery.specs.Stars.{spokes_at}
 use Rattle.cad_surgery.specs.Parts.{Parts, HasHalves}
 
--- a map's rows with a table, halves of rings and stars
-abbrev pub parts_of : Map → Table → Held Half → Held Spoke → Parts
-parts_of m table kept stars = record {
+-- a map's rows with a table, halves of rings, stars and a grid
+abbrev pub parts_of : Map → Table → Held Half → Held Spoke → Grid → Parts
+parts_of m table kept stars grid = record {
   sources = m.sources;
   points = m.points;
   parcels = m.parcels;
@@ -24,6 +25,7 @@ parts_of m table kept stars = record {
   table = table;
   kept = kept;
   stars = stars;
+  grid = grid;
 }
 
 -- the table has the halves of the map's strings and no others, and each point has its star

@@ -7,3 +7,5 @@ pub mod Fits
 pub mod Building
 pub mod Labels
 pub mod Proper
+pub mod Gridded
+pub mod AtRest

@@ -1,4 +1,5 @@
--- The parts of a map on half-edges: rows, a table, one half of each ring, the star of each point.
+-- The parts of a map on half-edges: rows, a table, one half of each ring, the star of each point,
+-- and a grid of strings and points.
 use Rattle.std.specs.Prelude.{◌≡◌, ◌≢◌, ℕ, true, false, List, [], map, IsPermutation}
 use Rattle.std.specs.List.{Contains, AllByRecursion, flat_map}
 use Rattle.cad_rows.specs.declared.rows.PointRow.{PointRow}
@@ -15,6 +16,7 @@ use Rattle.half_table.specs.Half.{forward_of, backward_of, twin}
 use Rattle.half_table.specs.Rows.{HalfRows, Table, IsLinked, has, next, origin_of, face, cycle}
 use Rattle.cad_laws.specs.Local.{IsShown}
 use Rattle.key_lists.specs.Held.{Held, items_at}
+use Rattle.cell_grid.specs.Grid.{Grid}
 use Rattle.cad_surgery.specs.declared.stars.Spoke.{Spoke}
 use Rattle.cad_surgery.specs.KeptRings.{kept_ring}
 use Rattle.cad_surgery.specs.Stars.{spokes_at}
@@ -31,6 +33,8 @@ pub record Parts : Type 0 where
   pub kept : Held Half
   -- by the numbers of points, the halves that begin there
   pub stars : Held Spoke
+  -- strings and points at their positions
+  pub grid : Grid
 
 -- the rows, and no ring
 abbrev pub rows_of : Parts → Map

@@ -7,10 +7,12 @@ ghost use Rattle.half_table.specs.declared.half.Half.{Half as HalfOf};
 ghost use Rattle.half_table.specs.Rows.{has};
 ghost use Rattle.cad_laws.specs.Local.{side_by};
 ghost use Rattle.cad_surgery.specs.Labels.{IsAlong};
+ghost use Rattle.cad_surgery.specs.Gridded.{IsGridOf};
 ghost use Rattle.cad_surgery.specs.Parts.{rows_of, map_of, FitTogether};
 ghost use Rattle.cad_surgery.specs.Views.{view_half};
 
 use crate::building::{add_strings, keep_rings, label_rings, link_rings};
+use crate::grid::grid_of;
 use crate::kept::kept_half;
 use crate::map_rows::MapRows;
 use crate::stars::{Spoke, find_half, half_at, star_of};
@@ -18,6 +20,7 @@ use cad_map::{Counts, MapView, PlainMap};
 use cad_rows::{
     Face, Memory, ParcelNo, ParcelRow, PointNo, PointRow, SourceNo, SourceRow, StringNo, StringRow,
 };
+use cell_grid::CellGrid;
 use half_table::{Half, HalfTable, Tally};
 use key_lists::KeyLists;
 use std::alloc::Global;
@@ -30,6 +33,7 @@ pub(crate) struct Draft<T: Tally> {
     table: HalfTable<T>,
     kept: KeyLists<Half>,
     stars: KeyLists<Spoke>,
+    grid: CellGrid,
 }
 
 impl<T: Tally> Model for Draft<T> {
@@ -39,9 +43,9 @@ impl<T: Tally> Model for Draft<T> {
 
     ghost Value = { Parts };
 
-    ghost view = { λ a. parts_of (map_in a.rows) a.table a.kept a.stars };
+    ghost view = { λ a. parts_of (map_in a.rows) a.table a.kept a.stars a.grid };
 
-    ghost invariant = { λ a. FitTogether (parts_of (map_in a.rows) a.table a.kept a.stars) };
+    ghost invariant = { λ a. FitTogether (parts_of (map_in a.rows) a.table a.kept a.stars a.grid) };
 }
 
 // The side along a half.
@@ -61,6 +65,7 @@ impl<T: Tally> Draft<T> {
         ensures is { IfOk result (λ made. map_of made ≡ map.now) }
         ensures fit { IfOk result FitTogether }
         ensures halves { IfOk result (λ made. (h : HalfOf) → has made.table.rows h ≡ has_string map.now h.string) }
+        ensures grid { IfOk result (λ made. IsGridOf made.grid map.now) }
     {
         let rows = MapRows::of(alloc, map)?;
         let mut table = HalfTable::new(alloc, tally);
@@ -69,11 +74,13 @@ impl<T: Tally> Draft<T> {
         link_rings(map, &mut table, &stars);
         label_rings(map, &mut table, &stars);
         let kept = keep_rings(alloc, map, &stars)?;
+        let grid = grid_of(alloc, map)?;
         Ok(Draft {
             rows,
             table,
             kept,
             stars,
+            grid,
         })
     }
 
@@ -83,6 +90,13 @@ impl<T: Tally> Draft<T> {
         ensures fit { FitTogether self.now }
     {
         &self.table
+    }
+
+    /// The grid of strings and points.
+    pub(crate) fn grid(&self) -> &CellGrid
+        ensures { result.now ≡ self.now.grid }
+    {
+        &self.grid
     }
 
     /// The half along the side from one point to another.

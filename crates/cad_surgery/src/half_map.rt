@@ -1,6 +1,8 @@
 //! A map on half-edges.
 ghost use Rattle.std.specs.Prelude.{◌≡◌, IfOk};
 ghost use Rattle.cad_map.specs.Valid.{IsValid};
+ghost use Rattle.cad_valid.specs.Near.{HoldsMap};
+ghost use Rattle.cad_surgery.specs.Gridded.{IsGridOf};
 ghost use Rattle.cad_surgery.specs.Parts.{map_of, kept_at};
 ghost use Rattle.cad_surgery.specs.Proper.{IsProper};
 
@@ -9,27 +11,28 @@ use cad_map::{Counts, MapView, PlainMap};
 use cad_rows::{
     Face, Memory, ParcelNo, ParcelRow, PointNo, PointRow, SourceNo, SourceRow, StringNo, StringRow,
 };
+use cell_grid::CellGrid;
 use half_table::{HalfTable, Tally};
 use std::alloc::Global;
 use std::marker::Model;
 
 /// A map whose rings are the cycles of a table of half-edges: what follows a side, and the face that
-/// has it, are read off the table. Beside the table it keeps the rows, one half of each ring, and
-/// the halves that begin at each point.
+/// has it, are read off the table. Beside the table it keeps the rows, one half of each ring, the
+/// halves that begin at each point, and a grid of its strings and points.
 #[derive(Drop)]
 pub struct HalfMap<T: Tally> {
     draft: Draft<T>,
 }
 
 impl<T: Tally> Model for HalfMap<T> {
-    ghost use Rattle.cad_surgery.specs.Parts.{Parts, map_of, kept_at};
-    ghost use Rattle.cad_surgery.specs.Proper.{IsProper};
+    ghost use Rattle.cad_surgery.specs.Parts.{Parts};
+    ghost use Rattle.cad_surgery.specs.AtRest.{IsAtRest};
 
     ghost Value = { Parts };
 
     ghost view = { λ a. a.draft };
 
-    ghost invariant = { λ a. IsProper (map_of a.draft) a.draft.table.rows (kept_at a.draft) };
+    ghost invariant = { λ a. IsAtRest a.draft };
 }
 
 impl<T: Tally> HalfMap<T> {
@@ -50,6 +53,16 @@ impl<T: Tally> HalfMap<T> {
         ensures proper { IsProper (map_of self.now) result.now.rows (kept_at self.now) }
     {
         self.draft.table()
+    }
+
+    /// The grid of the map's strings and points, in cells of 100,000 mm: it holds just these, at
+    /// their positions. It takes no memory.
+    pub fn grid(&self) -> &CellGrid
+        ensures is { result.now ≡ self.now.grid }
+        ensures just { IsGridOf result.now (map_of self.now) }
+        ensures held { HoldsMap result.now (map_of self.now) }
+    {
+        self.draft.grid()
     }
 }
 

@@ -3,6 +3,7 @@
 
 mod building;
 mod draft;
+mod grid;
 mod half_map;
 mod kept;
 mod laws;

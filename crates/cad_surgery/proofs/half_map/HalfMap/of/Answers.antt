@@ -6,6 +6,7 @@ use Rattle.half_table.specs.declared.half.Half.{Half}
 use Rattle.half_table.specs.Rows.{has}
 use Rattle.cad_surgery.specs.Parts.{rows_of, map_of, kept_at}
 use Rattle.cad_surgery.specs.Proper.{IsProper}
+use Rattle.cad_surgery.specs.Gridded.{IsGridOf}
 use Rattle.cad_surgery.proofs.ProperParts.{proper}
 use Rattle.cad_surgery.proofs.half_map.HalfMap.of.Goals as goal
 
@@ -14,7 +15,10 @@ invariant_of-result g c =
     let d = c.in_ok-draft.draft in
     let is = c.in_ok-draft.ensures.is in
     let whole = subst HasWholeRings (sym is) (whole_valid c.args.map.now c.requires) in
-    proper d c.in_ok-draft.ensures.fit whole (λ h. c.in_ok-draft.ensures.halves h ∙ ap (λ (m : Map). has_string m h.string) (sym is))
+    record {
+      proper = proper d c.in_ok-draft.ensures.fit whole (λ h. c.in_ok-draft.ensures.halves h ∙ ap (λ (m : Map). has_string m h.string) (sym is));
+      grid = subst (IsGridOf d.grid) (sym is) c.in_ok-draft.ensures.grid;
+    }
 
 pub returns-clause-proper : goal.returns-clause-proper
 returns-clause-proper g c =

@@ -1,0 +1,12 @@
+use Rattle.std.proofs.Common.{sym, subst}
+use Rattle.cell_grid.specs.Grid.{Grid}
+use Rattle.cad_valid.specs.Near.{HoldsMap}
+use Rattle.cad_surgery.specs.Parts.{Parts, map_of}
+use Rattle.cad_surgery.proofs.GridRows.{holds-map}
+use Rattle.cad_surgery.proofs.half_map.HalfMap.grid.Goals as goal
+
+pub returns-clause-held : goal.returns-clause-held
+returns-clause-held g c =
+    subst (λ (d : Parts). HoldsMap c.grid.result.now (map_of d)) c.self.view_is
+    (subst (λ (h : Grid). HoldsMap h (map_of c.self.inside.draft)) (sym c.grid.ensures)
+    (holds-map _ _ c.self.invariant.grid))
