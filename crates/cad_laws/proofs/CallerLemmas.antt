@@ -3,7 +3,7 @@
 pub use Rattle.cad_laws.proofs.MapCorners.{corner-in, off-sides, two-sides, behind-only, two-whole, behind-one, before-one, some-corner, place-begins}
 -- what each edit makes of corners, boundaries and faces
 pub use Rattle.cad_laws.proofs.DividedCorners.{divided-parted}
-pub use Rattle.cad_laws.proofs.PlacedFaces.{divided-faces, enclosed-faces}
+pub use Rattle.cad_laws.proofs.PlacedFaces.{divided-faces, enclosed-faces, map-map, map-same}
 pub use Rattle.cad_laws.proofs.EnclosedCorners.{enclosed-island}
 pub use Rattle.cad_laws.proofs.MergedCorners.{merged-corners}
 pub use Rattle.cad_laws.proofs.MergedFaces.{merged-faces}
@@ -14,12 +14,15 @@ pub use Rattle.cad_laws.proofs.WholeAfter.{whole-after, join-breaks}
 -- what each edit touches, and that the corners elsewhere are the same
 pub use Rattle.cad_laws.proofs.TouchedAfter.{touched-after}
 pub use Rattle.cad_laws.proofs.CornersElsewhere.{corners-parted, corners-island, corners-joined, to-point}
+-- rows and positions where one row comes, goes or changes, and lists that a test leaves empty
+pub use Rattle.cad_laws.proofs.Elsewhere.{same-pushed, same-without, same-with_row, own-with_row, filter-none}
+pub use Rattle.cad_laws.proofs.TouchedRows.{same-position}
 -- what the halves of a table go on to
 pub use Rattle.cad_laws.proofs.TablesParted.{corner_of, next-side, goes-on_parted, goes-on_whole, goes-on_with, goes-on_without}
 pub use Rattle.cad_laws.proofs.TablesJoined.{goes-on_joined, goes-on_split}
 pub use Rattle.cad_laws.proofs.ApartHalves.{apart-halves}
 -- how many rows come and go, and the sources of those that go
-pub use Rattle.cad_laws.proofs.CountedRows.{Turns}
+pub use Rattle.cad_laws.proofs.CountedRows.{Turns, filter-all}
 pub use Rattle.cad_laws.proofs.CountedEdits.{counted}
 -- and how many sides of rings change, and how many rings pass to another face, at the least
 pub use Rattle.cad_laws.proofs.CountedSides.{sides-counted}

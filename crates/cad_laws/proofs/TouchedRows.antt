@@ -115,7 +115,7 @@ nothing-touched old new position points strings boundaries faces = record {
 -- ---- Sources and labels
 
 -- a point row with the same position in the place of one
-same-position : (m : Map) (row new : PointRow) → point_of m new.number ≡ Some row
+pub same-position : (m : Map) (row new : PointRow) → point_of m new.number ≡ Some row
     → new.position ≡ row.position → (q : ℕ) → position_of (with_point m new) q ≡ position_of m q
 same-position m row new is same q = by (nat_eq q new.number) refl
   where

@@ -1,5 +1,8 @@
 pub mod RowLists
 pub mod GridRows
+pub mod Exchanges
+pub mod RowExchanges
+pub mod EditExchanges
 pub mod WholeStrings
 pub mod RingsOfHalves
 pub mod CycleRings

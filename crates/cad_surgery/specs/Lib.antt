@@ -8,4 +8,6 @@ pub mod Building
 pub mod Labels
 pub mod Proper
 pub mod Gridded
+pub mod Exchanged
+pub mod GridEdits
 pub mod AtRest

@@ -1,12 +1,15 @@
 //! The grid of a map's strings and points.
-ghost use Rattle.std.specs.Prelude.{IfOk, OnOk};
+ghost use Rattle.std.specs.Prelude.{IfOk, OnOk, OnErr};
+ghost use Rattle.cad_map.specs.Map.{Map};
 ghost use Rattle.cad_map.specs.Valid.{HasSoundRows};
 ghost use Rattle.cell_grid.specs.Kept.{HoldsNone, HoldsSame};
+ghost use Rattle.cell_grid.specs.Together.{Listed};
 ghost use Rattle.cad_surgery.specs.Gridded.{HoldsJust, IsGridOf, string_entries, point_entries};
+ghost use Rattle.cad_surgery.specs.Exchanged.{IsExchange, IsGridOfBoth, CanEnter, CanLeave};
 
 use cad_map::{MapView, PlainMap, position};
 use cad_rows::Memory;
-use cell_grid::CellGrid;
+use cell_grid::{CellGrid, Entries};
 use std::alloc::Global;
 
 /// The side of a cell in millimetres.
@@ -49,4 +52,25 @@ pub(crate) fn grid_of(alloc: Global, map: &PlainMap) -> Result<CellGrid, Memory>
     put_strings(&mut grid, map)?;
     put_points(&mut grid, map)?;
     Ok(grid)
+}
+
+/// Puts what comes into the grid of a map: all of it, or none where memory runs out. Then the grid
+/// is that of the map before and of the map after.
+pub(crate) fn enter(grid: &mut CellGrid, come: &Entries) -> Result<(), Memory>
+    requires { CanEnter grid.old come.now }
+    ensures both { OnOk result ((old new : Map) (gone : Listed) → IsGridOf grid.old old
+        → IsExchange old gone come.now new → IsGridOfBoth grid.new old new) }
+    ensures err { OnErr result ((old : Map) → IsGridOf grid.old old → IsGridOf grid.new old) }
+{
+    grid.put_all(come)
+}
+
+/// Takes what goes out of the grid of two maps. Then it is that of the second alone. It takes no
+/// memory.
+pub(crate) fn withdraw(grid: &mut CellGrid, gone: &Entries)
+    requires { CanLeave grid.old gone.now }
+    ensures { (old new : Map) (come : Listed) → IsGridOfBoth grid.old old new
+        → IsExchange old gone.now come new → IsGridOf grid.new new }
+{
+    grid.take_all(gone);
 }

@@ -1,9 +1,15 @@
 //! What the parts of a map on half-edges have to do with the map that they stand for.
 ghost use Rattle.std.specs.Prelude.{◌≡◌, List};
+ghost use Rattle.cad_rows.specs.declared.edits.Edit.{Edit};
 ghost use Rattle.cad_map.specs.declared.boundary.Boundary.{Boundary};
+ghost use Rattle.cad_map.specs.Effects.{after};
+ghost use Rattle.cad_map.specs.Map.{Map};
 ghost use Rattle.cad_map.specs.Rings.{HasWholeRings};
+ghost use Rattle.cad_laws.specs.Tried.{IsTried};
 ghost use Rattle.cad_surgery.specs.Parts.{Parts, FitTogether, map_of};
 ghost use Rattle.cad_surgery.specs.Fits.{FitRings, HasSidesOnce, with_rings};
+ghost use Rattle.cad_surgery.specs.Exchanged.{IsExchange};
+ghost use Rattle.cad_surgery.specs.GridEdits.{gone_by, come_by};
 
 /// Where the parts go half by half with the rings of a map whose rings are whole, they stand for
 /// that map.
@@ -17,4 +23,12 @@ pub fn halves_make_the_map()
 /// Parts that stand for a map go half by half with its rings, if no side of a string stands twice.
 pub fn the_map_makes_halves()
     ensures { (d : Parts) → FitTogether d → HasSidesOnce d → FitRings d (map_of d).boundaries }
+{}
+
+/// What an edit that is tried takes out of the grid of its map is what only the map before it has,
+/// and what it puts in is what only the map after it has: the strings and points that come or go,
+/// and a point that moves with its strings.
+pub fn edits_exchange_entries()
+    ensures { (m : Map) (e : Edit) → IsTried m e
+        → IsExchange m (gone_by m e) (come_by m e) (after m e) }
 {}

@@ -12,4 +12,4 @@ mod rows;
 mod stars;
 
 pub use half_map::HalfMap;
-pub use laws::{halves_make_the_map, the_map_makes_halves};
+pub use laws::{edits_exchange_entries, halves_make_the_map, the_map_makes_halves};

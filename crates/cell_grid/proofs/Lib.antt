@@ -8,3 +8,4 @@ mod Found
 mod Grids
 mod Passed
 mod Together
+pub mod CallerLemmas

@@ -1,0 +1,5 @@
+use Rattle.cad_surgery.proofs.EditExchanges.{exchanged}
+use Rattle.cad_surgery.proofs.laws.edits_exchange_entries.Goals as goal
+
+pub returns : goal.returns
+returns c = exchanged
