@@ -372,7 +372,7 @@ exchanged m (Join p new) t = strings-joined m t.valid p new (allowed m (Join p n
 exchanged m (Divide face chain strings parcel label source) t =
     let e = Divide face chain strings parcel label source in
     let can = can-divide m face chain strings parcel label source t.given (allowed m e t.allowed) in
-    strings-put m t.valid (after m e) (source ∷ []) chain strings can.as_many can.strings_new (pairs-from_distinct strings can.strings_distinct) refl refl
+    strings-put m t.valid (after m e) (source ∷ []) chain strings can.as_many can.rows.strings_new (pairs-from_distinct strings can.rows.strings_distinct) refl refl
 exchanged m (Merge kept ended) t =
     let names = names-parcels m kept ended (allowed m (Merge kept ended) t.allowed) in
     subst (λ (f : Face). IsExchange m (gone_by m (Merge f ended)) nothing (merge m f ended)) (sym names.kept_is)
@@ -391,4 +391,4 @@ exchanged m (Enclose face points strings parcel label source) t =
     let can = can-enclose m face points strings parcel label source t.given (allowed m e t.allowed) in
     let more = length-push points (start_of points) in
     let many = can.as_many in
-    strings-put m t.valid (after m e) (source ∷ []) (points ++ start_of points ∷ []) strings (omega (arith, more, many)) can.strings_new (pairs-from_distinct strings can.strings_distinct) refl refl
+    strings-put m t.valid (after m e) (source ∷ []) (points ++ start_of points ∷ []) strings (omega (arith, more, many)) can.rows.strings_new (pairs-from_distinct strings can.rows.strings_distinct) refl refl
