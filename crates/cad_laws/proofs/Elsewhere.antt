@@ -206,8 +206,8 @@ module _ {R : Type 0} (number : R → ℕ) where
   in-without n p rows found = (
     by (row_with number n rows) refl,
     λ same. true≢false (sym found
-    ∙ ap (λ (k : ℕ). is_some (row_with number k (without_row number p rows))) same
-    ∙ ap (λ (o : Option R). is_some o) (none-without p rows)),
+        ∙ ap (λ (k : ℕ). is_some (row_with number k (without_row number p rows))) same
+        ∙ ap (λ (o : Option R). is_some o) (none-without p rows)),
   )
     where
       by : (o : Option R) → row_with number n rows ≡ o → is_some (row_with number n rows) ≡ true

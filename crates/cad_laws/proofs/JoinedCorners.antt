@@ -409,6 +409,24 @@ module _ (m : Map) (valid : IsValid m) (p : ℕ) (s t : StringRow)
       in_map d k =
           Contains-flat_map (λ (q : Boundary). corners_of q.ring) m.boundaries r d there k
 
+      -- one that came at an end of the strings is told by the corner that was there
+      at-ends : (f g : ℕ) (it : maps.IsThere m valid p s t at r (corner f p g)) (f_away : f ≢ p)
+          (g_away : g ≢ p) (other : f ≢ g)
+          → (Contains (all_corners m) (corner (u f g r it f_away g_away other) f p)
+          → WasCorner m p a b (corner (u f g r it f_away g_away other) f g))
+          → (Contains (all_corners m) (corner p g (x f g r it f_away g_away other))
+          → WasCorner m p a b (corner f g (x f g r it f_away g_away other)))
+          → WasCorner m p a b c
+      at-ends f g it f_away g_away other before behind =
+          let both = beside-point f g r it f_away g_away other in
+          elim (comes-here f g r it f_away g_away other c h) [
+            | inl old ↦ stood c (in_map c old)
+            | inr new ↦ elim new [
+              | inl e ↦ subst (WasCorner m p a b) e (before (in_map _ both.0))
+              | inr e ↦ subst (WasCorner m p a b) e (behind (in_map _ both.1))
+            ]
+          ]
+
       by : (ds : List Corner) → corners_at p r.ring ≡ ds → WasCorner m p a b c
       by [] is =
           stood c
@@ -422,34 +440,11 @@ module _ (m : Map) (valid : IsValid m) (p : ℕ) (s t : StringRow)
           record { ring = there; there = kept.0; point = eqb-true d.at p kept.1 } in
           elim (maps.is-one m valid p s t at r d k) [
             | inl e ↦
-                let it = subst (maps.IsThere m valid p s t at r) e k in
-                let both = beside-point a b r it away-a away-b differ in
-                elim (comes-here a b r it away-a away-b differ c h) [
-                  | inl old ↦ stood c (in_map c old)
-                  | inr new ↦ elim new [
-                    | inl f ↦
-                        subst (WasCorner m p a b) f
-                        (before_first (u a b r it away-a away-b differ) (in_map _ both.0))
-                    | inr f ↦
-                        subst (WasCorner m p a b) f
-                        (behind_second (x a b r it away-a away-b differ) (in_map _ both.1))
-                  ]
-                ]
+                at-ends a b (subst (maps.IsThere m valid p s t at r) e k) away-a away-b differ
+                (λ h. before_first _ h) (λ h. behind_second _ h)
             | inr e ↦
-                let it = subst (maps.IsThere m valid p s t at r) e k in
-                let other : b ≢ a = λ same. differ (sym same) in
-                let both = beside-point b a r it away-b away-a other in
-                elim (comes-here b a r it away-b away-a other c h) [
-                  | inl old ↦ stood c (in_map c old)
-                  | inr new ↦ elim new [
-                    | inl f ↦
-                        subst (WasCorner m p a b) f
-                        (before_second (u b a r it away-b away-a other) (in_map _ both.0))
-                    | inr f ↦
-                        subst (WasCorner m p a b) f
-                        (behind_first (x b a r it away-b away-a other) (in_map _ both.1))
-                  ]
-                ]
+                at-ends b a (subst (maps.IsThere m valid p s t at r) e k) away-b away-a
+                (λ same. differ (sym same)) (λ h. before_second _ h) (λ h. behind_first _ h)
           ]
 
   abbrev those : List Corner

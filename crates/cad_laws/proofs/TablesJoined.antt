@@ -82,6 +82,17 @@ module _ (m after : Map) (rows : HalfRows) (local : IsLocal after rows) (p a b :
       v : ℕ
       v = origin_of rows (twin h)
 
+      -- from one end of the two it leads to the other now
+      by-end : (w q : ℕ) → v ≡ w
+          → (Contains (all_corners m) (corner o w p) → Contains (all_corners after) (corner o w q))
+          → Contains (all_corners m) (corner o v p) → side_by rows (next rows h) ≡ (w, q)
+      by-end w q f to here =
+          let new = to (subst (λ (x : ℕ). Contains (all_corners m) (corner o x p)) f here) in
+          let same : own h ≡ corner o w q =
+          before-one after rings_after (own h) (corner o w q) (local.corners h shown) new
+          (λ i. (o, f i)) in
+          sym (next-side after rows local h shown) ∙ ap side_behind same
+
       by : (c : Corner) → Contains (all_corners m) c → side_before c ≡ side_by rows h → (t : Bool)
           → nat_eq c.after p ≡ t
           → (ComesAfter m (side_by rows h) p × (side_by rows (next rows h) ≡ (a, b)))
@@ -95,22 +106,8 @@ module _ (m after : Map) (rows : HalfRows) (local : IsLocal after rows) (p a b :
           (λ i. corner (before i) (at i) (eqb-true c.after p e i)) in_m in
           let side = (corner-in m.boundaries (two-whole m rings) (corner o v p) here).1 in
           elim (to-point m after p a b it rings v side) [
-            | inl f ↦
-                let new =
-                it.to_first o
-                (subst (λ (w : ℕ). Contains (all_corners m) (corner o w p)) f here) in
-                let same : own h ≡ corner o a b =
-                before-one after rings_after (own h) (corner o a b) (local.corners h shown) new
-                (λ i. (o, f i)) in
-                inl (here, sym (next-side after rows local h shown) ∙ ap side_behind same)
-            | inr f ↦
-                let new =
-                it.to_second o
-                (subst (λ (w : ℕ). Contains (all_corners m) (corner o w p)) f here) in
-                let same : own h ≡ corner o b a =
-                before-one after rings_after (own h) (corner o b a) (local.corners h shown) new
-                (λ i. (o, f i)) in
-                inr (inl (here, sym (next-side after rows local h shown) ∙ ap side_behind same))
+            | inl f ↦ inl (here, by-end a b f (λ h. it.to_first o h) here)
+            | inr f ↦ inr (inl (here, by-end b a f (λ h. it.to_second o h) here))
           ]
       by c in_m is false e =
           let away = it.gone (own h) (local.corners h shown) in

@@ -33,27 +33,26 @@ module _ (m : Map) (rows : HalfRows) (local : IsLocal m rows) where
 module _ (whole parted : Map) (rows : HalfRows) (local : IsLocal whole rows)
     (rings : HasWholeRings whole) (chain : List ℕ) (first last : Corner)
     (it : IsParted whole parted chain first last) where
+  -- a half whose next side is behind a corner goes on as that corner's first side does
+  to-corner : (h : Half) → IsShown whole h → (c : Corner) → Contains (all_corners whole) c
+      → side_by rows (next rows h) ≡ side_behind c → (at z : ℕ) → c.at ≡ at
+      → ComesAfter parted (c.before, at) z → ComesAfter parted (side_by rows h) z
+  to-corner h shown c there is at z at_is comes =
+      let e = behind-one whole rings (corner_of whole rows local h) c
+      (local.corners h shown) there (next-side whole rows local h shown ∙ is) in
+      subst (λ (s : Side). ComesAfter parted s z)
+      (λ i. (
+        sym (ap (λ (c : Corner). c.before) e) i,
+        (sym at_is ∙ sym (ap (λ (c : Corner). c.at) e)) i,
+      )) comes
+
   pub goes-on_parted : GoesOnParted whole parted rows chain first last
   goes-on_parted = record {
     stays = λ h shown other far. it.stays (corner_of whole rows local h) (local.corners h shown)
         (λ e. other (sym (next-side whole rows local h shown) ∙ ap side_behind e))
         (λ e. far (sym (next-side whole rows local h shown) ∙ ap side_behind e));
-    to_start = λ h shown is.
-        let e = behind-one whole rings (corner_of whole rows local h) first
-        (local.corners h shown) it.first_there (next-side whole rows local h shown ∙ is) in
-        subst (λ (s : Side). ComesAfter parted s (next_of chain))
-        (λ i. (
-          sym (ap (λ (c : Corner). c.before) e) i,
-          (sym it.first_at ∙ sym (ap (λ (c : Corner). c.at) e)) i,
-        )) it.to_start;
-    to_end = λ h shown is.
-        let e = behind-one whole rings (corner_of whole rows local h) last
-        (local.corners h shown) it.last_there (next-side whole rows local h shown ∙ is) in
-        subst (λ (s : Side). ComesAfter parted s (last_but_one chain))
-        (λ i. (
-          sym (ap (λ (c : Corner). c.before) e) i,
-          (sym it.last_at ∙ sym (ap (λ (c : Corner). c.at) e)) i,
-        )) it.to_end;
+    to_start = λ h shown is. to-corner h shown first it.first_there is _ _ it.first_at it.to_start;
+    to_end = λ h shown is. to-corner h shown last it.last_there is _ _ it.last_at it.to_end;
   }
 
 -- ---- Sides of a chain and its corners
