@@ -1,10 +1,10 @@
 //! Chains of points: what is wrong with one, and the strings along it.
 ghost use Rattle.std.specs.Prelude.{◌≡◌, ◌+◌, length, [], ◌∷◌, IfOk};
-ghost use Rattle.cad_map.specs.Chain.{inner_of, are_distinct, strings_along};
+ghost use Rattle.cad_map.specs.Chain.{inner_of, are_distinct as are_distinct_numbers, strings_along};
 ghost use Rattle.cad_map.specs.Refusals.{first_not_free, is_bad_chain};
 
 use cad_map::MapView;
-use cad_rows::{Memory, Numbers, PointNo, Refusal, SourceNo, StringNo, StringRow};
+use cad_rows::{Memory, Number, Numbers, PointNo, Refusal, SourceNo, StringNo, StringRow};
 use std::alloc::Global;
 
 /// The points of a chain between its first and its last.
@@ -31,24 +31,12 @@ pub(crate) fn first_on_string_refusal<M: MapView>(map: &M, points: &[PointNo]) -
     None
 }
 
-/// Whether no point stands twice.
-fn are_points_distinct(points: &[PointNo]) -> bool
-    ensures { result ≡ are_distinct points.now }
+/// Whether no number stands twice.
+fn are_distinct<Kind>(numbers: &[Number<Kind>]) -> bool
+    ensures { result ≡ are_distinct_numbers numbers.now }
 {
-    for place in 0..points.len() {
-        if points[place + 1..].contains(&points[place]) {
-            return false;
-        }
-    }
-    true
-}
-
-/// Whether no string stands twice.
-fn are_strings_distinct(strings: &[StringNo]) -> bool
-    ensures { result ≡ are_distinct strings.now }
-{
-    for place in 0..strings.len() {
-        if strings[place + 1..].contains(&strings[place]) {
+    for place in 0..numbers.len() {
+        if numbers[place + 1..].contains(&numbers[place]) {
             return false;
         }
     }
@@ -61,8 +49,8 @@ pub(crate) fn is_bad(points: &[PointNo], least: usize, strings: &[StringNo], wan
 {
     points.len() < least
         || strings.len() != wanted
-        || !are_points_distinct(points)
-        || !are_strings_distinct(strings)
+        || !are_distinct(points)
+        || !are_distinct(strings)
 }
 
 /// A string for each two neighbours of a chain, from the former to the latter, with one source. An error where memory

@@ -1,12 +1,11 @@
 //! The point that follows a side of a plan.
 ghost use Rattle.std.specs.Prelude.{◌⊎◌, ◌≡◌, ◌∷◌, [], ◌==◌, false, length, IfSome, IfNone, Some};
 ghost use Rattle.std.specs.List.{list_all, Contains};
-ghost use Rattle.cad_map.specs.Map.{position_of};
 ghost use Rattle.cad_map.specs.Stars.{star, spokes_of};
 ghost use Rattle.cad_files.specs.Follower.{followers};
 ghost use Rattle.cad_files.specs.Arrival.{AreStarsOf, leaves_open as leaves_open_in, may_follow_there as may_follow_among, is_barred as is_barred_in, is_other as is_other_than, IsOnly, HasNone, HasTwo};
 
-use cad_map::{MapView, PlainMap, Spoke, Stars};
+use cad_map::{PlainMap, Spoke, Stars, position};
 use cad_rows::PointNo;
 use geo_exact::{Pt, in_sector};
 
@@ -16,16 +15,6 @@ struct Arrival {
     from: PointNo,
     back: Pt,
     at: Pt,
-}
-
-// The position of a point, and of one that isn't there the origin.
-fn position(plain: &PlainMap, point: PointNo) -> Pt
-    ensures { result ≡ position_of plain.now point }
-{
-    match plain.point(point) {
-        Some(row) => row.position,
-        None => Pt { x: 0, y: 0 },
-    }
 }
 
 // ---- One spoke after another

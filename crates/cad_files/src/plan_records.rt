@@ -90,13 +90,8 @@ fn point_record(alloc: Global, r: &Fields<'_>) -> Result<Option<PlanRecord>, Mem
     if !are_blank(&[r.e, r.f]) {
         return Ok(None);
     }
-    let Some(number) = row_number(r.a) else {
-        return Ok(None);
-    };
-    let Some(x) = coordinate(r.b) else {
-        return Ok(None);
-    };
-    let Some(y) = coordinate(r.c) else {
+    let (Some(number), Some(x), Some(y)) = (row_number(r.a), coordinate(r.b), coordinate(r.c))
+    else {
         return Ok(None);
     };
     let Some(sources) = distinct_sources(alloc, r.d)? else {
@@ -139,19 +134,11 @@ fn parcel_record(alloc: Global, r: &Fields<'_>) -> Result<Option<PlanRecord>, Me
 fn string_record(alloc: Global, r: &Fields<'_>) -> Result<Option<PlanRecord>, Memory>
     ensures { IfOk result (λ o. o ≡ string_of_fields r.now) }
 {
-    let Some(number) = row_number(r.a) else {
+    let (Some(number), Some(from), Some(to)) = (row_number(r.a), row_number(r.b), row_number(r.c))
+    else {
         return Ok(None);
     };
-    let Some(from) = row_number(r.b) else {
-        return Ok(None);
-    };
-    let Some(to) = row_number(r.c) else {
-        return Ok(None);
-    };
-    let Some(left) = face(r.d) else {
-        return Ok(None);
-    };
-    let Some(right) = face(r.e) else {
+    let (Some(left), Some(right)) = (face(r.d), face(r.e)) else {
         return Ok(None);
     };
     let Some(sources) = distinct_sources(alloc, r.f)? else {

@@ -44,7 +44,7 @@ returns-in-Strings g c =
     let told = rw c.unwrap-left.ensures at c.left_right.ensures.some in
     let string = as_told m c.requires.valid row there c.unwrap-left.result.0 c.unwrap-left.result.1 told in
     let found = slice_get-map (plan_string_of m) m.strings c.args.place
-        ∙ ap (option_map (plan_string_of m)) (sym at) in
+    ∙ ap (option_map (plan_string_of m)) (sym at) in
     let here = slice_get-map string_record (map (plan_string_of m) m.strings) c.args.place
-        ∙ ap (option_map string_record) found ∙ ap (λ s. Some (string_record s)) string in
+    ∙ ap (option_map string_record) found ∙ ap (λ s. Some (string_record s)) string in
     rw (c.in-Strings.is, here) c.write_string.ensures

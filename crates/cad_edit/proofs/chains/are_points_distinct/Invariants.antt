@@ -1,7 +1,0 @@
-use Rattle.std.proofs.Common.{◌≡◌, drop}
-use Rattle.cad_map.specs.Chain.{are_distinct}
-use Rattle.cad_edit.proofs.chains.are_points_distinct.Given as goal
-
--- the points that are left decide
-abbrev pub invariant-loop-place : goal.invariant-loop-place
-invariant-loop-place l = are_distinct l.points ≡ are_distinct (drop l.place l.points)
