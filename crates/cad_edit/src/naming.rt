@@ -29,7 +29,8 @@ fn name_of(item: Item) -> Name
 
 /// The refusal of an edit that names this row, where it isn't there.
 fn refusal_unless_known<M: MapView>(map: &M, name: Name) -> Option<Refusal>
-    ensures { result ≡ (if is_there (M.map map.now) name then None else Some (Refusal.Unknown name)) }
+    ensures { result ≡ (if is_there (M.map map.now) name then None
+        else Some (Refusal.Unknown name)) }
 {
     if is_known(map, &name) {
         None
@@ -86,7 +87,8 @@ pub(crate) fn unknown_refusal<M: MapView>(map: &M, edit: &Edit) -> Option<Refusa
 
 /// The refusal of an edit that names this face, where it isn't there. The outside always is.
 fn refusal_unless_known_face<M: MapView>(map: &M, face: &Face) -> Option<Refusal>
-    ensures { result ≡ option_map (λ n. Refusal.Unknown n) (find (λ n. not (is_there (M.map map.now) n)) (face_named face.now)) }
+    ensures { result ≡ option_map (λ n. Refusal.Unknown n)
+        (find (λ n. not (is_there (M.map map.now) n)) (face_named face.now)) }
 {
     match face {
         Face::Outside => None,
@@ -99,7 +101,8 @@ fn refusal_unless_known_face<M: MapView>(map: &M, face: &Face) -> Option<Refusal
 
 /// The refusal of an edit that names these points, where one isn't there: the first.
 fn refusal_unless_known_points<M: MapView>(map: &M, points: &[PointNo]) -> Option<Refusal>
-    ensures { result ≡ option_map (λ n. Refusal.Unknown n) (find (λ n. not (is_there (M.map map.now) n)) (points_named points.now)) }
+    ensures { result ≡ option_map (λ n. Refusal.Unknown n)
+        (find (λ n. not (is_there (M.map map.now) n)) (points_named points.now)) }
 {
     for point in points {
         if let Some(refusal) = refusal_unless_known(map, Name::Point(*point)) {
@@ -116,7 +119,9 @@ fn unknown_for_parcel<M: MapView>(
     points: &[PointNo],
     source: SourceNo,
 ) -> Option<Refusal>
-    ensures { result ≡ option_map (λ n. Refusal.Unknown n) (find (λ n. not (is_there (M.map map.now) n)) (face_named face.now ++ points_named points.now ++ NameOf.Source source ∷ [])) }
+    ensures { result ≡ option_map (λ n. Refusal.Unknown n) (find
+        (λ n. not (is_there (M.map map.now) n))
+        (face_named face.now ++ points_named points.now ++ NameOf.Source source ∷ [])) }
 {
     if let Some(refusal) = refusal_unless_known_face(map, face) {
         return Some(refusal);
@@ -191,7 +196,8 @@ pub(crate) fn taken_refusal<M: MapView>(map: &M, edit: &Edit) -> Option<Refusal>
 
 /// The refusal of an edit that gives these strings' numbers, where one is in use: the first.
 fn refusal_if_taken_strings<M: MapView>(map: &M, strings: &[StringNo]) -> Option<Refusal>
-    ensures { result ≡ option_map (λ n. Refusal.Taken n) (find (is_there (M.map map.now)) (strings_named strings.now)) }
+    ensures { result ≡ option_map (λ n. Refusal.Taken n)
+        (find (is_there (M.map map.now)) (strings_named strings.now)) }
 {
     for string in strings {
         if let Some(refusal) = refusal_if_taken(map, Name::String(*string)) {
@@ -203,7 +209,8 @@ fn refusal_if_taken_strings<M: MapView>(map: &M, strings: &[StringNo]) -> Option
 
 /// What is in use of the numbers that a new parcel and its strings are given.
 fn taken_for_parcel<M: MapView>(map: &M, strings: &[StringNo], parcel: ParcelNo) -> Option<Refusal>
-    ensures { result ≡ option_map (λ n. Refusal.Taken n) (find (is_there (M.map map.now)) (strings_named strings.now ++ NameOf.Parcel parcel ∷ [])) }
+    ensures { result ≡ option_map (λ n. Refusal.Taken n)
+        (find (is_there (M.map map.now)) (strings_named strings.now ++ NameOf.Parcel parcel ∷ [])) }
 {
     if let Some(refusal) = refusal_if_taken_strings(map, strings) {
         return Some(refusal);

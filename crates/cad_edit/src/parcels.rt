@@ -30,7 +30,15 @@ pub(crate) fn put_strings(map: &mut PlainMap, rows: &[StringRow]) -> Result<(), 
 /// Puts a new parcel last.
 pub(crate) fn put_new_parcel(map: &mut PlainMap, new: &NewParcel<'_>) -> Result<(), Memory>
     requires { parcel_of map.old new.now.number ≡ None }
-    ensures { OnOk result (map.new ≡ record map.old { parcels = map.old.parcels ++ record { number = new.now.number; label = new.now.label.now; sources = new.now.source ∷ [] } ∷ [] }) }
+    ensures { OnOk result (map.new
+        ≡ record map.old {
+          parcels = map.old.parcels
+              ++ record {
+                number = new.now.number;
+                label = new.now.label.now;
+                sources = new.now.source ∷ [];
+              } ∷ [];
+        }) }
 {
     let mut sources = Numbers::new(map.allocator());
     sources.push(new.source)?;

@@ -22,7 +22,8 @@ pub(crate) fn hole_placed(
 ) -> Result<Boundary, Memory>
     requires whole { HasWholeRings map.now }
     requires there { Contains map.now.boundaries boundary.now }
-    ensures { IfOk result (λ placed. placed ≡ hole_placed_of map.now face.now new.now ring.now boundary.now) }
+    ensures { IfOk result
+        (λ placed. placed ≡ hole_placed_of map.now face.now new.now ring.now boundary.now) }
 {
     let mut placed = boundary.copy()?;
     if is_hole_inside(map, face, ring, boundary) {
@@ -35,7 +36,9 @@ pub(crate) fn hole_placed(
 fn is_hole_inside(map: &PlainMap, face: &Face, ring: &Ring, boundary: &Boundary) -> bool
     requires whole { HasWholeRings map.now }
     requires there { Contains map.now.boundaries boundary.now }
-    ensures { result ≡ (is_face_of face.now boundary.now.face && is_negative map.now boundary.now.ring && is_in_ring_of map.now ring.now (anchor_of boundary.now.ring)) }
+    ensures { result ≡ (is_face_of face.now boundary.now.face
+        && is_negative map.now boundary.now.ring
+        && is_in_ring_of map.now ring.now (anchor_of boundary.now.ring)) }
 {
     is_face(face, &boundary.face)
         && sum_round(map, &boundary.ring, &DoubledArea) < 0

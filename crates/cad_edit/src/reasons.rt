@@ -110,7 +110,8 @@ pub(crate) fn bad_chain_refusal(edit: &Edit) -> Option<Refusal>
 /// Whether so many strings more, or one parcel more, would pass a limit.
 fn has_no_room_for_parcel<M: MapView>(map: &M, strings: usize) -> bool
     requires { IsValid (M.map map.now) }
-    ensures { result ≡ (nat_lt string_limit (length (M.map map.now).strings + strings) || nat_le row_limit (length (M.map map.now).parcels)) }
+    ensures { result ≡ (nat_lt string_limit (length (M.map map.now).strings + strings)
+        || nat_le row_limit (length (M.map map.now).parcels)) }
 {
     let counts = map.counts();
     STRING_LIMIT - counts.strings < strings || ROW_LIMIT <= counts.parcels

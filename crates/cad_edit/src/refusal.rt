@@ -47,7 +47,8 @@ pub fn admit<M: MapView>(map: &M, edit: &Edit) -> Result<Admitted, Refusal>
 
 /// The first reason of those that look at numbers, at lists and at rows.
 fn early_refusal<M: MapView>(map: &M, edit: &Edit) -> Option<Refusal>
-    ensures { result ≡ first_of (range edit.now ∷ unknown (M.map map.now) edit.now ∷ taken (M.map map.now) edit.now ∷ retired (M.map map.now) edit.now
+    ensures { result ≡ first_of (range edit.now ∷ unknown (M.map map.now) edit.now
+        ∷ taken (M.map map.now) edit.now ∷ retired (M.map map.now) edit.now
         ∷ outside edit.now ∷ no_change (M.map map.now) edit.now ∷ not_free (M.map map.now) edit.now
         ∷ not_degree_two (M.map map.now) edit.now ∷ bad_chain edit.now ∷ []) }
 {
@@ -84,11 +85,15 @@ fn admit_later<M: MapView>(map: &M, edit: &Edit) -> Result<Admitted, Refusal>
     requires valid { IsValid (M.map map.now) }
     requires two { not_degree_two (M.map map.now) edit.now ≡ None }
     requires chain { bad_chain edit.now ≡ None }
-    ensures refused { IfErr result (λ r. first_of (not_in_parcel (M.map map.now) edit.now ∷ chain_joins_rings (M.map map.now) edit.now ∷ same_parcel edit.now
-        ∷ not_neighbours (M.map map.now) edit.now ∷ not_one_chain (M.map map.now) edit.now ∷ already_attached (M.map map.now) edit.now
+    ensures refused { IfErr result (λ r. first_of (not_in_parcel (M.map map.now) edit.now
+        ∷ chain_joins_rings (M.map map.now) edit.now ∷ same_parcel edit.now
+        ∷ not_neighbours (M.map map.now) edit.now ∷ not_one_chain (M.map map.now) edit.now
+        ∷ already_attached (M.map map.now) edit.now
         ∷ not_attached (M.map map.now) edit.now ∷ full (M.map map.now) edit.now ∷ []) ≡ Some r) }
-    ensures allowed { IfOk result (λ found. first_of (not_in_parcel (M.map map.now) edit.now ∷ chain_joins_rings (M.map map.now) edit.now ∷ same_parcel edit.now
-        ∷ not_neighbours (M.map map.now) edit.now ∷ not_one_chain (M.map map.now) edit.now ∷ already_attached (M.map map.now) edit.now
+    ensures allowed { IfOk result (λ found. first_of (not_in_parcel (M.map map.now) edit.now
+        ∷ chain_joins_rings (M.map map.now) edit.now ∷ same_parcel edit.now
+        ∷ not_neighbours (M.map map.now) edit.now ∷ not_one_chain (M.map map.now) edit.now
+        ∷ already_attached (M.map map.now) edit.now
         ∷ not_attached (M.map map.now) edit.now ∷ full (M.map map.now) edit.now ∷ []) ≡ None) }
     ensures corners { IfOk result (λ found. HasCorners (M.map map.now) edit.now found.corners) }
     ensures chain { IfOk result (λ found. HasChain (M.map map.now) edit.now found.chain) }
@@ -115,7 +120,8 @@ fn last_refusal<M: MapView>(
 ) -> Option<Refusal>
     requires valid { IsValid (M.map map.now) }
     requires strings { HasStrings (M.map map.now) edit.now strings.now }
-    ensures { result ≡ first_of (already_attached (M.map map.now) edit.now ∷ not_attached (M.map map.now) edit.now ∷ full (M.map map.now) edit.now ∷ []) }
+    ensures { result ≡ first_of (already_attached (M.map map.now) edit.now
+        ∷ not_attached (M.map map.now) edit.now ∷ full (M.map map.now) edit.now ∷ []) }
 {
     if let Some(refusal) = already_attached_refusal(map, edit) {
         return Some(refusal);

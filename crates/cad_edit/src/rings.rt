@@ -9,7 +9,9 @@ use cad_rows::PointNo;
 
 /// The first of these rings that has the side from one point to another.
 pub(crate) fn ring_with(boundaries: &[Boundary], from: PointNo, to: PointNo) -> Option<&Ring>
-    ensures { option_copied result ≡ option_map (λ b. b.ring) (find (λ b. has_side (from, to) (sides_of b.ring)) boundaries.now) }
+    ensures { option_copied result
+        ≡ option_map (λ b. b.ring)
+        (find (λ b. has_side (from, to) (sides_of b.ring)) boundaries.now) }
 {
     for boundary in boundaries {
         if boundary.ring.has_side(from, to) {

@@ -56,7 +56,8 @@ pub(crate) fn is_among(sources: &Numbers<SourceNo>, source: SourceNo) -> bool
 
 /// How many of some sources aren't among others.
 fn count_others(sources: &Numbers<SourceNo>, among: &Numbers<SourceNo>) -> usize
-    ensures value { result ≡ length (filter (λ y. not (list_any (λ x. x == y) among.now)) sources.now) }
+    ensures value { result
+        ≡ length (filter (λ y. not (list_any (λ x. x == y) among.now)) sources.now) }
     ensures few { result ≤ length sources.now }
 {
     sources

@@ -32,7 +32,15 @@ fn place_along(strings: &[PlanString], spoke: &Spoke) -> usize
 
 // The side of a string that leads from its first point to its second.
 fn left_side(string: &PlanString, after: PointNo, next: usize) -> PlanSide
-    ensures { result ≡ record { string = string.now.row.number; from = string.now.row.from; to = string.now.row.to; face = string.now.left; after = after; next = next } }
+    ensures { result
+        ≡ record {
+          string = string.now.row.number;
+          from = string.now.row.from;
+          to = string.now.row.to;
+          face = string.now.left;
+          after = after;
+          next = next;
+        } }
 {
     PlanSide {
         string: string.row.number,
@@ -46,7 +54,15 @@ fn left_side(string: &PlanString, after: PointNo, next: usize) -> PlanSide
 
 // The side of a string that leads from its second point to its first.
 fn right_side(string: &PlanString, after: PointNo, next: usize) -> PlanSide
-    ensures { result ≡ record { string = string.now.row.number; from = string.now.row.to; to = string.now.row.from; face = string.now.right; after = after; next = next } }
+    ensures { result
+        ≡ record {
+          string = string.now.row.number;
+          from = string.now.row.to;
+          to = string.now.row.from;
+          face = string.now.right;
+          after = after;
+          next = next;
+        } }
 {
     PlanSide {
         string: string.row.number,

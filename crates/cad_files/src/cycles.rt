@@ -15,7 +15,8 @@ fn ring_from(alloc: Global, first: PlanSide, rest: &mut SidePool) -> Result<Boun
     requires among { Contains rest.old.all first }
     requires followed { AreFollowed (followed_side first ∷ rest.old.left) }
     ensures ring { IfOk result
-        (λ b. IsPermutation (followed_side first ∷ rest.old.left) (followed_of b ++ rest.new.left)) }
+        (λ b. IsPermutation (followed_side first ∷ rest.old.left)
+        (followed_of b ++ rest.new.left)) }
     ensures two { IfOk result (λ b. 2 ≤ length b.ring) }
     ensures left { IfOk result (λ b. AreFollowed rest.new.left) }
     ensures all { rest.new.all ≡ rest.old.all }

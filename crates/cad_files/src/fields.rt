@@ -28,7 +28,16 @@ impl<'a> Model for Fields<'a> {
 
     ghost Value = { Seven };
 
-    ghost view = { λ r. record { kind = r.kind.now; a = r.a.now; b = r.b.now; c = r.c.now; d = r.d.now; e = r.e.now; f = r.f.now } };
+    ghost view = { λ r.
+        record {
+          kind = r.kind.now;
+          a = r.a.now;
+          b = r.b.now;
+          c = r.c.now;
+          d = r.d.now;
+          e = r.e.now;
+          f = r.f.now;
+        } };
 }
 
 /// The fields of a record of seven.

@@ -73,7 +73,8 @@ fn write_string(
 ) -> Result<(), Memory>
     ensures { OnOk result
         (HasAppended (record_text
-        (string_record (record { row = row.now; left = left; right = right }))) writer.old writer.new) }
+        (string_record (record { row = row.now; left = left; right = right }))) writer.old
+        writer.new) }
 {
     let number = row.number.get().to_string(alloc)?;
     let from = row.from.get().to_string(alloc)?;

@@ -92,7 +92,8 @@ impl SidePool {
         ensures some { IfSome result (λ s. (plan_side_of s ≡ side_behind (followed_side last.now))
             × IsPermutation self.old.left (followed_side s ∷ self.new.left)) }
         ensures none { IfNone result
-            (AllByRecursion (λ s. side_of_followed s ≢ side_behind (followed_side last.now)) self.old.left
+            (AllByRecursion (λ s. side_of_followed s ≢ side_behind (followed_side last.now))
+            self.old.left
             × (self.new ≡ self.old)) }
         ensures all { self.new.all ≡ self.old.all }
     {

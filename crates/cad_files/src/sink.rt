@@ -50,7 +50,13 @@ impl Model for MemSink {
 
     ghost Value = { KeptBytes };
 
-    ghost view = { λ s. record { bytes = s.bytes.items; calls = s.calls; fails_from = s.fails_from; failures = s.failures } };
+    ghost view = { λ s.
+        record {
+          bytes = s.bytes.items;
+          calls = s.calls;
+          fails_from = s.fails_from;
+          failures = s.failures;
+        } };
 }
 
 impl MemSink {

@@ -28,14 +28,21 @@ impl<M: MapStore> Model for Editor<M> {
 
     ghost coded = { editor_code M.code M.Record.code };
 
-    ghost view = { λ e. record { store = e.store; records = e.records.items; place = e.place; depth = e.records.capacity } };
+    ghost view = { λ e.
+        record {
+          store = e.store;
+          records = e.records.items;
+          place = e.place;
+          depth = e.records.capacity;
+        } };
 }
 
 impl<M: MapStore> Editor<M> {
     /// Opens an editor on the store's map. Where memory runs out, the store comes back as it was.
     pub fn open(alloc: Global, store: M, depth: Depth) -> Result<Editor<M>, M>
         requires { IsValid (M.map store) }
-        ensures opened { IfOk result (λ editor. StandsFor M.map M.belongs editor (beginning (M.map store) depth)) }
+        ensures opened { IfOk result
+            (λ editor. StandsFor M.map M.belongs editor (beginning (M.map store) depth)) }
         ensures err { IfErr result (λ given_back. given_back ≡ store) }
     {
         match HeapCircularBuffer::with_capacity(alloc, depth.get()) {
@@ -51,7 +58,8 @@ impl<M: MapStore> Editor<M> {
     /// Makes an edit. After a refusal nothing has changed, and undone edits can still be made again.
     pub fn edit(&mut self, edit: &Edit) -> Result<(), Refusal>
         requires { StandsForSome M.map M.belongs self.old }
-        ensures { Goes M.map M.belongs self.old (Command.Edit edit.now) (edit_answer result) self.new }
+        ensures { Goes M.map M.belongs self.old (Command.Edit edit.now)
+            (edit_answer result) self.new }
     {
         let record = self.store.apply(edit)?;
         self.records.truncate_back(self.place);
@@ -100,14 +108,16 @@ impl<M: MapStore> Editor<M> {
 
     /// Whether there is an edit to go back.
     pub fn can_undo(&self) -> bool
-        ensures { (h : History) → StandsFor M.map M.belongs self.now h → (IsTrue result ↔ CanUndo h) }
+        ensures { (h : History) → StandsFor M.map M.belongs self.now h
+            → (IsTrue result ↔ CanUndo h) }
     {
         self.place > 0
     }
 
     /// Whether there is an edit to go on.
     pub fn can_redo(&self) -> bool
-        ensures { (h : History) → StandsFor M.map M.belongs self.now h → (IsTrue result ↔ CanRedo h) }
+        ensures { (h : History) → StandsFor M.map M.belongs self.now h
+            → (IsTrue result ↔ CanRedo h) }
     {
         self.place < self.records.len()
     }
@@ -115,13 +125,15 @@ impl<M: MapStore> Editor<M> {
     /// The map that is shown.
     pub fn map(&self) -> &M
         ensures store { result.now ≡ self.now.store }
-        ensures shown_map { (h : History) → StandsFor M.map M.belongs self.now h → shown_map h ≡ Some (M.map result.now) }
+        ensures shown_map { (h : History) → StandsFor M.map M.belongs self.now h
+            → shown_map h ≡ Some (M.map result.now) }
 
         // It is valid.
         ensures valid { StandsForSome M.map M.belongs self.now → IsValid (M.map result.now) }
 
         // It is the opened map with the standing edits applied in order.
-        ensures built { (h : History) (first : Map) → StandsFor M.map M.belongs self.now h → opened h ≡ Some first →
+        ensures built { (h : History) (first : Map) → StandsFor M.map M.belongs self.now h
+            → opened h ≡ Some first →
             LeadAlong first (standing h) (M.map result.now) }
     {
         &self.store

@@ -20,6 +20,7 @@ pub fn one_history()
 /// What is opened on a valid map is a history, each command leaves one, and the map that is shown is valid.
 pub fn histories_stay()
     ensures beginning { (m : Map) (depth : ℕ) → IsValid m → IsHistory (beginning m depth) }
-    ensures step { (h new : History) (c : Command) (a : Answer) → IsHistory h → Step h c a new → IsHistory new }
+    ensures step { (h new : History) (c : Command) (a : Answer) → IsHistory h → Step h c a new
+        → IsHistory new }
     ensures shown_map { (h : History) (m : Map) → IsHistory h → shown_map h ≡ Some m → IsValid m }
 {}

@@ -21,13 +21,15 @@ pub fn run<M: MapStore>(
     requires { StandsForSome M.map M.belongs editor.old }
 
     // The answers are those of each history that the editor stood for, and it stands for the history after them.
-    ensures run { IfOk result (λ answers. GoesAlong M.map M.belongs editor.old commands.now answers.items editor.new) }
+    ensures run { IfOk result
+        (λ answers. GoesAlong M.map M.belongs editor.old commands.now answers.items editor.new) }
 
     // Each command has its answer.
     ensures each { IfOk result (λ answers. length answers.items ≡ length commands.now) }
 
     // The map is then the opened one with the standing edits applied in order.
-    ensures built { IfOk result (λ answers. (h end : History) (first : Map) → StandsFor M.map M.belongs editor.old h →
+    ensures built { IfOk result
+        (λ answers. (h end : History) (first : Map) → StandsFor M.map M.belongs editor.old h →
         Run h commands.now answers.items end → opened h ≡ Some first →
         LeadAlong first (standing end) (M.map editor.new.store)) }
     ensures err { OnErr result (editor.new ≡ editor.old) }

@@ -80,7 +80,8 @@ fn command_line<'a>(alloc: Global) -> Result<Command<'a>, AllocError>
 /// Reads the arguments `[--depth N] [FILE]`, the program's name first. N is from 1 to 1000, and 100 where it is
 /// left out. Fails as `clap` does, also for `--help` and `--version`.
 pub fn read_args<'a>(alloc: Global, words: &'a [&'a str]) -> Result<Args<'a>, Error>
-    ensures { IfOk result (λ args. ReadsArgs (map (λ w. w.now) words.entry.now) args.depth (option_map (λ f. f.now) args.file)) }
+    ensures { IfOk result (λ args. ReadsArgs (map (λ w. w.now) words.entry.now) args.depth
+        (option_map (λ f. f.now) args.file)) }
 {
     let mut command = command_line(alloc)?;
     let matches = command.try_get_matches_from_mut(words)?;

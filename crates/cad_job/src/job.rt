@@ -47,10 +47,12 @@ pub fn run_job<R: Read + Drop, S: Sink>(
 ) -> Result<(), JobFault>
     // What was written, where reader and sink tell their bytes.
     ensures does { IfSome (R.remaining reader) (λ input. (written : List ℕ)
-        × Appends (S.taken sink.old) (S.taken sink.new) written × DoesJob (strip_bom input) depth written result) }
+        × Appends (S.taken sink.old) (S.taken sink.new) written
+        × DoesJob (strip_bom input) depth written result) }
 
     // A write fault comes only of a failed call of the sink.
-    ensures write { IsErrOf result JobFault.Write → S.failures sink.new ≡ counted_up (S.failures sink.old) }
+    ensures write { IsErrOf result JobFault.Write
+        → S.failures sink.new ≡ counted_up (S.failures sink.old) }
     ensures quiet { OnOk result (S.failures sink.new ≡ S.failures sink.old) }
 {
     let mut reader = ReaderBuilder::new()
@@ -76,9 +78,12 @@ fn run_script<R: Read, S: Sink, M: MapStore + Drop>(
     depth: Depth,
 ) -> Result<(), JobFault>
     requires { IsValid (M.map store) }
-    ensures does { (text : List ℕ) (plan : List (List (List ℕ))) (rows : Rows) → HasRead R.remaining text plan reader.old → plan_of plan ≡ opened rows
-        → (written : List ℕ) × Appends (S.taken sink.old) (S.taken sink.new) written × DoesScript text plan (M.map store) depth written result }
-    ensures write { IsErrOf result JobFault.Write → S.failures sink.new ≡ counted_up (S.failures sink.old) }
+    ensures does { (text : List ℕ) (plan : List (List (List ℕ))) (rows : Rows)
+        → HasRead R.remaining text plan reader.old → plan_of plan ≡ opened rows
+        → (written : List ℕ) × Appends (S.taken sink.old) (S.taken sink.new) written
+        × DoesScript text plan (M.map store) depth written result }
+    ensures write { IsErrOf result JobFault.Write
+        → S.failures sink.new ≡ counted_up (S.failures sink.old) }
     ensures quiet { OnOk result (S.failures sink.new ≡ S.failures sink.old) }
 {
     let mut editor = match Editor::open(alloc, store, depth) {
@@ -112,7 +117,8 @@ fn run_script<R: Read, S: Sink, M: MapStore + Drop>(
 fn flushed<S: Sink>(sink: &mut S, end: Result<(), JobFault>) -> Result<(), JobFault>
     ensures kept { Keeps (S.taken sink.old) (S.taken sink.new) }
     ensures ended { ((result ≡ end) × (S.failures sink.new ≡ S.failures sink.old))
-        ⊎ ((result ≡ Err JobFault.Write) × (S.failures sink.new ≡ counted_up (S.failures sink.old))) }
+        ⊎ ((result ≡ Err JobFault.Write)
+        × (S.failures sink.new ≡ counted_up (S.failures sink.old))) }
 {
     match sink.flush() {
         Ok(()) => end,
@@ -128,7 +134,8 @@ fn answer_of_row<M: MapStore>(
 ) -> Result<Vec<u8>, Memory>
     requires { StandsForSome M.map M.belongs editor.old }
     ensures { IfOk result (λ text. (h : History) → StandsFor M.map M.belongs editor.old h →
-        (end : History) × IsAnswered h (line_of (fields_of row.now)) text.items end × StandsFor M.map M.belongs editor.new end) }
+        (end : History) × IsAnswered h (line_of (fields_of row.now)) text.items end
+        × StandsFor M.map M.belongs editor.new end) }
 {
     match read_line(alloc, row) {
         Ok(Line::Command(command)) => answer_of_command(alloc, editor, &command),
@@ -148,7 +155,8 @@ fn answer_of_command<M: MapStore>(
 ) -> Result<Vec<u8>, Memory>
     requires { StandsForSome M.map M.belongs editor.old }
     ensures { IfOk result (λ text. (h : History) → StandsFor M.map M.belongs editor.old h →
-        (end : History) × IsAnswered h (Some (Line.Command command.now)) text.items end × StandsFor M.map M.belongs editor.new end) }
+        (end : History) × IsAnswered h (Some (Line.Command command.now)) text.items end
+        × StandsFor M.map M.belongs editor.new end) }
 {
     let answer = step(editor, command);
     if answer == Answer::Refused(Refusal::Memory) {

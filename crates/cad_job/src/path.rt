@@ -18,7 +18,8 @@ pub fn run_path<R: Files + AllocGlobal, S: Sink>(
 where
     R::File: Drop,
     // A write fault comes only of a failed call of the sink.
-    ensures write { IsErrOf result JobFault.Write → S.failures sink.new ≡ counted_up (S.failures sink.old) }
+    ensures write { IsErrOf result JobFault.Write
+        → S.failures sink.new ≡ counted_up (S.failures sink.old) }
     ensures quiet { OnOk result (S.failures sink.new ≡ S.failures sink.old) }
 {
     match fs::open(rt, path) {

@@ -65,10 +65,12 @@ pub fn enclosed()
 /// map after it to the one before, it is a division or an enclosure. The kept face has all other
 /// rings of the ended one, and every other side keeps its face.
 pub fn merged()
-    ensures corners { (m : Map) (kept ended : Face) (x : ChainInRings) → IsTried m (Merge kept ended)
+    ensures corners { (m : Map) (kept ended : Face) (x : ChainInRings)
+        → IsTried m (Merge kept ended)
         → Contains (shared_chains m kept ended) x → IsMergedBy x (after m (Merge kept ended)) m }
     ensures faces { (m : Map) (kept ended : Face) (x : ChainInRings) → IsTried m (Merge kept ended)
-        → Contains (shared_chains m kept ended) x → IsMergedIn x m (after m (Merge kept ended)) kept ended }
+        → Contains (shared_chains m kept ended) x
+        → IsMergedIn x m (after m (Merge kept ended)) kept ended }
 {}
 
 /// A join that is tried takes out the two corners at the point, and of the two strings' far ends
@@ -133,10 +135,12 @@ pub fn counts()
 /// store knows which halves it links anew, doing the edit and taking it back. And that a table
 /// whose halves begin at their strings' ends has no two halves with one side.
 pub fn tables()
-    ensures chain_comes { (whole parted : Map) (rows : HalfRows) (chain : List ℕ) (first last : Corner)
+    ensures chain_comes { (whole parted : Map) (rows : HalfRows) (chain : List ℕ)
+        (first last : Corner)
         → IsLocal whole rows → HasWholeRings whole → IsParted whole parted chain first last
         → GoesOnParted whole parted rows chain first last }
-    ensures chain_goes { (whole parted : Map) (rows : HalfRows) (chain : List ℕ) (first last : Corner)
+    ensures chain_goes { (whole parted : Map) (rows : HalfRows) (chain : List ℕ)
+        (first last : Corner)
         → IsLocal parted rows → HasWholeRings parted → 2 ≤ length chain
         → IsParted whole parted chain first last → GoesOnWhole whole parted rows chain first last }
     ensures island_comes { (whole parted : Map) (rows : HalfRows) (ring : Ring) → IsLocal whole rows
@@ -149,6 +153,7 @@ pub fn tables()
     ensures point_comes { (m after : Map) (rows : HalfRows) (p a b : ℕ)
         → IsLocal after rows → IsJoinedAt m after p a b → HasWholeRings m → HasWholeRings after
         → AreNotJoined m a b → GoesOnSplit m after rows p a b }
-    ensures apart { (m : Map) (rows : HalfRows) → HasTwoEnds m → HasWholeRings m → BeginAtEnds m rows
+    ensures apart { (m : Map) (rows : HalfRows) → HasTwoEnds m → HasWholeRings m
+        → BeginAtEnds m rows
         → (g h : Half) → IsShown m g → IsShown m h → side_by rows g ≡ side_by rows h → g ≡ h }
 {}

@@ -96,7 +96,8 @@ fn copy_retired<M: MapView>(made: &mut PlainMap, view: &M) -> Result<(), Memory>
 // The rings of all faces, face by face.
 fn all_rings<M: MapView>(alloc: Global, view: &M) -> Result<Vec<Boundary>, Memory>
     requires { IsValid (M.map view.now) }
-    ensures { IfOk result (λ boundaries. canonical_order boundaries.items ≡ (M.map view.now).boundaries) }
+    ensures { IfOk result
+        (λ boundaries. canonical_order boundaries.items ≡ (M.map view.now).boundaries) }
 {
     let mut boundaries = Vec::new(alloc);
     append_outline(&mut boundaries, view, Face::Outside)?;
@@ -115,7 +116,8 @@ fn append_outline<M: MapView>(
 ) -> Result<(), Memory>
     requires valid { IsValid (M.map view.now) }
     requires there { IsTrue (has_face (M.map view.now) face) }
-    ensures { OnOk result (boundaries.new.items ≡ boundaries.old.items ++ map_of (bounding face) (outline_of (M.map view.now) face)) }
+    ensures { OnOk result (boundaries.new.items
+        ≡ boundaries.old.items ++ map_of (bounding face) (outline_of (M.map view.now) face)) }
 {
     let rings = outline(*boundaries.allocator(), view, face)?.unwrap();
     for ring in rings {

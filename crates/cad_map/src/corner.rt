@@ -125,7 +125,9 @@ fn leaves_by(corner: &Corner, from: PointNo, to: PointNo) -> bool
 pub fn are_in_one_ring<M: MapView>(map: &M, first: &Corner, last: &Corner) -> bool
     requires { IsValid (M.map map.now) }
     ensures { (face : FaceOf) → Contains (face_corners (M.map map.now) face) first.now
-        → result ≡ list_any (λ r. has_side (leaving first.now) (sides_of r) && has_side (leaving last.now) (sides_of r)) (rings_of (M.map map.now) face) }
+        → result ≡ list_any
+        (λ r. has_side (leaving first.now) (sides_of r) && has_side (leaving last.now) (sides_of r))
+        (rings_of (M.map map.now) face) }
 {
     for (from, to) in Walk::from(map, first.at, first.after) {
         if leaves_by(last, from, to) {

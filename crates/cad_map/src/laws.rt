@@ -20,8 +20,10 @@ ghost use Rattle.cad_map.specs.Changes.{merge_at};
 /// at most.
 pub fn one_outcome()
     ensures map { (m : Map) (e : Edit) (x y : Map) → LeadsTo m e x → LeadsTo m e y → x ≡ y }
-    ensures refusal { (m : Map) (e : Edit) (r s : Refusal) → IsRefused m e r → IsRefused m e s → r ≡ s }
-    ensures either { (m : Map) (e : Edit) (x : Map) (r : Refusal) → LeadsTo m e x → ¬ IsRefused m e r }
+    ensures refusal { (m : Map) (e : Edit) (r s : Refusal) → IsRefused m e r → IsRefused m e s
+        → r ≡ s }
+    ensures either { (m : Map) (e : Edit) (x : Map) (r : Refusal) → LeadsTo m e x
+        → ¬ IsRefused m e r }
     ensures rule { (m : Map) (r s : Rule) → FirstBroken m r → FirstBroken m s → r ≡ s }
 {}
 
@@ -39,7 +41,8 @@ pub fn parcels_add_up()
         (parcel : ℕ) (label : List ℕ) (source : ℕ) → IsValid m
         → LeadsTo m (Divide face chain strings parcel label source) new
         → IsSharedOut f m face parcel new }
-    ensures enclosed { (f : Measure) → IsOdd f → (m new : Map) (face : Face) (points strings : List ℕ)
+    ensures enclosed { (f : Measure) → IsOdd f
+        → (m new : Map) (face : Face) (points strings : List ℕ)
         (parcel : ℕ) (label : List ℕ) (source : ℕ) → IsValid m
         → LeadsTo m (Enclose face points strings parcel label source) new
         → IsSharedOut f m face parcel new }
@@ -50,10 +53,15 @@ pub fn parcels_add_up()
 /// Boundaries have one list, however they are kept: that list is its own, and boundaries in another order have
 /// the same.
 pub fn one_list()
-    ensures canonical_again { (bs : List Boundary) → canonical_order (canonical_order bs) ≡ canonical_order bs }
-    ensures any_order { (bs cs : List Boundary) → IsPermutation (map canonical_form bs) (map canonical_form cs) → canonical_order bs ≡ canonical_order cs }
-    ensures sides { (bs : List Boundary) → IsPermutation (sides_in bs) (sides_in (canonical_order bs)) }
-    ensures corners { (bs : List Boundary) → IsPermutation (corners_in bs) (corners_in (canonical_order bs)) }
+    ensures canonical_again { (bs : List Boundary)
+        → canonical_order (canonical_order bs) ≡ canonical_order bs }
+    ensures any_order { (bs cs : List Boundary)
+        → IsPermutation (map canonical_form bs) (map canonical_form cs)
+        → canonical_order bs ≡ canonical_order cs }
+    ensures sides { (bs : List Boundary)
+        → IsPermutation (sides_in bs) (sides_in (canonical_order bs)) }
+    ensures corners { (bs : List Boundary)
+        → IsPermutation (corners_in bs) (corners_in (canonical_order bs)) }
 {}
 
 /// Two parcels of a valid map have one shared chain at most: any two give the same boundaries, and by whichever is found

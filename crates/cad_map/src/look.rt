@@ -73,7 +73,8 @@ pub(crate) fn string_with(
 
 /// The face of the first of these rings that has the side from one point to another.
 pub(crate) fn face_with(boundaries: &[Boundary], from: PointNo, to: PointNo) -> Option<Face>
-    ensures { result ≡ option_map (λ b. b.face) (find (λ b. has_side_of (from, to) (sides_of b.ring)) boundaries.now) }
+    ensures { result ≡ option_map (λ b. b.face)
+        (find (λ b. has_side_of (from, to) (sides_of b.ring)) boundaries.now) }
 {
     for boundary in boundaries {
         if boundary.ring.has_side(from, to) {

@@ -22,7 +22,8 @@ use std::alloc::Global;
 #[tactic(auto, using(crate::proofs::Boundaries::RingsOfMap::whole_valid))]
 pub fn outline<M: MapView>(alloc: Global, map: &M, face: Face) -> Result<Option<Vec<Ring>>, Memory>
     requires { IsValid (M.map map.now) }
-    ensures some { IfOk result (λ told. IfSome told (λ rings. rings.items ≡ outline_of (M.map map.now) face)) }
+    ensures some { IfOk result
+        (λ told. IfSome told (λ rings. rings.items ≡ outline_of (M.map map.now) face)) }
     ensures known { IfOk result (λ told. is_some told ≡ has_face_of (M.map map.now) face) }
 {
     if !has_face(map, &face) {
@@ -42,7 +43,9 @@ fn append_canonical<M: MapView>(
     outer: bool,
 ) -> Result<(), Memory>
     requires { HasWholeRings (M.map map.now) }
-    ensures { OnOk result (rings.new.items ≡ rings.old.items ++ filter (is_outer_of (M.map map.now) outer) (rings_of (M.map map.now) face.now)) }
+    ensures { OnOk result (rings.new.items
+        ≡ rings.old.items ++ filter (is_outer_of (M.map map.now) outer)
+        (rings_of (M.map map.now) face.now)) }
 {
     let boundaries = collect(*rings.allocator(), map, face, outer)?;
     for boundary in in_canonical_order(boundaries) {
@@ -60,7 +63,8 @@ fn collect<M: MapView>(
 ) -> Result<Vec<Boundary>, Memory>
     requires { HasWholeRings (M.map map.now) }
     ensures kept { IfOk result (λ boundaries. boundaries.items
-        ≡ map_of (bounding face.now) (filter (is_outer_of (M.map map.now) outer) (rings_at face.now (M.rings map.now)))) }
+        ≡ map_of (bounding face.now)
+        (filter (is_outer_of (M.map map.now) outer) (rings_at face.now (M.rings map.now)))) }
     ensures canonical_order { canonical_order (M.rings map.now) ≡ (M.map map.now).boundaries }
 {
     let mut boundaries = Vec::new(alloc);
@@ -77,7 +81,8 @@ fn collect<M: MapView>(
 fn is_outer<M: MapView>(map: &M, face: &Face, place: usize) -> bool
     requires whole { HasWholeRings (M.map map.now) }
     requires there { place < length (rings_at face.now (M.rings map.now)) }
-    ensures { result ≡ is_outer_of (M.map map.now) true (ring_at_of (M.rings map.now) face.now place) }
+    ensures { result ≡ is_outer_of (M.map map.now) true
+        (ring_at_of (M.rings map.now) face.now place) }
 {
     ring_sum(map, face, place, &DoubledArea) > 0
 }

@@ -94,7 +94,8 @@ impl Model for PlainMap {
       boundaries = a.boundaries.items;
     } };
 
-    ghost invariant = { λ a. (canonical_order a.boundaries.items ≡ a.boundaries.items) × AllByRecursion (λ b. 2 ≤ length b.ring) a.boundaries.items };
+    ghost invariant = { λ a. (canonical_order a.boundaries.items ≡ a.boundaries.items)
+        × AllByRecursion (λ b. 2 ≤ length b.ring) a.boundaries.items };
 }
 
 impl PlainMap {
@@ -151,7 +152,8 @@ impl PlainMap {
     /// Puts a source last. Where memory runs out the map stays.
     pub fn put_source(&mut self, row: SourceRow) -> Result<(), Memory>
         requires { source_of self.old row.number ≡ None }
-        ensures ok { OnOk result (self.new ≡ record self.old { sources = self.old.sources ++ row ∷ [] }) }
+        ensures ok { OnOk result
+            (self.new ≡ record self.old { sources = self.old.sources ++ row ∷ [] }) }
         ensures err { OnErr result (self.new ≡ self.old) }
     {
         self.sources.put(row)
@@ -160,7 +162,8 @@ impl PlainMap {
     /// Puts a point last. Where memory runs out the map stays.
     pub fn put_point(&mut self, row: PointRow) -> Result<(), Memory>
         requires { point_of self.old row.number ≡ None }
-        ensures ok { OnOk result (self.new ≡ record self.old { points = self.old.points ++ row ∷ [] }) }
+        ensures ok { OnOk result
+            (self.new ≡ record self.old { points = self.old.points ++ row ∷ [] }) }
         ensures err { OnErr result (self.new ≡ self.old) }
     {
         self.points.put(row)
@@ -169,7 +172,8 @@ impl PlainMap {
     /// Puts a parcel last. Where memory runs out the map stays.
     pub fn put_parcel(&mut self, row: ParcelRow) -> Result<(), Memory>
         requires { parcel_of self.old row.number ≡ None }
-        ensures ok { OnOk result (self.new ≡ record self.old { parcels = self.old.parcels ++ row ∷ [] }) }
+        ensures ok { OnOk result
+            (self.new ≡ record self.old { parcels = self.old.parcels ++ row ∷ [] }) }
         ensures err { OnErr result (self.new ≡ self.old) }
     {
         self.parcels.put(row)
@@ -178,7 +182,8 @@ impl PlainMap {
     /// Puts a string last. Where memory runs out the map stays.
     pub fn put_string(&mut self, row: StringRow) -> Result<(), Memory>
         requires { string_of self.old row.number ≡ None }
-        ensures ok { OnOk result (self.new ≡ record self.old { strings = self.old.strings ++ row ∷ [] }) }
+        ensures ok { OnOk result
+            (self.new ≡ record self.old { strings = self.old.strings ++ row ∷ [] }) }
         ensures err { OnErr result (self.new ≡ self.old) }
     {
         self.strings.put(row)
@@ -186,7 +191,8 @@ impl PlainMap {
 
     /// Puts the number of a parcel last among those that mergers ended. Where memory runs out the map stays.
     pub fn put_retired(&mut self, no: ParcelNo) -> Result<(), Memory>
-        ensures ok { OnOk result (self.new ≡ record self.old { retired = self.old.retired ++ no ∷ [] }) }
+        ensures ok { OnOk result
+            (self.new ≡ record self.old { retired = self.old.retired ++ no ∷ [] }) }
         ensures err { OnErr result (self.new ≡ self.old) }
     {
         self.retired.push(no)
@@ -195,7 +201,8 @@ impl PlainMap {
     /// Puts a point in the place of the one with its number. Where memory runs out the map stays.
     pub fn set_point(&mut self, row: PointRow) -> Result<(), Memory>
         requires { IsSome (point_of self.old row.number) }
-        ensures ok { OnOk result (self.new ≡ record self.old { points = with_row (λ r. r.number) row self.old.points }) }
+        ensures ok { OnOk result
+            (self.new ≡ record self.old { points = with_row (λ r. r.number) row self.old.points }) }
         ensures err { OnErr result (self.new ≡ self.old) }
     {
         self.points.set(row)
@@ -204,7 +211,8 @@ impl PlainMap {
     /// Puts a parcel in the place of the one with its number. Where memory runs out the map stays.
     pub fn set_parcel(&mut self, row: ParcelRow) -> Result<(), Memory>
         requires { IsSome (parcel_of self.old row.number) }
-        ensures ok { OnOk result (self.new ≡ record self.old { parcels = with_row (λ r. r.number) row self.old.parcels }) }
+        ensures ok { OnOk result (self.new
+            ≡ record self.old { parcels = with_row (λ r. r.number) row self.old.parcels }) }
         ensures err { OnErr result (self.new ≡ self.old) }
     {
         self.parcels.set(row)
@@ -213,7 +221,8 @@ impl PlainMap {
     /// Puts a string in the place of the one with its number. Where memory runs out the map stays.
     pub fn set_string(&mut self, row: StringRow) -> Result<(), Memory>
         requires { IsSome (string_of self.old row.number) }
-        ensures ok { OnOk result (self.new ≡ record self.old { strings = with_row (λ r. r.number) row self.old.strings }) }
+        ensures ok { OnOk result (self.new
+            ≡ record self.old { strings = with_row (λ r. r.number) row self.old.strings }) }
         ensures err { OnErr result (self.new ≡ self.old) }
     {
         self.strings.set(row)
@@ -221,21 +230,24 @@ impl PlainMap {
 
     /// Takes the point with a number away, if there is one.
     pub fn take_point(&mut self, no: PointNo)
-        ensures { self.new ≡ record self.old { points = without_row (λ r. r.number) no self.old.points } }
+        ensures { self.new
+            ≡ record self.old { points = without_row (λ r. r.number) no self.old.points } }
     {
         self.points.take(no.get());
     }
 
     /// Takes the parcel with a number away, if there is one. Its rings stay.
     pub fn take_parcel(&mut self, no: ParcelNo)
-        ensures { self.new ≡ record self.old { parcels = without_row (λ r. r.number) no self.old.parcels } }
+        ensures { self.new
+            ≡ record self.old { parcels = without_row (λ r. r.number) no self.old.parcels } }
     {
         self.parcels.take(no.get());
     }
 
     /// Takes the string with a number away, if there is one.
     pub fn take_string(&mut self, no: StringNo)
-        ensures { self.new ≡ record self.old { strings = without_row (λ r. r.number) no self.old.strings } }
+        ensures { self.new
+            ≡ record self.old { strings = without_row (λ r. r.number) no self.old.strings } }
     {
         self.strings.take(no.get());
     }

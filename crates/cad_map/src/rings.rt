@@ -48,7 +48,8 @@ pub fn ring_count<M: MapView>(map: &M, face: &Face) -> usize
 pub fn ring_sum<M: MapView, F: SideMeasure>(map: &M, face: &Face, place: usize, measure: &F) -> i128
     requires whole { HasWholeRings (M.map map.now) }
     requires there { place < length (rings_at face.now (M.rings map.now)) }
-    ensures { result ≡ sum_of_ring (F.measure measure.now) (M.map map.now) (ring_at (M.rings map.now) face.now place) }
+    ensures { result ≡ sum_of_ring (F.measure measure.now) (M.map map.now)
+        (ring_at (M.rings map.now) face.now place) }
 {
     let mut sum = 0;
     for (a, b) in Walk::of_ring(map, face, place) {

@@ -113,7 +113,8 @@ fn is_shared_side<M: MapView>(
 fn shared_in_ring<M: MapView>(map: &M, face: &Face, place: usize, other: &Face) -> usize
     requires valid { IsValid (M.map map.now) }
     requires there { place < length (rings_at face.now (M.rings map.now)) }
-    ensures { result ≡ length (filter (has_twin_in_of (M.map map.now) other.now) (sides_of (ring_at (M.rings map.now) face.now place))) }
+    ensures { result ≡ length (filter (has_twin_in_of (M.map map.now) other.now)
+        (sides_of (ring_at (M.rings map.now) face.now place))) }
 {
     let mut count = 0;
     for (a, b) in Walk::of_ring(map, face, place) {
@@ -147,8 +148,10 @@ fn chain_in_ring<M: MapView>(
 ) -> Option<SharedChain>
     requires valid { IsValid (M.map map.now) }
     requires there { place < length (rings_at face.now (M.rings map.now)) }
-    ensures some { IfSome result (IsFoundAlong (M.map map.now) other.now count (ring_at (M.rings map.now) face.now place)) }
-    ensures none { IfNone result (has_chain_along (M.map map.now) other.now count (ring_at (M.rings map.now) face.now place) ≡ false) }
+    ensures some { IfSome result
+        (IsFoundAlong (M.map map.now) other.now count (ring_at (M.rings map.now) face.now place)) }
+    ensures none { IfNone result (has_chain_along (M.map map.now) other.now count
+        (ring_at (M.rings map.now) face.now place) ≡ false) }
 {
     let walk = Walk::of_ring(map, face, place);
     if runs_round(map, face, place, other, count) {
@@ -169,7 +172,8 @@ fn chain_in_ring<M: MapView>(
 fn runs_round<M: MapView>(map: &M, face: &Face, place: usize, other: &Face, count: usize) -> bool
     requires valid { IsValid (M.map map.now) }
     requires there { place < length (rings_at face.now (M.rings map.now)) }
-    ensures { result ≡ runs_round_of (M.map map.now) other.now count (ring_at (M.rings map.now) face.now place) }
+    ensures { result ≡ runs_round_of (M.map map.now) other.now count
+        (ring_at (M.rings map.now) face.now place) }
 {
     let (from, to) = Walk::of_ring(map, face, place).first_side();
     if side_count(map, face, place) != count {
@@ -200,7 +204,8 @@ fn chain_after<M: MapView>(
     requires valid { IsValid (M.map map.now) }
     requires there { Contains (all_sides (M.map map.now)) (from, to) }
     ensures { result ≡ (if is_before_chain (M.map map.now) face.now count (from, to)
-        then Some (chain_along (next_side_of (M.map map.now)) (next_side_of (M.map map.now) (from, to)) count) else None) }
+        then Some (chain_along (next_side_of (M.map map.now))
+        (next_side_of (M.map map.now) (from, to)) count) else None) }
 {
     if has_twin_in(map, face, from, to) {
         return None;

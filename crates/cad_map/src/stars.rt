@@ -63,7 +63,8 @@ fn put_spokes<M: MapView>(
     place: usize,
     string: &StringRow,
 ) -> Result<(), Memory>
-    ensures { OnOk result (spokes.new.items ≡ spokes.old.items ++ spokes_at (M.map map.now) place string.now) }
+    ensures { OnOk result
+        (spokes.new.items ≡ spokes.old.items ++ spokes_at (M.map map.now) place string.now) }
 {
     spokes.push(spoke_from(map, place, string, string.from))?;
     if string.from != string.to {
@@ -86,7 +87,8 @@ fn all_spokes<M: MapView>(alloc: Global, map: &M) -> Result<Vec<Spoke>, Memory>
 impl Stars {
     /// The strings of each point of this map. Takes time for a sort of twice the strings.
     pub fn of<M: MapView>(alloc: Global, map: &M) -> Result<Stars, Memory>
-        ensures { IfOk result (λ stars. (p : ℕ) → star p stars ≡ star p (spokes_of (M.map map.now))) }
+        ensures { IfOk result
+            (λ stars. (p : ℕ) → star p stars ≡ star p (spokes_of (M.map map.now))) }
     {
         let mut spokes = all_spokes(alloc, map)?;
         spokes.sort_by_key(|s| s.at.get())?;

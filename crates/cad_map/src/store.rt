@@ -136,7 +136,8 @@ pub trait MapView {
     /// A side of one ring of a face, and `None` past the last of its rings. Each ring has one place; which one isn't
     /// told.
     fn ring_side(&self, face: Face, place: usize) -> Option<(PointNo, PointNo)>
-        ensures side { result ≡ option_and_then first_side (slice_get (rings_at face (rings self.now)) place) }
+        ensures side { result
+            ≡ option_and_then first_side (slice_get (rings_at face (rings self.now)) place) }
         // The rings are those of the map, and each is of two points or more.
         ensures canonical_order { canonical_order (rings self.now) ≡ (map self.now).boundaries }
         ensures two { AllByRecursion (λ b. 2 ≤ length b.ring) (rings self.now) };
@@ -162,12 +163,14 @@ pub trait MapStore: MapView {
     /// Goes from the map after an edit to the map before it. Where memory runs out the map stays.
     fn back(&mut self, change: &Self::Record) -> Result<(), Memory>
         requires { (before : Map) × belongs change.now before (Self.map self.old) }
-        ensures before { OnOk result ((before : Map) → belongs change.now before (Self.map self.old) → Self.map self.new ≡ before) }
+        ensures before { OnOk result ((before : Map) → belongs change.now before (Self.map self.old)
+            → Self.map self.new ≡ before) }
         ensures err { OnErr result (Self.map self.new ≡ Self.map self.old) };
 
     /// Goes from the map before an edit to the map after it. Where memory runs out the map stays.
     fn forward(&mut self, change: &Self::Record) -> Result<(), Memory>
         requires { (after : Map) × belongs change.now (Self.map self.old) after }
-        ensures after { OnOk result ((after : Map) → belongs change.now (Self.map self.old) after → Self.map self.new ≡ after) }
+        ensures after { OnOk result ((after : Map) → belongs change.now (Self.map self.old) after
+            → Self.map self.new ≡ after) }
         ensures err { OnErr result (Self.map self.new ≡ Self.map self.old) };
 }

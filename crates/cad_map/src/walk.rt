@@ -83,7 +83,8 @@ impl<'a, M: MapView> Walk<'a, M> {
 impl<M: MapView> Iterator for Walk<'_, M> {
     type Item = (PointNo, PointNo);
 
-    ghost next_gives = { λ s r t. GivesNext (walking M.map M.view_next s) r (walking M.map M.view_next t) };
+    ghost next_gives = { λ s r t. GivesNext (walking M.map M.view_next s) r
+        (walking M.map M.view_next t) };
 
     ghost remaining = { item_count (λ s. sides_ahead (walking M.map M.view_next s)) };
 

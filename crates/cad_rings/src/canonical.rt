@@ -25,7 +25,8 @@ pub fn comes_first(a: &[PointNo], b: &[PointNo]) -> bool
 pub(crate) fn turned_at(points: &[PointNo], start: usize, place: usize) -> PointNo
     requires start { start ≤ length points.now }
     requires place { place < length points.now }
-    ensures { drop place (turned start points.now) ≡ result ∷ drop (place + 1) (turned start points.now) }
+    ensures { drop place (turned start points.now)
+        ≡ result ∷ drop (place + 1) (turned start points.now) }
 {
     let until_end = points.len() - start;
     if place < until_end {
@@ -57,7 +58,8 @@ fn better_place(points: &[PointNo], best: usize, place: usize) -> usize
     requires place { place < length points.now }
     ensures within { result < length points.now }
     ensures better { turned result points.now
-        ≡ (if comes_first_of (turned best points.now) (turned place points.now) then turned best points.now else turned place points.now) }
+        ≡ (if comes_first_of (turned best points.now) (turned place points.now)
+        then turned best points.now else turned place points.now) }
 {
     if is_rotation_first(points, best, place) {
         best

@@ -37,7 +37,9 @@ fn all_strings_meet_at_ends<M: MapView>(map: &M) -> bool
 fn meets_later_at_ends<M: MapView>(map: &M, string: &StringRow, from: usize) -> bool
     requires rows { HasPlacedRows (M.map map.now) }
     requires placed { HasTwoPoints (M.map map.now) string.now }
-    ensures { IsTrue result ↔ AllByRecursion (MeetAtEnds (M.map map.now) string.now) (drop from (M.map map.now).strings) }
+    ensures { IsTrue result
+        ↔ AllByRecursion (MeetAtEnds (M.map map.now) string.now)
+        (drop from (M.map map.now).strings) }
 {
     let first = placed_string(map, string);
     for place in from..map.counts().strings {
@@ -52,7 +54,9 @@ fn meets_later_at_ends<M: MapView>(map: &M, string: &StringRow, from: usize) -> 
 /// Whether no point lies on a string but its ends.
 fn all_points_lie_at_ends<M: MapView>(map: &M) -> bool
     requires { HasPlacedRows (M.map map.now) }
-    ensures { IsTrue result ↔ AllByRecursion (λ p. AllByRecursion (LiesOnlyAsEnd (M.map map.now) p) (M.map map.now).strings) (M.map map.now).points }
+    ensures { IsTrue result
+        ↔ AllByRecursion (λ p. AllByRecursion (LiesOnlyAsEnd (M.map map.now) p)
+        (M.map map.now).strings) (M.map map.now).points }
 {
     for place in 0..map.counts().points {
         let point = map.point_at(place).unwrap();
@@ -66,7 +70,8 @@ fn all_points_lie_at_ends<M: MapView>(map: &M) -> bool
 /// Whether a point lies on no string but as its end.
 fn lies_at_ends<M: MapView>(map: &M, point: &PointRow) -> bool
     requires { HasPlacedRows (M.map map.now) }
-    ensures { IsTrue result ↔ AllByRecursion (LiesOnlyAsEnd (M.map map.now) point.now) (M.map map.now).strings }
+    ensures { IsTrue result
+        ↔ AllByRecursion (LiesOnlyAsEnd (M.map map.now) point.now) (M.map map.now).strings }
 {
     let here = placed_point(point);
     for place in 0..map.counts().strings {

@@ -55,7 +55,8 @@ fn are_holes_inside<M: MapView>(map: &M, face: &Face) -> bool
 fn is_inside_if_hole<M: MapView>(map: &M, face: &Face, place: usize) -> bool
     requires whole { HasWholeRings (M.map map.now) }
     requires there { place < length (rings_at face.now (M.rings map.now)) }
-    ensures { result ≡ is_inside_if_hole_of (M.map map.now) (rings_at face.now (M.rings map.now)) (ring_at (M.rings map.now) face.now place) }
+    ensures { result ≡ is_inside_if_hole_of (M.map map.now) (rings_at face.now (M.rings map.now))
+        (ring_at (M.rings map.now) face.now place) }
 {
     !is_hole(map, face, place) || is_in_outlines(map, face, anchor_of(map, face, place))
 }
@@ -64,7 +65,8 @@ fn is_inside_if_hole<M: MapView>(map: &M, face: &Face, place: usize) -> bool
 fn is_in_outlines<M: MapView>(map: &M, face: &Face, point: PointNo) -> bool
     requires whole { HasWholeRings (M.map map.now) }
     requires there { IsTrue (has_point (M.map map.now) point) }
-    ensures { result ≡ list_all (λ outline. is_in_ring_of (M.map map.now) outline point) (filter (is_positive (M.map map.now)) (rings_at face.now (M.rings map.now))) }
+    ensures { result ≡ list_all (λ outline. is_in_ring_of (M.map map.now) outline point)
+        (filter (is_positive (M.map map.now)) (rings_at face.now (M.rings map.now))) }
 {
     for place in 0..ring_count(map, face) {
         if !has_inside_if_outline(map, face, place, point) {
@@ -79,7 +81,8 @@ fn has_inside_if_outline<M: MapView>(map: &M, face: &Face, place: usize, point: 
     requires whole { HasWholeRings (M.map map.now) }
     requires there { place < length (rings_at face.now (M.rings map.now)) }
     requires point_there { IsTrue (has_point (M.map map.now) point) }
-    ensures { result ≡ has_inside_if_outline_of (M.map map.now) point (ring_at (M.rings map.now) face.now place) }
+    ensures { result ≡ has_inside_if_outline_of (M.map map.now) point
+        (ring_at (M.rings map.now) face.now place) }
 {
     !is_outline(map, face, place) || is_in_ring(map, face, place, position(map, point))
 }
@@ -101,7 +104,9 @@ fn are_holes_apart<M: MapView>(map: &M, face: &Face) -> bool
 fn is_apart_from_later<M: MapView>(map: &M, face: &Face, place: usize) -> bool
     requires whole { HasWholeRings (M.map map.now) }
     requires there { place < length (rings_at face.now (M.rings map.now)) }
-    ensures { result ≡ is_apart_from_holes (M.map map.now) (ring_at (M.rings map.now) face.now place) (drop (place + 1) (rings_at face.now (M.rings map.now))) }
+    ensures { result ≡ is_apart_from_holes (M.map map.now)
+        (ring_at (M.rings map.now) face.now place)
+        (drop (place + 1) (rings_at face.now (M.rings map.now))) }
 {
     !is_hole(map, face, place) || is_apart_from(map, face, place)
 }
@@ -110,7 +115,9 @@ fn is_apart_from_later<M: MapView>(map: &M, face: &Face, place: usize) -> bool
 fn is_apart_from<M: MapView>(map: &M, face: &Face, place: usize) -> bool
     requires whole { HasWholeRings (M.map map.now) }
     requires there { place < length (rings_at face.now (M.rings map.now)) }
-    ensures { result ≡ list_all (is_apart_if_hole_of (M.map map.now) (ring_at (M.rings map.now) face.now place)) (drop (place + 1) (rings_at face.now (M.rings map.now))) }
+    ensures { result ≡ list_all
+        (is_apart_if_hole_of (M.map map.now) (ring_at (M.rings map.now) face.now place))
+        (drop (place + 1) (rings_at face.now (M.rings map.now))) }
 {
     let rings = ring_count(map, face);
     for other in place + 1..rings {
@@ -126,7 +133,8 @@ fn is_apart_if_hole<M: MapView>(map: &M, face: &Face, place: usize, other: usize
     requires whole { HasWholeRings (M.map map.now) }
     requires there { place < length (rings_at face.now (M.rings map.now)) }
     requires other_there { other < length (rings_at face.now (M.rings map.now)) }
-    ensures { result ≡ is_apart_if_hole_of (M.map map.now) (ring_at (M.rings map.now) face.now place) (ring_at (M.rings map.now) face.now other) }
+    ensures { result ≡ is_apart_if_hole_of (M.map map.now)
+        (ring_at (M.rings map.now) face.now place) (ring_at (M.rings map.now) face.now other) }
 {
     !is_hole(map, face, other) || are_apart(map, face, place, other)
 }
@@ -136,7 +144,8 @@ fn are_apart<M: MapView>(map: &M, face: &Face, place: usize, other: usize) -> bo
     requires whole { HasWholeRings (M.map map.now) }
     requires there { place < length (rings_at face.now (M.rings map.now)) }
     requires other_there { other < length (rings_at face.now (M.rings map.now)) }
-    ensures { result ≡ are_apart_of (M.map map.now) (ring_at (M.rings map.now) face.now place) (ring_at (M.rings map.now) face.now other) }
+    ensures { result ≡ are_apart_of (M.map map.now) (ring_at (M.rings map.now) face.now place)
+        (ring_at (M.rings map.now) face.now other) }
 {
     let first = WalkedRing {
         map,
@@ -160,9 +169,11 @@ struct WalkedRing<'a, M: MapView> {
 }
 
 impl<M: MapView> Enclosing for WalkedRing<'_, M> {
-    ghost can_tell = { λ r. HasWholeRings (M.map r.map.now) × (r.place < length (rings_at r.face (M.rings r.map.now))) };
+    ghost can_tell = { λ r. HasWholeRings (M.map r.map.now)
+        × (r.place < length (rings_at r.face (M.rings r.map.now))) };
 
-    ghost shape = { λ r. shape_of (position_of (M.map r.map.now)) (ring_at (M.rings r.map.now) r.face r.place) };
+    ghost shape = { λ r. shape_of (position_of (M.map r.map.now))
+        (ring_at (M.rings r.map.now) r.face r.place) };
 
     fn anchor(&self) -> Pt {
         position(self.map, anchor_of(self.map, &self.face, self.place))

@@ -22,7 +22,8 @@ pub(crate) fn has_distinct_positions<M: MapView>(map: &M) -> bool
 
 /// Whether the points from a place on all have another position than this one.
 fn is_apart_from<M: MapView>(map: &M, from: usize, position: Pt) -> bool
-    ensures { result ≡ list_all (λ r. not (is_same_position position r.position)) (drop from (M.map map.now).points) }
+    ensures { result ≡ list_all (λ r. not (is_same_position position r.position))
+        (drop from (M.map map.now).points) }
 {
     for place in from..map.counts().points {
         let point = map.point_at(place).unwrap();

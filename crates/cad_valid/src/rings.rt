@@ -32,7 +32,8 @@ pub(crate) fn is_hole<M: MapView>(map: &M, face: &Face, place: usize) -> bool
 pub(crate) fn doubled_area_of<M: MapView>(map: &M, face: &Face, place: usize) -> i128
     requires whole { HasWholeRings (M.map map.now) }
     requires there { place < length (rings_at face.now (M.rings map.now)) }
-    ensures { result ≡ sum_of_ring doubled_area (M.map map.now) (ring_at (M.rings map.now) face.now place) }
+    ensures { result ≡ sum_of_ring doubled_area (M.map map.now)
+        (ring_at (M.rings map.now) face.now place) }
 {
     ring_sum(map, face, place, &DoubledArea)
 }
@@ -58,7 +59,9 @@ pub(crate) fn anchor_of<M: MapView>(map: &M, face: &Face, place: usize) -> Point
 pub(crate) fn is_in_ring<M: MapView>(map: &M, face: &Face, place: usize, at: Pt) -> bool
     requires whole { HasWholeRings (M.map map.now) }
     requires there { place < length (rings_at face.now (M.rings map.now)) }
-    ensures { result ≡ is_inside (placed (position_of (M.map map.now)) (sides_of (ring_at (M.rings map.now) face.now place))) at }
+    ensures { result ≡ is_inside
+        (placed (position_of (M.map map.now)) (sides_of (ring_at (M.rings map.now) face.now place)))
+        at }
 {
     let mut inside = false;
     for (a, b) in Walk::of_ring(map, face, place) {

@@ -35,9 +35,11 @@ pub(crate) fn exchange(rows: &mut Rows, a: &Half, b: &Half)
 pub(crate) fn relabel_cycle<T: Tally>(rows: &mut Rows, tally: &mut T, h: &Half, face: &Face)
     requires h_in { has rows.old.entries h.now ≡ true }
     requires linked { IsLinked rows.old.entries }
-    ensures relabels { Relabels (cycle rows.old.entries h.now) face.now rows.old.entries rows.new.entries }
+    ensures relabels { Relabels
+        (cycle rows.old.entries h.now) face.now rows.old.entries rows.new.entries }
     ensures linked { IsLinked rows.new.entries }
-    ensures work { T.counted tally.new ≡ ticked (length (cycle rows.old.entries h.now)) (T.counted tally.old) }
+    ensures work { T.counted tally.new
+        ≡ ticked (length (cycle rows.old.entries h.now)) (T.counted tally.old) }
     ensures grows { T.counted tally.old ≤ T.counted tally.new }
 {
     set_face(rows, h, face);
@@ -59,7 +61,8 @@ pub(crate) fn put_loose(
 ) -> Result<(), Memory>
     requires fresh { has_halves rows.old.entries string.now ≡ false }
     requires linked { IsLinked rows.old.entries }
-    ensures adds { OnOk result (AddsLoose string.now from.now to.now rows.old.entries rows.new.entries) }
+    ensures adds { OnOk result
+        (AddsLoose string.now from.now to.now rows.old.entries rows.new.entries) }
     ensures cycle { OnOk result (AddsCycle string.now rows.old.entries rows.new.entries) }
     ensures entry { OnOk result (rows.new.entries
         ≡ rows.old.entries ++ (string.now, loose_ends string.now from.now to.now) ∷ []) }
@@ -97,7 +100,8 @@ pub(crate) fn take_loose(rows: &mut Rows, string: &StringNo)
     requires linked { IsLinked rows.old.entries }
     ensures removes { RemovesLoose string.now rows.old.entries rows.new.entries }
     ensures cycle { RemovesCycle string.now rows.old.entries rows.new.entries }
-    ensures last { (before : HalfRows) (ends : StringEnds) → rows.old.entries ≡ before ++ (string.now, ends) ∷ []
+    ensures last { (before : HalfRows) (ends : StringEnds)
+        → rows.old.entries ≡ before ++ (string.now, ends) ∷ []
         → rows.new.entries ≡ before }
     ensures linked { IsLinked rows.new.entries }
 {

@@ -147,7 +147,8 @@ impl<T: Tally> HalfTable<T> {
         ensures cycle { RemovesCycle string self.old.rows self.new.rows }
 
         // The string that was added last leaves the rows that there were before.
-        ensures last { (before : HalfRows) (ends : StringEnds) → self.old.rows ≡ before ++ (string, ends) ∷ []
+        ensures last { (before : HalfRows) (ends : StringEnds)
+            → self.old.rows ≡ before ++ (string, ends) ∷ []
             → self.new.rows ≡ before }
 
         ensures linked { IsLinked self.new.rows }

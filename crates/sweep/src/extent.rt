@@ -112,7 +112,8 @@ fn put_spans(
 ) -> Result<(), AllocError>
     requires extent { IsExtent extent }
     requires height { LEAST_ROW_HEIGHT ≤ height }
-    ensures kept { OnOk result ((s : Span) → Contains spans.old.items s → Contains spans.new.items s) }
+    ensures kept { OnOk result
+        ((s : Span) → Contains spans.old.items s → Contains spans.new.items s) }
     ensures put { OnOk result ((row : ℕ) → IsRowOf extent height row
         → Contains spans.new.items (span_in extent place row)) }
     ensures places { OnOk result ((n : ℕ) → place < n → HavePlacesBelow spans.old.items n

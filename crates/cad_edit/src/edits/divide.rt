@@ -28,7 +28,8 @@ use cad_rows::{Edit, Face, Memory, ParcelNo, PointNo, Refusal, StringNo};
 fn first_corner<M: MapView>(map: &M, face: &Face, chain: &[PointNo]) -> Option<Corner>
     requires valid { IsValid (M.map map.now) }
     requires long { 2 ≤ length chain.now }
-    ensures { result ≡ chosen_corner_of (M.map map.now) face.now (start_of chain.now) (next_of chain.now) }
+    ensures { result ≡ chosen_corner_of (M.map map.now) face.now (start_of chain.now)
+        (next_of chain.now) }
 {
     chosen_corner(map, face, chain[0], chain[1])
 }
@@ -37,7 +38,8 @@ fn first_corner<M: MapView>(map: &M, face: &Face, chain: &[PointNo]) -> Option<C
 fn last_corner<M: MapView>(map: &M, face: &Face, chain: &[PointNo]) -> Option<Corner>
     requires valid { IsValid (M.map map.now) }
     requires long { 2 ≤ length chain.now }
-    ensures { result ≡ chosen_corner_of (M.map map.now) face.now (end_of chain.now) (last_but_one chain.now) }
+    ensures { result ≡ chosen_corner_of (M.map map.now) face.now (end_of chain.now)
+        (last_but_one chain.now) }
 {
     let last = chain.len() - 1;
     chosen_corner(map, face, chain[last], chain[last - 1])
@@ -51,7 +53,9 @@ pub(crate) fn corners_of<M: MapView>(
 ) -> Result<Option<(Corner, Corner)>, Refusal>
     requires valid { IsValid (M.map map.now) }
     requires chain { bad_chain edit.now ≡ None }
-    ensures refused { IfErr result (λ r. first_of (not_in_parcel (M.map map.now) edit.now ∷ chain_joins_rings (M.map map.now) edit.now ∷ []) ≡ Some r) }
+    ensures refused { IfErr result (λ r. first_of
+        (not_in_parcel (M.map map.now) edit.now ∷ chain_joins_rings (M.map map.now) edit.now ∷ [])
+        ≡ Some r) }
     ensures in_parcel { IfOk result (λ found. not_in_parcel (M.map map.now) edit.now ≡ None) }
     ensures one_ring { IfOk result (λ found. chain_joins_rings (M.map map.now) edit.now ≡ None) }
     ensures found { IfOk result (HasCorners (M.map map.now) edit.now) }
@@ -84,11 +88,18 @@ pub(crate) fn divide(
     last: &Corner,
 ) -> Result<(), Memory>
     requires valid { IsValid map.old }
-    requires range { GivesInRange (DivideOf face chain.now strings.now new.now.number new.now.label.now new.now.source) }
-    requires allowed { first_refusal_of map.old (DivideOf face chain.now strings.now new.now.number new.now.label.now new.now.source) ≡ None }
-    requires first { chosen_corner_of map.old face (start_of chain.now) (next_of chain.now) ≡ Some first.now }
-    requires last { chosen_corner_of map.old face (end_of chain.now) (last_but_one chain.now) ≡ Some last.now }
-    ensures { OnOk result (map.new ≡ divide_of map.old face chain.now strings.now new.now.number new.now.label.now new.now.source) }
+    requires range { GivesInRange
+        (DivideOf face chain.now strings.now new.now.number new.now.label.now new.now.source) }
+    requires allowed { first_refusal_of map.old
+        (DivideOf face chain.now strings.now new.now.number new.now.label.now new.now.source)
+        ≡ None }
+    requires first { chosen_corner_of map.old face (start_of chain.now) (next_of chain.now)
+        ≡ Some first.now }
+    requires last { chosen_corner_of map.old face (end_of chain.now) (last_but_one chain.now)
+        ≡ Some last.now }
+    ensures { OnOk result (map.new
+        ≡ divide_of map.old face chain.now strings.now new.now.number new.now.label.now
+        new.now.source) }
 {
     let boundaries = divided_boundaries(map, face, new.number, chain, first, last)?;
     let rows = rows_along(map.allocator(), chain, strings, new.source)?;
@@ -111,8 +122,12 @@ fn divided_boundaries(
     requires whole { HasWholeRings map.now }
     requires long { 2 ≤ length chain.now }
     requires apart { first.now.at ≢ last.now.at }
-    requires one_ring { IsTrue (list_any (λ r. has_side (leaving first.now) (sides_of r) && has_side (leaving last.now) (sides_of r)) (rings_of map.now face)) }
-    ensures { IfOk result (λ made. canonical_order made.items ≡ canonical_order (boundaries_divided map.now face (Parcel new) chain.now first.now last.now)) }
+    requires one_ring { IsTrue (list_any
+        (λ r. has_side (leaving first.now) (sides_of r) && has_side (leaving last.now) (sides_of r))
+        (rings_of map.now face)) }
+    ensures { IfOk result (λ made. canonical_order made.items
+        ≡ canonical_order (boundaries_divided map.now face
+        (Parcel new) chain.now first.now last.now)) }
 {
     let (left, right) = cut_along(map.boundaries(), chain, first, last)?;
     let parcel = Face::Parcel(new);
@@ -135,10 +150,14 @@ fn cut_along(
 ) -> Result<(Ring, Ring), Memory>
     requires long { 2 ≤ length chain.now }
     requires apart { first.now.at ≢ last.now.at }
-    requires first_there { IsTrue (has_side (leaving first.now) (sides_of (ring_with (leaving first.now) boundaries.now))) }
-    requires last_there { IsTrue (has_side (leaving last.now) (sides_of (ring_with (leaving first.now) boundaries.now))) }
-    ensures left { IfOk result (λ rings. rings.0 ≡ left_of boundaries.now chain.now first.now last.now) }
-    ensures right { IfOk result (λ rings. rings.1 ≡ right_of boundaries.now chain.now first.now last.now) }
+    requires first_there { IsTrue
+        (has_side (leaving first.now) (sides_of (ring_with (leaving first.now) boundaries.now))) }
+    requires last_there { IsTrue
+        (has_side (leaving last.now) (sides_of (ring_with (leaving first.now) boundaries.now))) }
+    ensures left { IfOk result
+        (λ rings. rings.0 ≡ left_of boundaries.now chain.now first.now last.now) }
+    ensures right { IfOk result
+        (λ rings. rings.1 ≡ right_of boundaries.now chain.now first.now last.now) }
 {
     let cut = ring_with(boundaries, first.at, first.after).unwrap();
     let start = cut.place_of(first.at, first.after).unwrap();
@@ -156,7 +175,9 @@ fn others_placed(
     corner: &Corner,
 ) -> Result<Vec<Boundary>, Memory>
     requires whole { HasWholeRings map.now }
-    ensures { IfOk result (λ placed. placed.items ≡ map_of (hole_placed_of map.now face.now new.now ring.now) (filter (λ b. not (has_side (leaving corner.now) (sides_of b.ring))) map.now.boundaries)) }
+    ensures { IfOk result (λ placed. placed.items
+        ≡ map_of (hole_placed_of map.now face.now new.now ring.now)
+        (filter (λ b. not (has_side (leaving corner.now) (sides_of b.ring))) map.now.boundaries)) }
 {
     let mut placed = Vec::new(map.allocator());
     for boundary in map.boundaries() {

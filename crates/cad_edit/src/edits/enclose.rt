@@ -30,9 +30,14 @@ pub(crate) fn enclose(
     new: &NewParcel<'_>,
 ) -> Result<(), Memory>
     requires valid { IsValid map.old }
-    requires range { GivesInRange (EncloseOf face points.now strings.now new.now.number new.now.label.now new.now.source) }
-    requires allowed { first_refusal_of map.old (EncloseOf face points.now strings.now new.now.number new.now.label.now new.now.source) ≡ None }
-    ensures { OnOk result (map.new ≡ enclose_of map.old face points.now strings.now new.now.number new.now.label.now new.now.source) }
+    requires range { GivesInRange
+        (EncloseOf face points.now strings.now new.now.number new.now.label.now new.now.source) }
+    requires allowed { first_refusal_of map.old
+        (EncloseOf face points.now strings.now new.now.number new.now.label.now new.now.source)
+        ≡ None }
+    ensures { OnOk result (map.new
+        ≡ enclose_of map.old face points.now strings.now new.now.number new.now.label.now
+        new.now.source) }
 {
     let boundaries = enclosed_boundaries(map, face, new.number, points)?;
     let closed = closed(map.allocator(), points)?;
@@ -62,7 +67,8 @@ pub(crate) fn enclosed_boundaries(
 ) -> Result<Vec<Boundary>, Memory>
     requires whole { HasWholeRings map.now }
     requires long { 2 ≤ length points.now }
-    ensures { IfOk result (λ made. canonical_order made.items ≡ canonical_order (boundaries_enclosed map.now face (Parcel new) points.now)) }
+    ensures { IfOk result (λ made. canonical_order made.items
+        ≡ canonical_order (boundaries_enclosed map.now face (Parcel new) points.now)) }
 {
     let ring = Ring::from_points(map.allocator(), points)?;
     let reversed = ring.reversed()?;
@@ -79,7 +85,8 @@ pub(crate) fn enclosed_boundaries(
 /// Each ring of the map, as it is placed after a ring is put round holes of a face.
 fn all_placed(map: &PlainMap, face: &Face, new: &Face, ring: &Ring) -> Result<Vec<Boundary>, Memory>
     requires whole { HasWholeRings map.now }
-    ensures { IfOk result (λ placed. placed.items ≡ map_of (hole_placed_of map.now face.now new.now ring.now) map.now.boundaries) }
+    ensures { IfOk result (λ placed. placed.items
+        ≡ map_of (hole_placed_of map.now face.now new.now ring.now) map.now.boundaries) }
 {
     let mut placed = Vec::new(map.allocator());
     for boundary in map.boundaries() {

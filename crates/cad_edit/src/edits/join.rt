@@ -93,7 +93,8 @@ fn put_unless_among(
     among: &Numbers<SourceNo>,
     source: SourceNo,
 ) -> Result<(), Memory>
-    ensures { OnOk result (made.new ≡ made.old ++ filter (λ y. not (list_any (λ x. x == y) among.now)) (source ∷ [])) }
+    ensures { OnOk result (made.new
+        ≡ made.old ++ filter (λ y. not (list_any (λ x. x == y) among.now)) (source ∷ [])) }
 {
     if !is_among(among, source) {
         made.push(source)?;
@@ -103,8 +104,10 @@ fn put_unless_among(
 
 /// All rings, without a point that each passes at most once.
 fn rings_without(map: &PlainMap, point: PointNo) -> Result<Vec<Boundary>, Memory>
-    requires { AllByRecursion (λ b. 2 + times_through point b.ring ≤ length b.ring) map.now.boundaries }
-    ensures { IfOk result (λ made. made.items ≡ map_of (λ b. bounding b.face (without point b.ring)) map.now.boundaries) }
+    requires { AllByRecursion
+        (λ b. 2 + times_through point b.ring ≤ length b.ring) map.now.boundaries }
+    ensures { IfOk result (λ made. made.items
+        ≡ map_of (λ b. bounding b.face (without point b.ring)) map.now.boundaries) }
 {
     let mut made = Vec::new(map.allocator());
     for boundary in map.boundaries() {

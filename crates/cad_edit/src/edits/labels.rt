@@ -18,7 +18,8 @@ pub(crate) fn is_called<M: MapView>(map: &M, parcel: ParcelNo, label: &Label) ->
 
 /// Gives a parcel another label.
 pub(crate) fn rename(map: &mut PlainMap, no: ParcelNo, label: &Label) -> Result<(), Memory>
-    ensures { OnOk result (map.new ≡ change_parcel no (λ row. record row { label = label.now }) map.old) }
+    ensures { OnOk result
+        (map.new ≡ change_parcel no (λ row. record row { label = label.now }) map.old) }
 {
     let Some(row) = map.parcel(no) else {
         return Ok(());

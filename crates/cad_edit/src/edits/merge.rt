@@ -38,7 +38,9 @@ pub(crate) fn outside_refusal(edit: &Edit) -> Option<Refusal>
 /// or what they have in common is neither one chain nor one whole ring.
 pub(crate) fn chain_of<M: MapView>(map: &M, edit: &Edit) -> Result<Option<SharedChain>, Refusal>
     requires { IsValid (M.map map.now) }
-    ensures refused { IfErr result (λ r. first_of (same_parcel edit.now ∷ not_neighbours (M.map map.now) edit.now ∷ not_one_chain (M.map map.now) edit.now ∷ []) ≡ Some r) }
+    ensures refused { IfErr result (λ r. first_of
+        (same_parcel edit.now ∷ not_neighbours (M.map map.now) edit.now
+        ∷ not_one_chain (M.map map.now) edit.now ∷ []) ≡ Some r) }
     ensures two { IfOk result (λ found. same_parcel edit.now ≡ None) }
     ensures neighbours { IfOk result (λ found. not_neighbours (M.map map.now) edit.now ≡ None) }
     ensures one_chain { IfOk result (λ found. not_one_chain (M.map map.now) edit.now ≡ None) }
@@ -87,7 +89,9 @@ pub(crate) fn merge(
 /// The numbers of the strings that two faces share.
 fn shared_strings(map: &PlainMap, kept: &Face, ended: &Face) -> Result<Vec<StringNo>, Memory>
     requires { IsValid map.now }
-    ensures { IfOk result (λ shared. shared.items ≡ map_of (λ row. row.number) (filter (is_shared_of map.now kept.now ended.now) map.now.strings)) }
+    ensures { IfOk result (λ shared. shared.items
+        ≡ map_of (λ row. row.number)
+        (filter (is_shared_of map.now kept.now ended.now) map.now.strings)) }
 {
     let mut shared = Vec::new(map.allocator());
     for place in 0..map.counts().strings {
@@ -103,7 +107,8 @@ fn push_number_if(
     number: StringNo,
     is_wanted: bool,
 ) -> Result<(), Memory>
-    ensures { OnOk result (numbers.new.items ≡ numbers.old.items ++ (if is_wanted then number ∷ [] else [])) }
+    ensures { OnOk result
+        (numbers.new.items ≡ numbers.old.items ++ (if is_wanted then number ∷ [] else [])) }
 {
     if is_wanted {
         numbers.push(number)?;
@@ -113,7 +118,11 @@ fn push_number_if(
 
 /// Takes strings out.
 fn take_strings(map: &mut PlainMap, numbers: &[StringNo])
-    ensures { map.new ≡ record map.old { strings = fold (λ rows no. without_row (λ r. r.number) no rows) map.old.strings numbers.now } }
+    ensures { map.new
+        ≡ record map.old {
+          strings = fold (λ rows no. without_row (λ r. r.number) no rows) map.old.strings
+              numbers.now;
+        } }
 {
     for no in numbers {
         map.take_string(*no);
@@ -129,7 +138,8 @@ fn merged_boundaries(
 ) -> Result<Vec<Boundary>, Memory>
     requires valid { IsValid map.now }
     requires shared { IsSharedChain map.now kept.now ended.now chain.now }
-    ensures { IfOk result (λ made. made.items ≡ merge_at map.now kept.now ended.now (shared_chains map.now kept.now ended.now)) }
+    ensures { IfOk result (λ made. made.items
+        ≡ merge_at map.now kept.now ended.now (shared_chains map.now kept.now ended.now)) }
 {
     let (from, to) = kept_side(chain);
     let first = ring_with(map.boundaries(), from, to).unwrap();
@@ -169,7 +179,8 @@ fn joined_rings(
     chain: &SharedChain,
 ) -> Result<Vec<Boundary>, Memory>
     requires { CanBeJoined chain.now kept.now ended.now }
-    ensures { IfOk result (λ made. made.items ≡ rings_joined face.now kept.now ended.now chain.now) }
+    ensures { IfOk result
+        (λ made. made.items ≡ rings_joined face.now kept.now ended.now chain.now) }
 {
     let mut made = Vec::new(alloc);
     if let SharedChain::Along { first, last, sides } = chain {
@@ -206,7 +217,8 @@ fn append_others(
     second: &Ring,
 ) -> Result<(), Memory>
     ensures { OnOk result (made.new.items ≡ made.old.items
-        ++ map_of (handed_over_of kept.now ended.now) (filter (λ b. not (is_taken_out_of kept.now ended.now first.now second.now b)) boundaries.now)) }
+        ++ map_of (handed_over_of kept.now ended.now) (filter
+        (λ b. not (is_taken_out_of kept.now ended.now first.now second.now b)) boundaries.now)) }
 {
     for boundary in boundaries {
         if !is_taken_out(kept, ended, first, second, boundary) {

@@ -11,7 +11,8 @@ use geo_exact::Pt;
 /// The point is at this position.
 pub(crate) fn is_at<M: MapView>(map: &M, point: PointNo, x: i64, y: i64) -> bool
     requires { IsTrue (has_point (M.map map.now) point) }
-    ensures { result ≡ is_same_position (position_of (M.map map.now) point) (record { x = x; y = y }) }
+    ensures { result ≡ is_same_position (position_of (M.map map.now) point)
+        (record { x = x; y = y }) }
 {
     let position = cad_map::position(map, point);
     position.x == x && position.y == y
@@ -20,7 +21,11 @@ pub(crate) fn is_at<M: MapView>(map: &M, point: PointNo, x: i64, y: i64) -> bool
 /// Puts a point last, with no sources.
 pub(crate) fn add_point(map: &mut PlainMap, point: PointNo, position: Pt) -> Result<(), Memory>
     requires { point_of map.old point ≡ None }
-    ensures { OnOk result (map.new ≡ record map.old { points = map.old.points ++ record { number = point; position = position; sources = [] } ∷ [] }) }
+    ensures { OnOk result (map.new
+        ≡ record map.old {
+          points = map.old.points ++ record { number = point; position = position; sources = [] }
+              ∷ [];
+        }) }
 {
     let sources = Numbers::new(map.allocator());
     map.put_point(PointRow {
@@ -32,7 +37,8 @@ pub(crate) fn add_point(map: &mut PlainMap, point: PointNo, position: Pt) -> Res
 
 /// Puts a point at another position.
 pub(crate) fn move_point(map: &mut PlainMap, no: PointNo, position: Pt) -> Result<(), Memory>
-    ensures { OnOk result (map.new ≡ change_point no (λ row. record row { position = position }) map.old) }
+    ensures { OnOk result
+        (map.new ≡ change_point no (λ row. record row { position = position }) map.old) }
 {
     let Some(row) = map.point(no) else {
         return Ok(());

@@ -87,7 +87,10 @@ pub(crate) fn has_all_sources<M: MapView>(map: &M, item: Item) -> bool
 /// Puts a source last.
 pub(crate) fn add_source(map: &mut PlainMap, source: SourceNo, text: &Label) -> Result<(), Memory>
     requires { source_of map.old source ≡ None }
-    ensures { OnOk result (map.new ≡ record map.old { sources = map.old.sources ++ record { number = source; text = text.now } ∷ [] }) }
+    ensures { OnOk result (map.new
+        ≡ record map.old {
+          sources = map.old.sources ++ record { number = source; text = text.now } ∷ [];
+        }) }
 {
     let text = text.copy()?;
     map.put_source(SourceRow {
@@ -156,7 +159,9 @@ pub(crate) fn change_sources(
 }
 
 fn change_of_point(map: &mut PlainMap, no: PointNo, change: &SourceChange) -> Result<(), Memory>
-    ensures { OnOk result (map.new ≡ change_point no (λ row. record row { sources = sources_after change.now row.sources }) map.old) }
+    ensures { OnOk result (map.new
+        ≡ change_point no (λ row. record row { sources = sources_after change.now row.sources })
+        map.old) }
 {
     let Some(row) = map.point(no) else {
         return Ok(());
@@ -167,7 +172,9 @@ fn change_of_point(map: &mut PlainMap, no: PointNo, change: &SourceChange) -> Re
 }
 
 fn change_of_string(map: &mut PlainMap, no: StringNo, change: &SourceChange) -> Result<(), Memory>
-    ensures { OnOk result (map.new ≡ change_string no (λ row. record row { sources = sources_after change.now row.sources }) map.old) }
+    ensures { OnOk result (map.new
+        ≡ change_string no (λ row. record row { sources = sources_after change.now row.sources })
+        map.old) }
 {
     let Some(row) = map.string(no) else {
         return Ok(());
@@ -178,7 +185,9 @@ fn change_of_string(map: &mut PlainMap, no: StringNo, change: &SourceChange) -> 
 }
 
 fn change_of_parcel(map: &mut PlainMap, no: ParcelNo, change: &SourceChange) -> Result<(), Memory>
-    ensures { OnOk result (map.new ≡ change_parcel no (λ row. record row { sources = sources_after change.now row.sources }) map.old) }
+    ensures { OnOk result (map.new
+        ≡ change_parcel no (λ row. record row { sources = sources_after change.now row.sources })
+        map.old) }
 {
     let Some(row) = map.parcel(no) else {
         return Ok(());

@@ -25,7 +25,10 @@ pub(crate) fn split(map: &mut PlainMap, string: StringNo, halves: &Halves) -> Re
     requires first { string_of map.old halves.now.first ≡ None }
     requires second { string_of map.old halves.now.second ≡ None }
     requires two { halves.now.first ≢ halves.now.second }
-    ensures { OnOk result (map.new ≡ unwrap_or (option_map (λ row. split_of map.old row halves.now.point halves.now.position.x halves.now.position.y halves.now.first halves.now.second) (string_of map.old string)) map.old) }
+    ensures { OnOk result (map.new
+        ≡ unwrap_or (option_map
+        (λ row. split_of map.old row halves.now.point halves.now.position.x halves.now.position.y
+        halves.now.first halves.now.second) (string_of map.old string)) map.old) }
 {
     let Some(row) = map.string(string) else {
         return Ok(());
@@ -62,7 +65,10 @@ fn split_boundaries(
     row: &StringRow,
     point: PointNo,
 ) -> Result<Vec<Boundary>, Memory>
-    ensures { IfOk result (λ made. made.items ≡ map_of (λ b. bounding b.face (put_on (row.now.to, row.now.from) point (put_on (row.now.from, row.now.to) point b.ring))) map.now.boundaries) }
+    ensures { IfOk result (λ made. made.items
+        ≡ map_of (λ b. bounding b.face
+        (put_on (row.now.to, row.now.from) point (put_on (row.now.from, row.now.to) point b.ring)))
+        map.now.boundaries) }
 {
     let mut made = Vec::new(map.allocator());
     for boundary in map.boundaries() {
@@ -76,7 +82,8 @@ fn split_boundaries(
 
 /// A ring with a point between two others, whichever way it goes from one to the other.
 fn split_ring(ring: &Ring, from: PointNo, to: PointNo, point: PointNo) -> Result<Ring, Memory>
-    ensures { IfOk result (λ made. made ≡ put_on (to, from) point (put_on (from, to) point ring.now)) }
+    ensures { IfOk result
+        (λ made. made ≡ put_on (to, from) point (put_on (from, to) point ring.now)) }
 {
     ring.put_between(from, to, point)?
         .put_between(to, from, point)

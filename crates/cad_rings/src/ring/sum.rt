@@ -34,12 +34,15 @@ impl Ring {
     pub fn sum<F: SideMeasure>(&self, positions: &[(PointNo, Pt)], measure: &F) -> i128
         requires placed { ArePlaced positions.now self.now }
         requires few { length self.now ≤ RING_LIMIT }
-        ensures value { result ≡ ring_sum (F.measure measure.now) (position_in positions.now) self.now }
+        ensures value { result
+            ≡ ring_sum (F.measure measure.now) (position_in positions.now) self.now }
         ensures small { unsigned_abs result ≤ length self.now * measure_limit }
         ensures cut { (i j : ℕ) (inner : List ℕ) → AreTwoPlaces i j self.now
             → let sum_of = ring_sum (F.measure measure.now) (position_in positions.now) in
-            sum_of (left_ring i j inner self.now) +ℤ sum_of (right_ring i j inner self.now) ≡ result }
-        ensures joined { (i j m : ℕ) (kept ended : Ring) → HaveChainInCommon i j m kept ended → self.now ≡ joined i j m kept ended
+            sum_of (left_ring i j inner self.now) +ℤ sum_of (right_ring i j inner self.now)
+            ≡ result }
+        ensures joined { (i j m : ℕ) (kept ended : Ring) → HaveChainInCommon i j m kept ended
+            → self.now ≡ joined i j m kept ended
             → let sum_of = ring_sum (F.measure measure.now) (position_in positions.now) in
             sum_of kept +ℤ sum_of ended ≡ result }
     {
