@@ -1,7 +1,7 @@
 -- What the rows on chains say of the points and the corners of a division.
-use Rattle.std.proofs.Common.{◌≡◌, ℕ, sym, ap, subst, ◌∙◌, List, [], ◌∷◌, ◌++◌, Bool, true, not, Some, None}
-use Rattle.std.specs.Prelude.{IsTrue, ◌&&◌}
-use Rattle.std.specs.List.{AllByRecursion, Contains, list_any}
+use Rattle.std.proofs.Common.{◌≡◌, ℕ, sym, ap, ◌∙◌, List, [], ◌∷◌, Bool, not, Some, None}
+use Rattle.std.specs.Prelude.{◌&&◌}
+use Rattle.std.specs.List.{Contains, list_any}
 use Rattle.cad_rows.specs.declared.edits.Edit.{Edit}
 use Rattle.cad_rows.specs.declared.edits.Edit.TheVariants.{Divide}
 use Rattle.cad_rows.specs.declared.names.Face.{Face}
@@ -9,8 +9,8 @@ use Rattle.cad_rows.specs.declared.names.Name.TheVariants as name
 use Rattle.cad_rows.specs.declared.refusals.Refusal.TheVariants.{ChainJoinsRings}
 use Rattle.cad_rings.specs.Cycle.{Corner, has_side, sides_of}
 use Rattle.cad_map.specs.Chain.{start_of, next_of, end_of, last_but_one, chosen_corner, leaving}
-use Rattle.cad_map.specs.Map.{Map, has_point, rings_of, face_corners}
-use Rattle.cad_map.specs.Refusals.{when, unknown, is_there, face_named, points_named, have_one_ring, chain_joins_rings, not_in_parcel, corner_missing, first_of}
+use Rattle.cad_map.specs.Map.{Map, rings_of, face_corners}
+use Rattle.cad_map.specs.Refusals.{when, have_one_ring, chain_joins_rings, not_in_parcel, corner_missing, first_of}
 use Rattle.cad_map.proofs.CallerLemmas.{chosen}
 
 module _ (m : Map) (face : Face) (chain strings : List ℕ) (parcel : ℕ) (label : List ℕ) (source : ℕ) (e : Edit) (is : e ≡ Divide face chain strings parcel label source) where

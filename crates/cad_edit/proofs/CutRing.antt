@@ -1,23 +1,23 @@
 -- The ring that a chain divides, the places of the two sides in it, and the points of the rings that it becomes.
-use Rattle.std.proofs.Common.{◌≡◌, ◌≢◌, ℕ, suc, ◌+◌, ◌-◌, ◌<◌, ◌≤◌, refl, sym, ap, subst, ◌∙◌, List, [], ◌∷◌, ◌++◌, append_assoc, length, take, drop, map, Bool, true, false, cond, true≢false, Option, Some, None, Bor, slice_get, arith}
-use Rattle.std.specs.Prelude.{◌&&◌, nat_lt, find, option_map, IsSome, IsTrue, IsPermutation, slice_index}
-use Rattle.std.specs.List.{AllByRecursion, Contains, list_any, position, position_or_len}
+use Rattle.std.proofs.Common.{◌≡◌, ◌≢◌, ℕ, suc, ◌+◌, ◌-◌, ◌<◌, refl, sym, ap, subst, ◌∙◌, List, [], ◌∷◌, ◌++◌, append_assoc, length, take, drop, map, Bool, true, false, true≢false, Option, Some, None, Bor, slice_get, arith}
+use Rattle.std.specs.Prelude.{◌&&◌, nat_lt, find, option_map, IsSome, IsPermutation, slice_index}
+use Rattle.std.specs.List.{Contains, list_any, position, position_or_len}
 use Rattle.std.specs.Option.{option_copied}
 use Rattle.std.proofs.lemmas.Option.{same_Some}
 use Rattle.std.proofs.lemmas.Bool.Decides.{nat_tests}
-use Rattle.std.proofs.lemmas.List.{take-append-drop, map-append}
+use Rattle.std.proofs.lemmas.List.{map-append}
 use Rattle.std.proofs.lemmas.List.Sorted.{IsPermutation-append_comm}
 use Rattle.cad_rows.specs.declared.names.Face.{Face}
 use Rattle.cad_rings.specs.Cycle.{Ring, Side, is_side, has_side, sides_of, Corner, turned}
 use Rattle.cad_rings.proofs.CallerLemmas.{is_side-same, sides_of-turned}
 use Rattle.cad_map.specs.Walk.{first_side}
-use Rattle.cad_map.proofs.CallerLemmas.{first-is, All-append, drop-at, canonical_order-permuted, All-join, in_parts, place-of, only-in, cut_ring, has_side-Contains, once-from_pairs}
-use Rattle.cad_rings.specs.Surgery.{stretch, left_ring, AreTwoPlaces}
+use Rattle.cad_map.proofs.CallerLemmas.{first-is, drop-at, canonical_order-permuted, place-of, only-in, cut_ring, has_side-Contains, once-from_pairs}
+use Rattle.cad_rings.specs.Surgery.{AreTwoPlaces}
 use Rattle.cad_map.specs.declared.boundary.Boundary.{Boundary}
 use Rattle.cad_map.specs.Boundaries.{canonical_form, canonical_order}
-use Rattle.cad_map.specs.Chain.{leaving, inner_of}
+use Rattle.cad_map.specs.Chain.{leaving}
 use Rattle.cad_map.specs.Division.{place_of, ring_with}
-use Rattle.cad_map.specs.Map.{Map, has_point, rings_of, all_sides}
+use Rattle.cad_map.specs.Map.{Map, rings_of, all_sides}
 use Rattle.cad_map.specs.Rings.{HasWholeRings}
 
 -- ---- The ring and the places of sides

@@ -1,14 +1,12 @@
 -- The sides of a ring that were given so far, and what is known of the next one.
-use Rattle.std.proofs.Common.{◌≡◌, ℕ, ◌≤◌, sym, ap, subst, ◌∙◌, List, [], ◌∷◌, ◌++◌, append_assoc, length, length-append, arith}
-use Rattle.std.specs.Prelude.{IsTrue}
-use Rattle.std.specs.List.{AllByRecursion, Contains}
+use Rattle.std.proofs.Common.{◌≡◌, ◌≤◌, sym, ap, subst, ◌∙◌, List, [], ◌∷◌, ◌++◌, append_assoc, length, length-append, arith}
+use Rattle.std.specs.List.{Contains}
 use Rattle.std.proofs.lemmas.List.Elements.{Contains-append_right}
-use Rattle.cad_rings.specs.Cycle.{Ring, Side, sides_of, anchor_of}
-use Rattle.cad_rings.proofs.CallerLemmas.{anchor_of-Contains}
+use Rattle.cad_rings.specs.Cycle.{Ring, Side, sides_of}
 use Rattle.cad_map.specs.declared.boundary.Boundary.{Boundary}
-use Rattle.cad_map.specs.Map.{Map, has_point}
+use Rattle.cad_map.specs.Map.{Map}
 use Rattle.cad_map.specs.Rings.{HasWholeRings}
-use Rattle.cad_map.proofs.CallerLemmas.{All-push, Contains-first, All-at_each, ends-along, two-each, ring-sides-few}
+use Rattle.cad_map.proofs.CallerLemmas.{Contains-first, two-each, ring-sides-few}
 
 module _ (ring : Ring) (given left rest : List Side) (s : Side) (whole : given ++ left ≡ sides_of ring) (step : left ≡ s ∷ rest) where
   pub given-more : (given ++ s ∷ []) ++ rest ≡ sides_of ring

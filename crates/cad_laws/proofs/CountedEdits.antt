@@ -5,7 +5,6 @@ use Rattle.std.specs.Prelude.{option_map, unwrap_or}
 use Rattle.std.specs.List.{AllByRecursion, Contains}
 use Rattle.cad_rows.specs.declared.edits.Edit.{Edit}
 use Rattle.cad_rows.specs.declared.edits.Edit.TheVariants.{AddSource, AddPoint, DropPoint, Split, Join, Divide, Merge, Move, Attach, Detach, Rename, Enclose}
-use Rattle.cad_rows.specs.declared.names.Face.{Face}
 use Rattle.cad_rows.specs.declared.names.Face.TheVariants.{Parcel}
 use Rattle.cad_rows.specs.declared.names.Item.{Item}
 use Rattle.cad_rows.specs.declared.names.Item.TheVariants as item
@@ -25,7 +24,7 @@ use Rattle.cad_map.specs.Map.{Map, point_of, parcel_of, string_of, strings_at, i
 use Rattle.cad_map.specs.Refusals.{first_refusal, sources_at}
 use Rattle.cad_map.specs.Table.{row_with, without_row, with_row}
 use Rattle.cad_map.specs.Valid.{IsValid}
-use Rattle.cad_map.proofs.CallerLemmas.{allowed, IsAllowed, free-point, free-source, free-split, free-join, two-joined, there-one, can-divide, can-enclose, can-merge, names-parcels, Contains-cases, Contains-map, found-number, map-with_row, All-Contains, numbers-strings_along, MeetAt, meet-at, length-push}
+use Rattle.cad_map.proofs.CallerLemmas.{allowed, free-point, free-source, free-split, free-join, two-joined, there-one, can-divide, can-enclose, can-merge, Contains-cases, Contains-map, found-number, map-with_row, All-Contains, numbers-strings_along, MeetAt, meet-at, length-push}
 use Rattle.cad_laws.specs.Counts.{rows_by, sources_by, shared_strings, sources_of_strings}
 use Rattle.cad_laws.proofs.CountedRows.{Turn, Turns, turns, turned, turned-put, turned-out, turned-same, row-out, row-turned, filter-alike}
 use Rattle.cad_laws.proofs.NamedParcels.{of-parcels}

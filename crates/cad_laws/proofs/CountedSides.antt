@@ -20,7 +20,7 @@ use Rattle.cad_map.specs.Effects.{after}
 use Rattle.cad_map.specs.Map.{Map, has_face, has_point}
 use Rattle.cad_map.specs.Refusals.{first_refusal}
 use Rattle.cad_map.specs.Valid.{IsValid, HasSoundRows}
-use Rattle.cad_map.proofs.CallerLemmas.{allowed, free-split, can-divide, can-enclose, names-parcels, list_any-none, All-at_each, Contains-first, Contains-later, is_face-same, kept, list_any-found}
+use Rattle.cad_map.proofs.CallerLemmas.{allowed, free-split, can-divide, can-enclose, list_any-none, All-at_each, Contains-first, Contains-later, is_face-same, kept, list_any-found}
 use Rattle.cad_laws.specs.Counts.{sides_where, sides_of_face, sides_through, sides_by}
 use Rattle.cad_laws.specs.Touching.{passes}
 use Rattle.cad_laws.proofs.Elsewhere.{none-without}

@@ -22,7 +22,7 @@ use Rattle.cad_map.specs.Refusals.{first_refusal}
 use Rattle.cad_map.specs.Merger.{ChainInRings, shared_sides, is_along, is_around, shared_chains, handed_over, boundaries_by, boundaries_merged}
 use Rattle.cad_map.specs.Merger.ChainInRings.{along, around}
 use Rattle.cad_map.specs.Valid.{IsValid}
-use Rattle.cad_map.proofs.CallerLemmas.{All-at_each, All-follows, IsAllowed, allowed, can-merge, names-parcels, corners_in-canonical_order, two_out, stays, gone, three-merged, faces-differ, rows, IsChainInRings, common-along, along-found, around-found, IsFound, found, merged-any}
+use Rattle.cad_map.proofs.CallerLemmas.{All-at_each, All-follows, IsAllowed, allowed, can-merge, corners_in-canonical_order, two_out, stays, gone, three-merged, faces-differ, rows, IsChainInRings, common-along, along-found, around-found, IsFound, found}
 use Rattle.cad_laws.specs.Parting.{IsOn, IsParted, HasIsland, IsMergedBy}
 use Rattle.cad_laws.proofs.PartedCorners.{is_parted}
 use Rattle.cad_laws.proofs.MapCorners.{corner-in, two-sides}

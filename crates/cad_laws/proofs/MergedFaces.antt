@@ -21,7 +21,7 @@ use Rattle.cad_map.specs.Merger.{ChainInRings, shared_chains, handed_over, bound
 use Rattle.cad_map.specs.Merger.ChainInRings.{along, around}
 use Rattle.cad_map.specs.Views.{HasSide}
 use Rattle.cad_map.specs.Valid.{IsValid}
-use Rattle.cad_map.proofs.CallerLemmas.{IsAllowed, allowed, can-merge, names-parcels, Contains-in_part, Contains-flat_map, beside, has_side-Contains, Contains-has_side, one_ring, face-told, IsPermutation-canonical_order, two_out, stays, sides-parted, was-beside, of_face, faces-differ, rows, filter-Contains, IsChainInRings, along-found, around-found, IsFound, found, merged-any}
+use Rattle.cad_map.proofs.CallerLemmas.{IsAllowed, allowed, can-merge, Contains-in_part, Contains-flat_map, beside, has_side-Contains, Contains-has_side, one_ring, face-told, IsPermutation-canonical_order, two_out, stays, sides-parted, was-beside, of_face, faces-differ, rows, filter-Contains, IsChainInRings, along-found, around-found, IsFound, found}
 use Rattle.cad_laws.specs.Faces.{over, HasMerged, IsMergedIn}
 use Rattle.cad_laws.proofs.PlacedFaces.{has-side_canonical, as-shown, map-same, map-map}
 use Rattle.cad_laws.proofs.NamedParcels.{of-parcels, merged-by}

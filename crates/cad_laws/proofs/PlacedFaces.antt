@@ -2,7 +2,6 @@
 use Rattle.std.proofs.Common.{◌≡◌, ℕ, ◌⊎◌, inl, inr, refl, sym, ap, subst, ◌∙◌, List, [], ◌∷◌, ◌++◌, map, reverse, filter, not, None, Some, arith}
 use Rattle.std.proofs.lemmas.List.Elements.{Contains-append_cases, Contains-append_left, Contains-append_right}
 use Rattle.std.proofs.lemmas.List.Sorted.{IsPermutation-refl, IsPermutation-sym, IsPermutation-middle, Contains-permutation}
-use Rattle.std.proofs.lemmas.Option.{same_Some}
 use Rattle.std.specs.Prelude.{IsPermutation, slice_index}
 use Rattle.std.specs.List.{Contains}
 use Rattle.cad_rows.specs.declared.names.Face.{Face}
@@ -22,7 +21,7 @@ use Rattle.cad_map.specs.Refusals.{first_refusal}
 use Rattle.cad_map.specs.Asked.{GivesInRange}
 use Rattle.cad_map.specs.Views.{HasSide}
 use Rattle.cad_map.specs.Valid.{IsValid}
-use Rattle.cad_map.proofs.CallerLemmas.{allowed, can-divide, CanDivide, IsCutRing, cut_ring, Contains-cases, Contains-first, Contains-later, Contains-map, All-at_each, IsBeside, beside, has_side-Contains, Contains-has_side, IsPermutation-canonical_order, each_canonical, of_face, ring-hole_placed, face-hole_placed}
+use Rattle.cad_map.proofs.CallerLemmas.{CanDivide, IsCutRing, Contains-cases, Contains-first, Contains-later, Contains-map, All-at_each, IsBeside, beside, has_side-Contains, Contains-has_side, IsPermutation-canonical_order, each_canonical, of_face, ring-hole_placed, face-hole_placed}
 use Rattle.cad_map.proofs.CallerLemmas as maps
 use Rattle.cad_laws.specs.Faces.{IsOfMoved, IsOfNew, HasPlaced, left_of_chain, right_of_chain, IsDividedIn}
 use Rattle.cad_laws.proofs.DividedCorners.{of-chosen}

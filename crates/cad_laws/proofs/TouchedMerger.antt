@@ -22,7 +22,7 @@ use Rattle.cad_map.specs.Refusals.{first_refusal}
 use Rattle.cad_map.specs.Table.{row_with}
 use Rattle.cad_map.specs.Touched.{Touched, IsTouched}
 use Rattle.cad_map.specs.Valid.{IsValid}
-use Rattle.cad_map.proofs.CallerLemmas.{allowed, can-merge, names-parcels, Contains-first, Contains-flat_map, map-Contains, has_side-Contains, is_face-same, filter-append, ends, shared-chain, CanMerge, faces-differ, shared_chain-there, merge-is, none-filter, along-found, around-found, along-passed, IsFound, found}
+use Rattle.cad_map.proofs.CallerLemmas.{allowed, can-merge, Contains-first, Contains-flat_map, map-Contains, has_side-Contains, is_face-same, filter-append, ends, shared-chain, CanMerge, faces-differ, shared_chain-there, merge-is, none-filter, along-found, around-found, along-passed, IsFound, found}
 use Rattle.cad_laws.specs.Parting.{HasCorner, IsMergedBy}
 use Rattle.cad_laws.specs.Touching.{touching, points_of_shared_chain, touched_by}
 use Rattle.cad_laws.proofs.CornersElsewhere.{chain-ends, ring-ends, corners-parted, corners-island}

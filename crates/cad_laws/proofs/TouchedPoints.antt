@@ -24,7 +24,7 @@ use Rattle.cad_map.specs.Refusals.{first_refusal}
 use Rattle.cad_map.specs.Rings.{HasWholeRings}
 use Rattle.cad_map.specs.Touched.{Touched, neighbours, IsTouched}
 use Rattle.cad_map.specs.Valid.{IsValid}
-use Rattle.cad_map.proofs.CallerLemmas.{IsAllowed, allowed, there-one, two-joined, Contains-cases, Contains-first, Contains-later, Contains-map, list_any-Contains, Contains-filter, find-Contains, is_face-same, row-found, dropped, MeetAt, meet-at, differs, split_boundary, found-number, found-with_row, ends, is_end-of, other_end, whole_valid, none-filter}
+use Rattle.cad_map.proofs.CallerLemmas.{IsAllowed, allowed, there-one, two-joined, Contains-cases, Contains-first, Contains-later, Contains-map, list_any-Contains, Contains-filter, find-Contains, is_face-same, row-found, dropped, MeetAt, meet-at, differs, split_boundary, found-number, found-with_row, ends, is_end-of, other_end, whole_valid}
 use Rattle.cad_laws.specs.Joining.{IsJoinedAt}
 use Rattle.cad_laws.specs.Touching.{touching, faces_where, passes, goes_along, touched_by_split, touched_by}
 use Rattle.cad_laws.proofs.CornersElsewhere.{corners-joined}

@@ -21,7 +21,7 @@ use Rattle.cad_map.specs.Refusals.{first_refusal}
 use Rattle.cad_map.specs.Table.{row_with, without_row}
 use Rattle.cad_map.specs.Touched.{Touched, neighbours, StringStands, IsTouched}
 use Rattle.cad_map.specs.Valid.{IsValid}
-use Rattle.cad_map.proofs.CallerLemmas.{allowed, free-dropped, Contains-first, Contains-map, All-at_each, All-from_each, map-Contains, is_nothing, no_end, differs, found-number, found-with_row, map-with_row-same, none-filter}
+use Rattle.cad_map.proofs.CallerLemmas.{allowed, free-dropped, Contains-first, Contains-map, All-at_each, All-from_each, map-Contains, is_nothing, no_end, differs, found-number, found-with_row, map-with_row-same}
 use Rattle.cad_map.proofs.CallerLemmas as maps
 use Rattle.cad_laws.specs.Touching.{touching, touched_by}
 use Rattle.cad_laws.proofs.Elsewhere.{found-pushed, same-pushed, same-without, in-without, same-with_row, own-with_row}

@@ -31,7 +31,7 @@ use Rattle.cad_map.specs.Refusals.{first_refusal}
 use Rattle.cad_map.specs.Asked.{GivesInRange}
 use Rattle.cad_map.specs.Rings.{HasWholeRings}
 use Rattle.cad_map.specs.Valid.{EachPair, HasCompleteRings, IsSound, IsValid, FirstBroken, Keeps, each_pair, is_same_position}
-use Rattle.cad_map.proofs.CallerLemmas.{EachPair-join, IsAllowed, allowed, not-when, there-one, free-point, free-split, free-dropped, position-in_range, room, two-joined, can-divide, can-enclose, can-merge, names-parcels, HasNoOpposites, in_parts, pairs-from_distinct, no_opposites-along, sides-from_ends, sides-strings_along, times-append, permuted-from_times, CanDivide, divided-sound, Contains-cases, Contains-map, Contains-flat_map, Contains-in_part, All-at_each, All-from_each, filter-Contains, map-Contains, list_all-at, list_all-from, find-Contains, CanEnclose, enclosed-sound, is_division-enclosed, complete, sides-once, in_all, string_side, dropped, both, AreApartEnds, MeetAt, meet-at, kept-join, three-join, apart-join, ends-apart, kept-source, kept-point, kept-drop, kept-move, kept-attach, kept-detach, kept-rename, kept-split, merged-sound, pairs-IsPermutation, is_side-is, string_sides-once, EachPair-append}
+use Rattle.cad_map.proofs.CallerLemmas.{EachPair-join, IsAllowed, allowed, not-when, there-one, free-point, free-split, free-dropped, position-in_range, room, two-joined, can-divide, can-enclose, can-merge, HasNoOpposites, in_parts, pairs-from_distinct, no_opposites-along, sides-from_ends, sides-strings_along, times-append, permuted-from_times, CanDivide, divided-sound, Contains-cases, Contains-map, Contains-flat_map, Contains-in_part, All-at_each, All-from_each, filter-Contains, map-Contains, list_all-at, list_all-from, find-Contains, CanEnclose, enclosed-sound, is_division-enclosed, complete, sides-once, in_all, string_side, dropped, both, AreApartEnds, MeetAt, meet-at, kept-join, three-join, apart-join, ends-apart, kept-source, kept-point, kept-drop, kept-move, kept-attach, kept-detach, kept-rename, kept-split, merged-sound, pairs-IsPermutation, is_side-is, string_sides-once, EachPair-append}
 use Rattle.cad_map.proofs.CallerLemmas as maps
 use Rattle.cad_laws.specs.Joining.{AreNotJoined, FarEndsAreApart}
 use Rattle.cad_laws.proofs.NamedParcels.{of-parcels}

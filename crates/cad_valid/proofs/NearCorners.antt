@@ -1,10 +1,9 @@
 -- Where the corners at touched points and at the ends of touched strings are empty, all are.
-use Rattle.std.proofs.Common.{◌≡◌, ◌≢◌, ℕ, refl, sym, ap, subst, ◌∙◌, List, filter, Option, Some, None, Bool, true, false, true≢false, not, ◌⊎◌, inl, inr, eqb-true, eq-eqb, arith}
+use Rattle.std.proofs.Common.{◌≡◌, ◌≢◌, ℕ, refl, sym, ap, subst, ◌∙◌, Option, Some, None, Bool, true, false, true≢false, not, ◌⊎◌, inl, inr, eqb-true, eq-eqb}
 use Rattle.std.proofs.lemmas.Bool.{and_parts, eqb-false}
 use Rattle.std.proofs.lemmas.List.Sorted.{Contains-permutation, IsPermutation-sym}
-use Rattle.std.specs.Prelude.{IsTrue, ◌↔◌, is_some, ◌==◌, ◌||◌, if◌then◌else◌, flat_map}
-use Rattle.std.specs.List.{AllByRecursion, Contains, list_all}
-use Rattle.geo_exact.specs.Position.{Position}
+use Rattle.std.specs.Prelude.{IsTrue, ◌↔◌, is_some, ◌==◌, ◌||◌, if◌then◌else◌}
+use Rattle.std.specs.List.{AllByRecursion, Contains}
 use Rattle.geo_exact.specs.Sector.{in_sector}
 use Rattle.cad_rows.specs.declared.rows.PointRow.{PointRow}
 use Rattle.cad_rows.specs.declared.rows.StringRow.{StringRow}
@@ -12,7 +11,7 @@ use Rattle.cad_rings.specs.Cycle.{Corner, is_side}
 use Rattle.cad_map.specs.Map.{Map, has_point, point_of, position_of, all_corners, all_sides, string_sides, strings_at, is_end, far_end}
 use Rattle.cad_map.specs.Rings.{HasWholeRings}
 use Rattle.cad_map.specs.Valid.{IsValid, is_empty_corner, has_empty_corners}
-use Rattle.cad_map.specs.Touched.{Touched, IsTouched, PointStands, StringStands, corners_at}
+use Rattle.cad_map.specs.Touched.{Touched, IsTouched, PointStands, StringStands}
 use Rattle.cad_map.proofs.CallerLemmas.{All-at_each, All-from_each, find-Contains, list_all-at, list_all-from, filter-Contains, Contains-filter, corner-points, corner-all_sides, ends as ends_with, is_end-of, Joins, side-joins, string_side}
 use Rattle.geo_exact.specs.Segment.{HaveCommonLocation, IsOnSegment}
 use Rattle.geo_exact.proofs.CallerLemmas.{HaveCommonLocation-exchanged, IsOnSegment-first, IsOnSegment-last}

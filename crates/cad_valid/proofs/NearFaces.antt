@@ -1,22 +1,21 @@
 -- Where touched faces have their outlines and their holes in place, all have.
-use Rattle.std.proofs.Common.{◌≡◌, ◌≢◌, ℕ, ◌+◌, refl, sym, ap, subst, ◌∙◌, List, [], ◌∷◌, map, filter, cond, Bool, true, false, not, ◌⊎◌, inl, inr, ℤ, pos, nat_eq, length, ◌≤◌, arith, Option, Some, None, true≢false}
+use Rattle.std.proofs.Common.{◌≡◌, ◌≢◌, ℕ, ◌+◌, refl, sym, ap, subst, ◌∙◌, List, [], ◌∷◌, filter, cond, Bool, true, false, not, inl, inr, ℤ, pos, length, ◌≤◌, arith, Option, Some, None, true≢false}
 use Rattle.std.proofs.lemmas.List.Sums.{sum_by-cons}
 use Rattle.std.specs.Prelude.{IsTrue, ◌↔◌, count_by, ◌&&◌, ◌||◌, int_lt, ◌==◌, is_some}
 use Rattle.std.specs.List.{AllByRecursion, Contains, list_all}
-use Rattle.geo_exact.specs.Position.{Position}
 use Rattle.geo_exact.specs.Measure.{doubled_area}
 use Rattle.geo_exact.specs.Inside.{is_inside}
 use Rattle.cad_rows.specs.declared.names.Face.{Face}
 use Rattle.cad_rows.specs.declared.names.Face.TheVariants.{Outside, Parcel}
 use Rattle.cad_rows.specs.declared.rows.ParcelRow.{ParcelRow}
-use Rattle.cad_rings.specs.Cycle.{Ring, anchor_of, placed, sides_of}
+use Rattle.cad_rings.specs.Cycle.{Ring, anchor_of}
 use Rattle.cad_rings.proofs.AnchorLemmas.{anchor_of-Contains}
 use Rattle.cad_map.specs.declared.boundary.Boundary.{Boundary}
 use Rattle.cad_map.specs.Boundaries.{is_face}
 use Rattle.cad_rings.proofs.Placed.{placed_same, ring_sum-same}
 use Rattle.cad_map.specs.Map.{Map, has_face, has_parcel, parcel_of, position_of, rings_of, is_positive, is_negative, is_in_ring, sum_of_ring}
 use Rattle.cad_map.specs.Valid.{each_pair, HasSoundRows, IsValid, has_outlines, has_one_outline_each, are_holes_inside, are_holes_apart, has_sound_holes, has_holes_in_place}
-use Rattle.cad_map.specs.Touched.{Touched, IsTouched, FaceStands}
+use Rattle.cad_map.specs.Touched.{Touched, IsTouched}
 use Rattle.cad_map.proofs.CallerLemmas.{All-at_each, All-from_each, Contains-first, Contains-later, list_all-same, list_all-at, list_all-from, filter-Contains, map-Contains}
 use Rattle.cad_valid.specs.Near.{outlines_wanted, OfFace, HasOutlines, HasSoundHoles}
 use Rattle.cad_valid.proofs.RowsByNumber.{row-is, row-found_is}

@@ -1,13 +1,13 @@
 -- Where touched strings and points meet others at ends alone, all do.
-use Rattle.std.proofs.Common.{◌≡◌, ◌≢◌, ℕ, refl, sym, ap, subst, ◌∙◌, List, [], ◌∷◌, map, Bool, true, false, not, ◌⊎◌, inl, inr}
-use Rattle.std.specs.Prelude.{IsTrue, ◌↔◌}
+use Rattle.std.proofs.Common.{◌≡◌, ◌≢◌, ℕ, refl, sym, ap, subst, ◌∙◌, ◌⊎◌, inl, inr}
+use Rattle.std.specs.Prelude.{◌↔◌}
 use Rattle.std.specs.List.{AllByRecursion, Contains}
 use Rattle.geo_exact.specs.Position.{Position}
 use Rattle.geo_exact.specs.Segment.{HaveCommonLocation, location}
 use Rattle.cad_rows.specs.declared.rows.PointRow.{PointRow}
 use Rattle.cad_rows.specs.declared.rows.StringRow.{StringRow}
-use Rattle.cad_map.specs.Map.{Map, has_point, position_of}
-use Rattle.cad_map.specs.Valid.{EachPair, HasSoundRows, IsValid, HaveCommon, IsSharedEnd, MeetAtEnds, LiesOnlyAsEnd, HasNoCrossing}
+use Rattle.cad_map.specs.Map.{Map, position_of}
+use Rattle.cad_map.specs.Valid.{HasSoundRows, IsValid, HaveCommon, MeetAtEnds, LiesOnlyAsEnd, HasNoCrossing}
 use Rattle.cad_map.specs.Touched.{Touched, IsTouched, PointStands, StringStands}
 use Rattle.cad_map.proofs.CallerLemmas.{All-at_each, All-from_each, EachPair-two}
 use Rattle.cad_valid.specs.Near.{OfPoint, OfString, IsUncrossed, LiesAtEnds}

@@ -1,5 +1,5 @@
 -- What a test of all of a list's elements tells, and a test of all that a grid has near.
-use Rattle.std.proofs.Common.{◌≡◌, ◌∙◌, ℕ, ◌<◌, ◌≤◌, refl, sym, subst, List, [], ◌∷◌, length, Bool, true, false, true≢false, arith}
+use Rattle.std.proofs.Common.{◌≡◌, ◌∙◌, ℕ, ◌<◌, refl, sym, subst, List, [], ◌∷◌, length, Bool, true, false, true≢false, arith}
 use Rattle.std.proofs.lemmas.List.Elements.{Contains-get_or}
 use Rattle.std.proofs.lemmas.Bool.{iff_false}
 use Rattle.std.specs.Bool.{MatchBool}

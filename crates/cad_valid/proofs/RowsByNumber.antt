@@ -1,8 +1,8 @@
 -- Rows by their numbers.
 use Rattle.std.proofs.Common.{◌≡◌, ◌≢◌, ℕ, refl, sym, ap, subst, ◌∙◌, List, [], ◌∷◌, map, Option, Some, None, Bool, true, false, not, true≢false, eqb-true, eq-eqb, arith, ◌⊎◌, inl, inr}
 use Rattle.std.proofs.lemmas.Bool.{false_from_ne_true}
-use Rattle.std.specs.Prelude.{IsTrue, ◌↔◌, is_some, ◌&&◌, ◌==◌}
-use Rattle.std.specs.List.{AllByRecursion, Contains}
+use Rattle.std.specs.Prelude.{IsTrue, ◌↔◌, is_some, ◌==◌}
+use Rattle.std.specs.List.{Contains}
 use Rattle.geo_exact.specs.Position.{Position}
 use Rattle.cad_rows.specs.declared.rows.PointRow.{PointRow}
 use Rattle.cad_rows.specs.declared.rows.StringRow.{StringRow}

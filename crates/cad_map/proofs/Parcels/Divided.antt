@@ -1,11 +1,10 @@
 -- A chain across a face of a valid map: the map stays sound, and the two parts add up to the face.
-use Rattle.std.proofs.Common.{◌≡◌, ◌≢◌, ℕ, ◌+◌, ◌≤◌, inl, inr, sym, ap, subst, ◌∙◌, List, [], ◌∷◌, ◌++◌, length, map, filter, Bool, true, false, not, Some, None, ◌+ℤ◌, ℤ}
+use Rattle.std.proofs.Common.{◌≡◌, ◌≢◌, ℕ, ◌+◌, ◌≤◌, inl, inr, sym, ap, subst, ◌∙◌, List, [], ◌∷◌, ◌++◌, length, map, filter, Bool, true, not, Some, ◌+ℤ◌, ℤ}
 use Rattle.std.specs.Prelude.{IsTrue, ◌&&◌, IsPermutation, slice_index}
 use Rattle.std.specs.List.{AllByRecursion, Contains, list_any}
 use Rattle.std.proofs.lemmas.Bool.{and_parts}
 use Rattle.std.proofs.lemmas.List.Elements.{Contains-push}
 use Rattle.geo_exact.specs.Measure.{Measure, IsOdd}
-use Rattle.cad_rows.specs.Limits.{IsNumber, IsLabel, row_limit, string_limit}
 use Rattle.cad_rows.specs.declared.names.Face.{Face}
 use Rattle.cad_rows.specs.declared.names.Face.TheVariants.{Parcel}
 use Rattle.cad_rows.specs.declared.rows.StringRow.{StringRow}
@@ -14,7 +13,7 @@ use Rattle.cad_rings.specs.Surgery.{AreTwoPlaces, chain_across, left_ring, right
 use Rattle.cad_rings.proofs.CallerLemmas.{sides_of_chain-is, sides_of-cut}
 use Rattle.cad_map.specs.declared.boundary.Boundary.{Boundary}
 use Rattle.cad_map.specs.Boundaries.{bounding, sides_in}
-use Rattle.cad_map.specs.Map.{Map, string_of, parcel_of, has_point, has_face, has_source, is_retired, is_end, far_end, is_free, rings_of, all_sides, position_of, sum_of_face}
+use Rattle.cad_map.specs.Map.{Map, has_point, has_face, is_end, far_end, is_free, rings_of, all_sides, position_of, sum_of_face}
 use Rattle.cad_map.specs.Chain.{has_in_sector, start_of, next_of, end_of, last_but_one, inner_of, are_distinct, strings_along, chosen_corner, leaving}
 use Rattle.cad_map.specs.Division.{place_of, hole_placed}
 use Rattle.cad_map.specs.Valid.{EachPair, IsValid, IsSound}

@@ -1,5 +1,5 @@
 -- A closed chain of free points put into a face of a valid map: the map stays sound.
-use Rattle.std.proofs.Common.{◌≡◌, ℕ, ◌+◌, ◌≤◌, inl, refl, ap, subst, ◌∙◌, List, [], ◌∷◌, ◌++◌, length, map, reverse, true, false, None, arith}
+use Rattle.std.proofs.Common.{◌≡◌, ℕ, ◌+◌, ◌≤◌, inl, refl, ap, subst, ◌∙◌, List, [], ◌∷◌, ◌++◌, length, map, reverse, true, arith}
 use Rattle.std.specs.Prelude.{IsTrue, IsPermutation}
 use Rattle.std.specs.List.{AllByRecursion, Contains}
 use Rattle.std.proofs.lemmas.List.{append-nil, length-append, length-reverse}
@@ -8,12 +8,11 @@ use Rattle.std.proofs.lemmas.Int.{ints}
 use Rattle.geo_exact.specs.Measure.{Measure, IsOdd}
 use Rattle.cad_map.specs.Sums.{IsSharedOut}
 use Rattle.cad_map.proofs.Parcels.PlacedSums.{placed-adds_up}
-use Rattle.cad_rows.specs.Limits.{IsNumber, IsLabel, row_limit, string_limit}
 use Rattle.cad_rows.specs.declared.names.Face.{Face}
 use Rattle.cad_rings.specs.Cycle.{Side, opposite, sides_of}
 use Rattle.cad_rings.specs.Surgery.{sides_of_chain, both_ways}
 use Rattle.cad_rings.proofs.CallerLemmas.{permuted_as, both_ways-apart, sides_of-reversed, sides_of_chain-is}
-use Rattle.cad_map.specs.Map.{Map, string_of, parcel_of, has_point, has_face, has_source, is_retired, is_free, all_sides}
+use Rattle.cad_map.specs.Map.{Map, has_point, has_face, is_free, all_sides}
 use Rattle.cad_map.specs.Chain.{are_distinct, strings_along}
 use Rattle.cad_map.specs.Valid.{IsValid, IsSound}
 use Rattle.cad_map.specs.Changes.{enclose}

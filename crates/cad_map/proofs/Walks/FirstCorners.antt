@@ -1,6 +1,6 @@
 -- The corners that may be chosen after some sides, and the first of them.
 use Rattle.std.proofs.Common.{◌≡◌, ℕ, ◌≤◌, ◌⊎◌, inl, inr, refl, sym, ap, subst, ◌∙◌, List, [], ◌∷◌, ◌++◌, length, map, filter, find, Option, Some, None, Bool, true, false, true≢false, arith}
-use Rattle.std.specs.Prelude.{◌==◌, ◌&&◌, nat_le, count_by, flat_map, IsTrue, IsPermutation}
+use Rattle.std.specs.Prelude.{◌==◌, ◌&&◌, nat_le, count_by, IsTrue, IsPermutation}
 use Rattle.std.specs.List.{AllByRecursion, Contains, list_all}
 use Rattle.std.proofs.lemmas.Bool.{eqb-true, and_parts}
 use Rattle.std.proofs.lemmas.Bool.Decides.{nat_tests}

@@ -1,4 +1,4 @@
-use Rattle.std.proofs.Common.{◌≡◌, ℕ, sym, ap, refl, ◌∙◌, [], ◌∷◌, Option, Some, None}
+use Rattle.std.proofs.Common.{ℕ, sym, ap, refl, ◌∙◌, [], ◌∷◌, Option, Some, None}
 use Rattle.std.specs.Prelude.{IsSome}
 use Rattle.std.specs.Option.{option_copied}
 use Rattle.std.proofs.lemmas.Option.{same_Some}

@@ -1,4 +1,4 @@
-use Rattle.std.proofs.Common.{◌≡◌, ◌≢◌, ◌∙◌, sym, ap, subst, List, map, Some, None}
+use Rattle.std.proofs.Common.{◌≡◌, ◌≢◌, ◌∙◌, sym, ap, subst, List, map, None}
 use Rattle.std.specs.Prelude.{option_map}
 use Rattle.cad_map.specs.Valid.{EachPair}
 use Rattle.cad_files.specs.Building.{twice_numbered, unknown_name, dangling, bad_corner, other_label, map_of, first_fault}

@@ -1,10 +1,9 @@
-use Rattle.std.proofs.Common.{rules, ap, ap₂, refl, sym, codes, true, map, Option, Some, None, ◌≡◌, ◌∙◌, arith}
-use Rattle.std.specs.Prelude.{pos}
-use Rattle.clap.specs.Words.{App, Text, app_of, first_of, one_of, found_of, is_simple, matches_of, new_rule, one_text, rows_of, rule_of, with_rule}
+use Rattle.std.proofs.Common.{ap, refl, sym, codes, true, map, Option, Some, None, ◌≡◌, ◌∙◌, arith}
+use Rattle.clap.specs.Words.{App, Text, app_of, first_of, one_of, found_of, is_simple, matches_of, one_text, rows_of}
 use Rattle.clap.specs.declared.builder.value_parser.ValueParser.TheVariants as parsers
 use Rattle.clap.proofs.WalkLemmas.{first_value-rows, one_text-rows}
 use Rattle.clap.proofs.OnLiterals.{clap_on_literals}
-use Rattle.cad_job.specs.Arguments.{cadedit, depth_rule}
+use Rattle.cad_job.specs.Arguments.{cadedit}
 use Rattle.cad_job.proofs.args.read_args.Goals as goal
 
 cadedit_simple : is_simple cadedit ≡ true

@@ -1,4 +1,4 @@
-use Rattle.std.proofs.Common.{sym, subst, ap, ◌∙◌, List, [], ◌∷◌, ◌++◌, filter, length, arith}
+use Rattle.std.proofs.Common.{ap, ◌∙◌, List, [], ◌∷◌, ◌++◌, filter, length, arith}
 use Rattle.cad_rings.specs.Cycle.{Side}
 use Rattle.cad_map.specs.Steps.{has_twin_in}
 use Rattle.cad_map.specs.Rings.{ring_at}

@@ -1,4 +1,4 @@
-use Rattle.std.proofs.Common.{sym, subst, ap, ◌∙◌, [], ◌∷◌, length, length-append, arith}
+use Rattle.std.proofs.Common.{ap, ◌∙◌, [], ◌∷◌, length, length-append, arith}
 use Rattle.cad_rings.proofs.CallerLemmas.{length-sides_of}
 use Rattle.cad_map.specs.Rings.{ring_at}
 use Rattle.cad_map.specs.Walk.{walking, IsOnRing}

@@ -1,4 +1,3 @@
-use Rattle.std.proofs.Common.{sym, subst}
 use Rattle.cad_valid.specs.Near.{touched_of}
 use Rattle.cad_valid.proofs.NearCorners.{near-corners}
 use Rattle.cad_valid.proofs.Passed.{first-decides, second-decides}

@@ -1,4 +1,4 @@
-use Rattle.std.proofs.Common.{sym, subst, ap, ◌∙◌, List, false}
+use Rattle.std.proofs.Common.{sym, ap, ◌∙◌, List, false}
 use Rattle.cad_rings.specs.Cycle.{Side}
 use Rattle.cad_map.specs.Walk.{walking}
 use Rattle.cad_rings.specs.Cycle.{placed}

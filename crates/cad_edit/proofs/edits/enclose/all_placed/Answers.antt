@@ -1,5 +1,4 @@
-use Rattle.std.proofs.Common.{◌≡◌, ◌<◌, sym, subst, ◌∙◌, List, [], ◌∷◌, ◌++◌, length, get_or}
-use Rattle.cad_map.specs.declared.boundary.Boundary.{Boundary}
+use Rattle.std.proofs.Common.{sym, ◌∙◌, [], ◌∷◌, ◌++◌}
 use Rattle.cad_map.specs.Division.{hole_placed}
 use Rattle.cad_edit.proofs.PlacedSoFar.{placed-more}
 use Rattle.cad_edit.proofs.edits.enclose.all_placed.Goals as goal

@@ -1,4 +1,4 @@
-use Rattle.std.proofs.Common.{refl, sym, true, ap, ◌∙◌, subst, ℕ}
+use Rattle.std.proofs.Common.{sym, subst, ℕ}
 use Rattle.std.specs.Prelude.{IsTrue, ◌↔◌}
 use Rattle.cad_valid.specs.Near.{HasEmptyCornersAt}
 use Rattle.cad_valid.proofs.NearCorners.{no-corner, number-of, number-is}

@@ -1,4 +1,4 @@
-use Rattle.std.proofs.Common.{◌≡◌, ◌∙◌, sym}
+use Rattle.std.proofs.Common.{◌∙◌, sym}
 use Rattle.std.specs.Prelude.{IsTrue, ◌↔◌}
 use Rattle.cad_rings.specs.Surgery.{corner}
 use Rattle.cad_valid.specs.Corners.{is_clear_of}

@@ -1,11 +1,8 @@
-use Rattle.std.proofs.Common.{rules, tests, ◌≡◌, ℕ, refl, sym, subst}
-use Rattle.std.specs.Prelude.{IsTrue, ◌↔◌}
+use Rattle.std.proofs.Common.{rules, tests, ◌≡◌, refl, sym, subst}
 use Rattle.std.proofs.lemmas.Iterator.{cases_from_all}
 use Rattle.std.proofs.lemmas.Iterator.Consumers.{YieldsList-from_first}
-use Rattle.geo_exact.specs.Position.{Position}
 use Rattle.geo_exact.specs.Segment.{IsOnSegment}
 use Rattle.geo_exact.proofs.CallerLemmas.{IsOnSegment-first}
-use Rattle.cad_rows.specs.declared.rows.PointRow.{PointRow}
 use Rattle.cad_valid.specs.Near.{OfPoint, IsApart}
 use Rattle.cad_valid.proofs.Passed.{passed-points}
 use Rattle.cad_valid.proofs.near.points.is_alone.Goals as goal

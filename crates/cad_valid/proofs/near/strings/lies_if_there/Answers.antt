@@ -1,4 +1,4 @@
-use Rattle.std.proofs.Common.{refl, sym}
+use Rattle.std.proofs.Common.{sym}
 use Rattle.cad_map.specs.Valid.{LiesOnlyAsEnd}
 use Rattle.cad_valid.proofs.PlacedStrings.{lies-by}
 use Rattle.cad_valid.proofs.RowsByNumber.{of_string, of_no_string, string-placed}

@@ -1,13 +1,8 @@
-use Rattle.std.proofs.Common.{rules, tests, ◌≡◌, ℕ, refl, sym, subst}
-use Rattle.std.specs.Prelude.{IsTrue, ◌↔◌}
+use Rattle.std.proofs.Common.{rules, tests, refl}
 use Rattle.std.proofs.lemmas.Iterator.{cases_from_all}
 use Rattle.std.proofs.lemmas.Iterator.Consumers.{YieldsList-from_first}
-use Rattle.geo_exact.specs.Position.{Position}
-use Rattle.geo_exact.specs.Segment.{HaveCommonLocation, IsOnSegment}
-use Rattle.geo_exact.proofs.CallerLemmas.{HaveCommonLocation-exchanged}
-use Rattle.cad_rows.specs.declared.rows.StringRow.{StringRow}
 use Rattle.cad_map.specs.Map.{position_of}
-use Rattle.cad_map.specs.Valid.{HaveCommon, LiesOnlyAsEnd}
+use Rattle.cad_map.specs.Valid.{HaveCommon}
 use Rattle.cad_valid.specs.Near.{OfString, MeetsIfOther}
 use Rattle.cad_valid.proofs.Passed.{passed-strings}
 use Rattle.cad_valid.proofs.near.strings.meets_at_ends.Goals as goal

@@ -1,4 +1,4 @@
-use Rattle.std.proofs.Common.{◌≢◌, ℕ, sym, ◌∙◌}
+use Rattle.std.proofs.Common.{◌≢◌, sym, ◌∙◌}
 use Rattle.cad_valid.proofs.PlacedStrings.{meets-by}
 use Rattle.cad_valid.proofs.near.strings.meets_if_other.Goals as goal
 

@@ -1,13 +1,11 @@
-use Rattle.std.proofs.Common.{◌≡◌, ◌++◌, ◌∙◌, sym, ap, subst, List, arith}
+use Rattle.std.proofs.Common.{◌≡◌, ◌++◌, ◌∙◌, sym, ap, subst, List}
 use Rattle.std.proofs.lemmas.List.Elements.{All-from_recursion}
 use Rattle.std.specs.Prelude.{IsTrue}
 use Rattle.std.specs.List.{AllByRecursion}
-use Rattle.cad_rings.specs.Cycle.{Side, sides_of, placed, anchor_of}
+use Rattle.cad_rings.specs.Cycle.{Side, sides_of, placed}
 use Rattle.cad_rings.specs.SidesLeft.{sides_left}
 use Rattle.cad_rings.proofs.InMemory.{ends_of}
-use Rattle.cad_rings.proofs.CallerLemmas.{anchor_of-Contains}
 use Rattle.cad_map.specs.Map.{position_of, has_point}
-use Rattle.cad_map.proofs.CallerLemmas.{All-Contains}
 use Rattle.cad_valid.proofs.shapes.PlacedRing.of.Goals as goal
 
 pub loop-from-init : goal.loop-from-init
