@@ -138,7 +138,8 @@ module _ (P : Side → Face → Type 0) where
 abbrev both_sides : StringRow → List Side
 both_sides s = side_of_row s ∷ opposite (side_of_row s) ∷ []
 
-sides-labelled : (strings : List PlanString) → map (λ l. l.side) (labelled_sides strings) ≡ flat_map both_sides (map (λ s. s.row) strings)
+-- the sides of a plan's strings are those of their rows
+pub sides-labelled : (strings : List PlanString) → map (λ l. l.side) (labelled_sides strings) ≡ flat_map both_sides (map (λ s. s.row) strings)
 sides-labelled [] = refl
 sides-labelled (s ∷ strings) = ap (λ (l : List Side). side_of_row s.row ∷ opposite (side_of_row s.row) ∷ l) (sides-labelled strings)
 
@@ -220,7 +221,7 @@ module _ (m : Map) (strings : List PlanString) (sides : List FollowedSide) (bs :
 
   -- the rings that are made of the strings' sides are theirs
   pub has-rings : HasRingsOf m strings
-  has-rings = record { rows = rows; once = rings-once; canonical = rings-canonical; followers = rings-followers; left = rings-left; right = rings-right }
+  has-rings = record { rows = rows; two = subst (λ (l : List Boundary). AllByRecursion (λ b. 2 ≤ length b.ring) l) (sym lists) (two-canonical_order bs two); once = rings-once; canonical = rings-canonical; followers = rings-followers; left = rings-left; right = rings-right }
 
 -- ---- Rings of three points
 

@@ -1,9 +1,9 @@
 -- The sides of a plan without a bad corner or another label are sides that follow one another.
-use Rattle.std.proofs.Common.{◌≡◌, ◌≢◌, ℕ, ◌⊎◌, inl, inr, refl, sym, ap, subst, ◌∙◌, List, [], ◌∷◌, map, find, Option, Some, None, option_map, Bool, true, false, cond, not, nat_eq, ◌&&◌, ◌||◌, true≢false}
+use Rattle.std.proofs.Common.{◌≡◌, ◌≢◌, ℕ, ◌⊎◌, inl, inr, refl, sym, ap, subst, ◌∙◌, List, [], ◌∷◌, length, map, find, Option, Some, None, option_map, Bool, true, false, cond, not, nat_eq, ◌&&◌, ◌||◌, true≢false}
 use Rattle.std.proofs.lemmas.Bool.{eqb-true}
 use Rattle.std.proofs.lemmas.Cmp.{nat_eq_equiv}
 use Rattle.std.proofs.lemmas.Slice.Eq.{bytes_eq-Decides}
-use Rattle.std.specs.Prelude.{if◌then◌else◌}
+use Rattle.std.specs.Prelude.{if◌then◌else◌, ◌==◌}
 use Rattle.std.specs.List.{AllByRecursion, Contains, list_any}
 use Rattle.std.specs.Str.{bytes_eq as is_same_list}
 use Rattle.cad_rows.specs.declared.names.Face.{Face}
@@ -136,6 +136,18 @@ module _ (m : Map) where
       by again true is = let some : Some s.1 ≡ None = sym (ap here is) ∙ none in cc
       by again false is = (is, again (sym (ap here is) ∙ none))
 
+  good-one : (earlier : List Side) (s : Side) → is_bad_corner m earlier s ≡ false → (length (followers m s) == 1) ≡ true
+  good-one earlier s good = not-false _ (or-false _ _ (or-false _ _ good).0).1
+    where
+      not-false : (b : Bool) → not b ≡ false → b ≡ true
+      not-false true h = refl
+      not-false false h = absurd (true≢false h)
+
+  -- a good side has one follower
+  good-ones : (earlier sides : List Side) → AreGood earlier sides → AllByRecursion (λ s. (length (followers m s) == 1) ≡ true) sides
+  good-ones earlier [] good = tt
+  good-ones earlier (s ∷ sides) good = (good-one earlier s good.0, good-ones (s ∷ earlier) sides good.1)
+
   -- what a good side has to each earlier one, each two sides have
   module _ (R : Side → Side → Type 0) (apart : (earlier : List Side) (s : Side) → is_bad_corner m earlier s ≡ false → AllByRecursion (λ t. R t s) earlier) where
     good-pairs : (earlier sides : List Side) → AreGood earlier sides → EachPair R sides × AllByRecursion (λ s. AllByRecursion (λ t. R t s) earlier) sides
@@ -208,6 +220,12 @@ pub sides-once : (m : Map) (strings : List PlanString) → bad_corner m strings 
 sides-once m strings none =
     let L = map (λ s. s.side) (labelled_sides strings) in
     (good-pairs m (λ a b. a ≢ b) (good-once m) [] L (good-each m [] L (no-bad m strings none))).0
+
+-- and each has one follower
+pub one-each : (m : Map) (strings : List PlanString) → bad_corner m strings ≡ None → AllByRecursion (λ s. (length (followers m s) == 1) ≡ true) (map (λ s. s.side) (labelled_sides strings))
+one-each m strings none =
+    let L = map (λ s. s.side) (labelled_sides strings) in
+    good-ones m [] L (good-each m [] L (no-bad m strings none))
 
 no-other : (m : Map) (strings : List PlanString) → other_label m strings ≡ None → AllByRecursion (λ s. keeps_face m (labelled_sides strings) s ≡ true) (labelled_sides strings)
 unfolding other_label

@@ -4,6 +4,8 @@ pub mod InputFacts
 pub mod DecimalFacts
 pub mod ListFacts
 pub mod PlanFacts
+pub mod SevenFields
+pub mod FewRecords
 pub mod RowFacts
 pub mod NameFacts
 pub mod ValidFacts
@@ -28,6 +30,7 @@ pub mod NoneDangling
 pub mod NoBadCorner
 pub mod NoOtherLabel
 pub mod BuiltAgain
+pub mod OneMap
 pub mod BuiltMap
 mod OutlineFacts
 mod FollowedRows

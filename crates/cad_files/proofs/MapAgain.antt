@@ -1,5 +1,5 @@
 -- A valid map is the map of its own rows.
-use Rattle.std.proofs.Common.{◌≡◌, ℕ, refl, sym, ap, subst, List, [], ◌∷◌, map, Option, Some, None}
+use Rattle.std.proofs.Common.{◌≡◌, ℕ, ◌≤◌, refl, sym, ap, subst, List, [], ◌∷◌, length, map, Option, Some, None, arith}
 use Rattle.std.specs.Prelude.{unwrap_or}
 use Rattle.std.specs.List.{Contains}
 use Rattle.cad_rows.specs.declared.names.Face.{Face}
@@ -8,7 +8,7 @@ use Rattle.cad_rows.specs.declared.rows.StringRow.{StringRow}
 use Rattle.cad_rings.specs.Cycle.{Side, opposite}
 use Rattle.cad_map.specs.Map.{Map, all_corners, left_face, right_face, side_of}
 use Rattle.cad_map.specs.Valid.{IsValid}
-use Rattle.cad_map.proofs.CallerLemmas.{All-from_each, Contains-first, map-Contains, both_sides, in_all, side-face}
+use Rattle.cad_map.proofs.CallerLemmas.{All-follows, All-from_each, Contains-first, map-Contains, both_sides, in_all, side-face}
 use Rattle.cad_files.specs.Follower.{followers}
 use Rattle.cad_files.specs.Building.{map_of, IsMapOf, plan_string_of, rows_of}
 use Rattle.cad_files.specs.declared.rows.PlanString.{PlanString}
@@ -48,6 +48,7 @@ module _ (m : Map) (valid : IsValid m) where
         retired = refl;
         rings = record {
           rows = sym (string_rows m m.strings);
+          two = All-follows (λ b. 3 ≤ length b.ring) (λ b. 2 ≤ length b.ring) (λ b three. omega (arith, three)) m.boundaries valid.sound.v5.three;
           once = valid.sound.v5.once;
           canonical = valid.sound.v1.canonical;
           followers = All-from_each (λ c. Contains (followers m (c.before, c.at)) c.after) (all_corners m) (λ c h. subst (λ (l : List ℕ). Contains l c.after) (sym (one_follower m valid c h)) (Contains-first c.after []));

@@ -1,5 +1,5 @@
 -- How the rings of a plan are found from its strings alone.
-use Rattle.std.specs.Prelude.{◌≡◌, ℕ, Bool, not, ◌&&◌, ◌||◌, ◌==◌, List, [], ◌∷◌, map, filter, IsPermutation, Some}
+use Rattle.std.specs.Prelude.{◌≡◌, ℕ, ◌≤◌, Bool, not, ◌&&◌, ◌||◌, ◌==◌, List, [], ◌∷◌, length, map, filter, IsPermutation, Some}
 use Rattle.std.specs.List.{list_all, flat_map, AllByRecursion, Contains}
 use Rattle.geo_exact.specs.Sector.{in_sector}
 use Rattle.cad_rows.specs.declared.names.Face.{Face}
@@ -46,6 +46,8 @@ labelled_sides strings =
 -- the map's rings are the cycles of followers of these strings, each in the face of its sides
 pub record HasRingsOf (m : Map) (strings : List PlanString) : Type 0 where
   pub rows : m.strings ≡ map (λ s. s.row) strings
+  -- a ring has two points at least
+  pub two : AllByRecursion (λ b. 2 ≤ length b.ring) m.boundaries
   -- each side of each string is in one ring, once, and no other side is in any
   pub once : IsPermutation (string_sides m) (all_sides m)
   pub canonical : canonical_order m.boundaries ≡ m.boundaries

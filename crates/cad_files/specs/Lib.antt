@@ -4,6 +4,7 @@ pub mod Rows
 pub mod Input
 pub mod PlanRecords
 pub mod Plan
+pub mod PlanMap
 pub mod Follower
 pub mod Building
 pub mod Line

@@ -1,12 +1,12 @@
 -- What a list of records is as a plan.
-use Rattle.std.specs.Prelude.{◌≡◌, ◌≢◌, ◌⊎◌, ℕ, ◌+◌, ◌&&◌, nat_le, nat_lt, Bool, true, false, List, [], ◌∷◌, ◌++◌, length, fold, Option, Some, None, option_map, option_and_then, if◌then◌else◌, ℤ, pos, neg_ℤ, int_le}
+use Rattle.std.specs.Prelude.{◌≡◌, ◌≢◌, ◌≤◌, ℕ, ◌+◌, ◌&&◌, nat_le, nat_lt, Bool, true, false, List, [], ◌∷◌, ◌++◌, length, fold, Option, Some, None, option_map, option_and_then, if◌then◌else◌, ℤ, pos, neg_ℤ, int_le}
 use Rattle.geo_exact.specs.Position.{coordinate_limit}
 use Rattle.cad_rows.specs.Limits.{row_limit, string_limit, source_limit}
 use Rattle.cad_rows.specs.declared.rows.SourceRow.{SourceRow}
 use Rattle.cad_files.specs.Record.{seven_of}
 use Rattle.cad_files.specs.PlanRecords.{version_of, plan_of_fields}
-use Rattle.cad_files.specs.Input.{BeginsWith, IsWhole}
-use Rattle.cad_files.specs.Rows.{Rows, no_rows}
+use Rattle.cad_files.specs.Input.{BeginsWith, IsWhole, AreTaken}
+use Rattle.cad_files.specs.Rows.{Rows, no_rows, plan_limit}
 use Rattle.cad_files.specs.declared.plan_records.Version.{Version}
 use Rattle.cad_files.specs.declared.plan_records.Version.TheVariants.{One, Two}
 use Rattle.cad_files.specs.declared.plan_records.PointRecord.{PointRecord}
@@ -135,12 +135,20 @@ is_unfinished (opened rows) = false
 is_unfinished passed = false
 is_unfinished (faulty fault) = false
 
--- The text's plan has this fault: its first records do, or it ends before `open`.
-abbrev pub HasPlanFault : List ℕ → PlanFault → Type 0
-HasPlanFault text fault =
-    ((rows : List (List (List ℕ))) × BeginsWith text rows × (plan_of rows ≡ faulty fault))
-    ⊎ ((fault ≡ faults.NoOpen) × (rows : List (List (List ℕ))) × IsWhole text rows
-    × (is_unfinished (plan_of rows) ≡ true))
+-- the text's plan has this fault
+pub data HasPlanFault (text : List ℕ) : PlanFault → Type 0 where
+  -- the first record at fault: at most the 600,002nd
+  of_record : (before : List (List (List ℕ))) (fields : List (List ℕ)) {fault : PlanFault}
+      → AreTaken text (before ++ fields ∷ []) → length before ≤ plan_limit + 1
+      → is_unfinished (plan_of before) ≡ true → plan_of (before ++ fields ∷ []) ≡ faulty fault
+      → HasPlanFault text fault
+  -- the first record, which hasn't seven fields
+  of_first : (fields : List (List ℕ)) → BeginsWith text (fields ∷ []) → length fields ≢ 7
+      → HasPlanFault text (faults.Syntax 1)
+  -- the text ends before `open`
+  of_end : (rows : List (List (List ℕ))) → AreTaken text rows → IsWhole text rows
+      → length rows ≤ plan_limit + 1 → is_unfinished (plan_of rows) ≡ true
+      → HasPlanFault text faults.NoOpen
 
 -- the same, where neither the reader nor memory failed
 abbrev pub IsPlanFault : List ℕ → PlanFault → Type 0

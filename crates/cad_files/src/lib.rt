@@ -42,6 +42,6 @@ pub use outline_texts::outline_text;
 pub use plan::read_plan;
 pub use plan_map::build;
 pub use plan_records::{ParcelRecord, PlanRecord, PointRecord, StringRecord, Version};
-pub use plan_texts::{plan_text, plans_again};
+pub use plan_texts::{one_plan, plan_text, plans_again};
 pub use rows::{PlanRows, PlanString};
 pub use sink::{MemSink, Sink, SinkFault, write_all};

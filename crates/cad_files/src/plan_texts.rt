@@ -1,11 +1,13 @@
 //! The text of a map's plan.
-ghost use Rattle.std.specs.Prelude.{◌≡◌, ◌<◌, length, slice_get, OnOk, IfOk, IfSome, map, decimal};
+ghost use Rattle.std.specs.Prelude.{◌≡◌, ◌<◌, ℕ, List, length, slice_get, OnOk, IfOk, IfSome, map, decimal};
 ghost use Rattle.cad_files.specs.Texts.{HasAppended, record_text, text_of, face_field, source_record, point_record, parcel_record, string_record, retired_record, records_of, plan_records};
 ghost use Rattle.cad_map.specs.Map.{Map};
 ghost use Rattle.cad_map.specs.Valid.{IsValid};
 ghost use Rattle.cad_files.specs.Input.{IsWhole};
 ghost use Rattle.cad_files.specs.Plan.{plan_of, opened};
 ghost use Rattle.cad_files.specs.Building.{rows_of, IsBuilt};
+ghost use Rattle.cad_files.specs.PlanMap.{IsPlanOf, IsFaultOf};
+ghost use Rattle.cad_files.specs.declared.faults.PlanFault.{PlanFault};
 
 use crate::list_texts::list_text;
 use crate::writing::{begun, finished, write_record};
@@ -194,9 +196,20 @@ pub fn plan_text<M: MapView>(alloc: Global, view: &M) -> Result<Vec<u8>, Memory>
 }
 
 /// The text of a map's plan is read as its records; those of a valid map give its rows again, in their
-/// order, and the rows the map.
+/// order, and the rows the map, and no other.
 pub fn plans_again()
     ensures text { (m : Map) → IsWhole (text_of (plan_records m)) (plan_records m) }
     ensures read { (m : Map) → IsValid m → plan_of (plan_records m) ≡ opened (rows_of m) }
     ensures built { (m : Map) → IsValid m → IsBuilt (rows_of m) m }
+    ensures only { (m n : Map) → IsValid m → IsPlanOf (plan_records m) n → n ≡ m }
+{}
+
+/// A list of records comes to one thing as a plan: one map, or one fault, and never both.
+pub fn one_plan()
+    ensures map { (records : List (List (List ℕ))) (m n : Map) → IsPlanOf records m
+        → IsPlanOf records n → m ≡ n }
+    ensures fault { (records : List (List (List ℕ))) (f g : PlanFault) → IsFaultOf records f
+        → IsFaultOf records g → f ≡ g }
+    ensures either { (records : List (List (List ℕ))) (m : Map) (f : PlanFault)
+        → IsPlanOf records m → ¬ IsFaultOf records f }
 {}

@@ -1,18 +1,20 @@
 -- From the parts of a job to the whole.
-use Rattle.std.proofs.Common.{◌≡◌, ◌≢◌, ◌∙◌, sym, ap, refl, ℕ, List, [], ◌++◌, append-nil, Option, Some, None, Result, Ok, Err, inl, inr, ◌⊎◌, IfSome, IfOk, option_map, false, length}
+use Rattle.std.proofs.Common.{◌≡◌, ◌≢◌, ◌≤◌, ◌∙◌, sym, ap, refl, ℕ, List, [], ◌∷◌, ◌++◌, append-nil, append_assoc, subst, Option, Some, None, Result, Ok, Err, inl, inr, ◌⊎◌, IfSome, IfOk, option_map, false, length}
 use Rattle.std.proofs.lemmas.List.Elements.{All-nil}
 use Rattle.csv.specs.Reading.{Reached, default_config, source_of, strip_bom, reader_trim, reader_config, reader_state, is_flexible, names_headers, reader_headers, expected_len}
 use Rattle.csv.specs.declared.reader.Reader.{Reader}
 use Rattle.csv.specs.declared.reader.Trim.TheVariants as trim
 use Rattle.csv.specs.declared.parser.State.TheVariants as st
 use Rattle.cad_map.specs.Map.{Map}
-use Rattle.cad_files.specs.Input.{HasRead, BeginsWith}
+use Rattle.cad_files.specs.Input.{HasRead, AreTaken}
 use Rattle.cad_files.specs.Rows.{Rows}
 use Rattle.cad_files.specs.Plan.{plan_of, opened}
 use Rattle.cad_files.specs.Building.{IsBuilt}
 use Rattle.cad_files.specs.declared.faults.PlanFault.{PlanFault}
 use Rattle.cad_files.specs.declared.faults.PlanFault.TheVariants as plan_faults
-use Rattle.cad_job.specs.Jobs.{DoesScript, DoesJob, IsFaultyPlan, IsJobText, BeginsJobText, job_fault}
+use Rattle.cad_files.proofs.FewRecords.{few-opened}
+use Rattle.cad_files.proofs.SevenFields.{taken, taken-plan}
+use Rattle.cad_job.specs.Jobs.{DoesScript, DoesJob, IsFaultyPlan, IsJobText, BeginsJobText, job_fault, script_limit}
 use Rattle.cad_job.specs.declared.faults.JobFault.{JobFault}
 use Rattle.cad_job.specs.declared.faults.JobFault.TheVariants as faults
 
@@ -28,12 +30,12 @@ if_ok_follows P Q (Err e) follows holds = tt
 -- what was done of a script was done of the job
 pub script_job : {X : Type 0} (result : Result X JobFault) (text : List ℕ) (plan : List (List (List ℕ))) (rows : Rows) (m : Map) (depth : ℕ) (written : List ℕ)
     → plan_of plan ≡ opened rows → IsBuilt rows m → DoesScript text plan m depth written result → DoesJob text depth written result
-script_job (Ok x) text plan rows m depth written p b h = (plan, rows, m, p, b, h)
+script_job (Ok x) text plan rows m depth written p b h = (plan, rows, m, p, few-opened plan rows p, b, h)
 script_job (Err (faults.Plan fault)) text plan rows m depth written p b h = absurd h
-script_job (Err faults.Read) text plan rows m depth written p b h = inr (plan, rows, m, p, b, h)
-script_job (Err faults.Long) text plan rows m depth written p b h = (plan, rows, m, p, b, h)
-script_job (Err faults.Write) text plan rows m depth written p b h = (plan, rows, m, p, b, h)
-script_job (Err faults.Memory) text plan rows m depth written p b h = inr (plan, rows, m, p, b, h)
+script_job (Err faults.Read) text plan rows m depth written p b h = inr (plan, rows, m, p, few-opened plan rows p, b, h)
+script_job (Err faults.Long) text plan rows m depth written p b h = (plan, rows, m, p, few-opened plan rows p, b, h)
+script_job (Err faults.Write) text plan rows m depth written p b h = (plan, rows, m, p, few-opened plan rows p, b, h)
+script_job (Err faults.Memory) text plan rows m depth written p b h = inr (plan, rows, m, p, few-opened plan rows p, b, h)
 
 -- a fault of the plan ends the job with nothing written
 pub fault_job : (X : Type 0) (fault : PlanFault) (text : List ℕ) (depth : ℕ) → (fault ≢ plan_faults.Read → fault ≢ plan_faults.Memory → IsFaultyPlan text fault) → DoesJob {X = X} text depth [] (Err (job_fault fault))
@@ -73,9 +75,30 @@ front-whole m depth script written told = (written, told, ([], sym (append-nil w
 
 -- a script's end, or a write fault in its place
 pub flushed_does : {X : Type 0} (end result : Result X JobFault) (text : List ℕ) (plan script : List (List (List ℕ))) (m : Map) (depth : ℕ) (written : List ℕ) (P Q : Type 0)
-    → BeginsWith text (plan ++ script) → IsJobText m depth script written → DoesScript text plan m depth written end → ((result ≡ end) × P) ⊎ ((result ≡ Err faults.Write) × Q) → DoesScript text plan m depth written result
-flushed_does end result text plan script m depth written P Q begins told does (inl h) = rw h.0 does
-flushed_does end result text plan script m depth written P Q begins told does (inr h) = rw h.0 (script, begins, front-whole m depth script written told)
+    → AreTaken text (plan ++ script) → length script ≤ script_limit → IsJobText m depth script written → DoesScript text plan m depth written end → ((result ≡ end) × P) ⊎ ((result ≡ Err faults.Write) × Q) → DoesScript text plan m depth written result
+flushed_does end result text plan script m depth written P Q taken few told does (inl h) = rw h.0 does
+flushed_does end result text plan script m depth written P Q taken few told does (inr h) = rw h.0 (script, taken, few, front-whole m depth script written told)
+
+-- the records of a job that stand behind an open plan
+pub job_taken : {R : Type 0} (rem : R → Option (List ℕ)) (text : List ℕ) (plan script : List (List (List ℕ))) (reader : Reader R) (rows : Rows)
+    → plan_of plan ≡ opened rows → HasRead rem text (plan ++ script) reader → AreTaken text (plan ++ script)
+job_taken rem text plan script reader rows opens read = taken rem text plan script reader (opened rows) opens (λ e. cc e) (λ e. cc e) read
+
+-- and with one record more
+pub job_taken_more : {R : Type 0} (rem : R → Option (List ℕ)) (text : List ℕ) (plan script : List (List (List ℕ))) (fields : List (List ℕ)) (reader : Reader R) (rows : Rows)
+    → plan_of plan ≡ opened rows → HasRead rem text (plan ++ script ++ fields ∷ []) reader → AreTaken text (plan ++ (script ++ fields ∷ []))
+job_taken_more rem text plan script fields reader rows opens read =
+    job_taken rem text plan (script ++ fields ∷ []) reader rows opens (subst (λ (l : List (List (List ℕ))). HasRead rem text l reader) (append_assoc plan script (fields ∷ [])) read)
+
+pub job_taken_next : {R : Type 0} (rem : R → Option (List ℕ)) (text : List ℕ) (plan script : List (List (List ℕ))) (fields : List (List ℕ)) (reader : Reader R) (rows : Rows)
+    → plan_of plan ≡ opened rows → HasRead rem text (plan ++ script ++ fields ∷ []) reader → AreTaken text (plan ++ script ++ fields ∷ [])
+job_taken_next rem text plan script fields reader rows opens read =
+    subst (λ (l : List (List (List ℕ))). AreTaken text l) (sym (append_assoc plan script (fields ∷ []))) (job_taken_more rem text plan script fields reader rows opens read)
+
+-- the records of an open plan
+pub job_read : {R : Type 0} (rem : R → Option (List ℕ)) (text : List ℕ) (plan : List (List (List ℕ))) (reader : Reader R) (rows : Rows)
+    → plan_of plan ≡ opened rows → HasRead rem text plan reader → AreTaken text plan
+job_read rem text plan reader rows opens read = taken-plan rem text plan reader (opened rows) opens (λ e. cc e) (λ e. cc e) read
 
 -- a new reader has read nothing
 pub has_read-start : {R : Type 0} (rem : R → Option (List ℕ)) (reader : Reader R) (input : Option (List ℕ)) (text : List ℕ)

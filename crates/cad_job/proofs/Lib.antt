@@ -1,3 +1,2 @@
 mod JobFacts
-mod SevenFacts
 mod ScriptFacts

@@ -1,5 +1,5 @@
 -- What a job does with an input.
-use Rattle.std.specs.Prelude.{◌≡◌, ◌≢◌, ◌⊎◌, ℕ, List, [], ◌∷◌, ◌++◌, length, All, Option, Some, None, Result, Ok, Err}
+use Rattle.std.specs.Prelude.{◌≡◌, ◌≢◌, ◌⊎◌, ◌≤◌, ℕ, ◌+◌, List, [], ◌∷◌, ◌++◌, length, Option, Some, None, Result, Ok, Err}
 use Rattle.cad_rows.specs.declared.refusals.Refusal.TheVariants as refusal
 use Rattle.cad_rows.specs.declared.names.Face.{Face}
 use Rattle.cad_map.specs.Map.{Map}
@@ -8,9 +8,9 @@ use Rattle.cad_history.specs.Steps.{Step}
 use Rattle.cad_history.specs.declared.commands.Command.{Command}
 use Rattle.cad_history.specs.declared.commands.Answer.{Answer}
 use Rattle.cad_history.specs.declared.commands.Answer.TheVariants as answer
-use Rattle.cad_files.specs.Input.{BeginsWith, IsWhole}
+use Rattle.cad_files.specs.Input.{IsWhole, AreTaken}
 use Rattle.cad_files.specs.Sinks.{IsFront}
-use Rattle.cad_files.specs.Rows.{Rows}
+use Rattle.cad_files.specs.Rows.{Rows, plan_limit}
 use Rattle.cad_files.specs.Plan.{plan_of, opened, HasPlanFault}
 use Rattle.cad_files.specs.Building.{IsBuilt, IsBuildFault}
 use Rattle.cad_files.specs.Line.{line_of}
@@ -56,29 +56,32 @@ BeginsJobText m depth script written = (whole : List ℕ) × IsJobText m depth s
 
 -- ---- The job
 
--- What was written for a text whose records begin with a plan of this map.
--- Done: the answers to all the records of the script.
+-- the most records of a script
+abbrev pub script_limit : ℕ
+script_limit = 1000000
+
+-- What was written for a text whose records begin with a plan of this map, and which records of its script were taken: each of all these has seven fields.
+-- Done: the answers to all the records of the script, at most 1,000,000.
 -- Read: the answers to the records before.
 -- Long: the answers to the first 1,000,000 records, and there is one more.
 -- Write and Memory: a front of the answers to some first records.
 abbrev pub DoesScript : {X : Type 0} → List ℕ → List (List (List ℕ)) → Map → ℕ → List ℕ → Result X JobFault → Type 0
-DoesScript text plan m depth written (Ok _) = (script : List (List (List ℕ))) × IsWhole text (plan ++ script)
-    × All (λ fields. length fields ≡ 7) (plan ++ script) × IsJobText m depth script written
+DoesScript text plan m depth written (Ok _) = (script : List (List (List ℕ))) × IsWhole text (plan ++ script) × AreTaken text (plan ++ script) × (length script ≤ script_limit) × IsJobText m depth script written
 DoesScript text plan m depth written (Err (fault.Plan f)) = ⊥
-DoesScript text plan m depth written (Err fault.Read) = (script : List (List (List ℕ))) × BeginsWith text (plan ++ script) × IsJobText m depth script written
-DoesScript text plan m depth written (Err fault.Long) = (script : List (List (List ℕ))) × (next : List (List ℕ)) × (length script ≡ 1000000)
-    × BeginsWith text (plan ++ script ++ next ∷ []) × IsJobText m depth script written
-DoesScript text plan m depth written (Err fault.Write) = (script : List (List (List ℕ))) × BeginsWith text (plan ++ script) × BeginsJobText m depth script written
-DoesScript text plan m depth written (Err fault.Memory) = (script : List (List (List ℕ))) × BeginsWith text (plan ++ script) × BeginsJobText m depth script written
+DoesScript text plan m depth written (Err fault.Read) = (script : List (List (List ℕ))) × AreTaken text (plan ++ script) × (length script ≤ script_limit) × IsJobText m depth script written
+DoesScript text plan m depth written (Err fault.Long) = (script : List (List (List ℕ))) × (next : List (List ℕ)) × AreTaken text (plan ++ script ++ next ∷ []) × (length script ≡ script_limit) × IsJobText m depth script written
+DoesScript text plan m depth written (Err fault.Write) = (script : List (List (List ℕ))) × AreTaken text (plan ++ script) × (length script ≤ script_limit) × BeginsJobText m depth script written
+DoesScript text plan m depth written (Err fault.Memory) = (script : List (List (List ℕ))) × AreTaken text (plan ++ script) × (length script ≤ script_limit) × BeginsJobText m depth script written
 
--- the text was a plan of a valid map, and the rest was done as a script
+-- the text was a plan of a valid map, of at most 600,002 records, and the rest was done as a script
 abbrev pub DoesPlanned : {X : Type 0} → List ℕ → ℕ → List ℕ → Result X JobFault → Type 0
-DoesPlanned text depth written result = (plan : List (List (List ℕ))) × (rows : Rows) × (m : Map) × (plan_of plan ≡ opened rows) × IsBuilt rows m × DoesScript text plan m depth written result
+DoesPlanned text depth written result =
+    (plan : List (List (List ℕ))) × (rows : Rows) × (m : Map) × (plan_of plan ≡ opened rows) × (length plan ≤ plan_limit + 2) × IsBuilt rows m × DoesScript text plan m depth written result
 
 -- the text's plan has this fault: in its records, or in the map of its rows
 abbrev pub IsFaultyPlan : List ℕ → PlanFault → Type 0
 IsFaultyPlan text f =
-    HasPlanFault text f ⊎ ((plan : List (List (List ℕ))) × (rows : Rows) × BeginsWith text plan × (plan_of plan ≡ opened rows) × IsBuildFault rows f)
+    HasPlanFault text f ⊎ ((plan : List (List (List ℕ))) × (rows : Rows) × AreTaken text plan × (plan_of plan ≡ opened rows) × (length plan ≤ plan_limit + 2) × IsBuildFault rows f)
 
 -- The same of a whole job. Plan: nothing was written, and the plan has that fault.
 -- Read and Memory may also come before the script, and then nothing was written.

@@ -6,7 +6,7 @@ use Rattle.geo_exact.specs.Measure.{doubled_area}
 use Rattle.cad_rows.specs.declared.rows.ParcelRow.{ParcelRow}
 use Rattle.cad_rows.specs.declared.names.Face.TheVariants.{Parcel}
 use Rattle.cad_map.specs.Map.{sum_of_face}
-use Rattle.cad_map.proofs.CallerLemmas.{row_with-there}
+use Rattle.cad_map.proofs.CallerLemmas.{row_with-there, whole_valid}
 use Rattle.cad_files.specs.Texts.{record_text, text_of}
 use Rattle.cad_files.specs.Reports.{area_record}
 use Rattle.cad_files.proofs.TextFacts.{text_of-more}
@@ -15,6 +15,9 @@ use Rattle.cad_files.proofs.areas.write_areas.Goals as goal
 fits_within : (z : ℤ) → unsigned_abs z ≤ 80000000000000000000000000 → FitsSigned w128 z
 fits_within (pos n) h = omega (arith, ints)
 fits_within (negsuc n) h = omega (arith, ints)
+
+pub sum_of-requires : goal.sum_of-requires
+sum_of-requires g c = whole_valid (g.M.MapView.map c.args.view.now) c.requires
 
 pub unwrap-a2-requires : goal.unwrap-a2-requires
 unwrap-a2-requires g c =

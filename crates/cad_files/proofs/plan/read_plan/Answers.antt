@@ -1,13 +1,31 @@
-use Rattle.std.proofs.Common.{◌++◌, ◌∷◌, [], refl, ap, inl, inr, arith}
+use Rattle.std.proofs.Common.{◌≡◌, ◌≢◌, ◌++◌, ◌∷◌, [], ℕ, List, length, refl, ap, sym, ◌∙◌, inl, inr, arith, true}
+use Rattle.std.proofs.lemmas.List.Elements.{All-nil}
 use Rattle.csv.specs.Records.{fields_of}
-use Rattle.cad_files.specs.Plan.{beginning, is_unfinished}
+use Rattle.cad_files.specs.Plan.{Plan, beginning, reading, opened, faulty, plan_of, is_unfinished}
+use Rattle.cad_files.specs.Plan.HasPlanFault.{of_record, of_first, of_end}
+use Rattle.cad_files.specs.declared.faults.PlanFault.TheVariants as faults
 use Rattle.cad_files.proofs.InputFacts.{begins}
 use Rattle.cad_files.proofs.PlanFacts.{plan_of-more, fewer_left}
+use Rattle.cad_files.proofs.SevenFields.{first-other, seven_or_not, taken-first, taken, taken-plan}
+use Rattle.cad_files.proofs.FewRecords.{few-reading}
 use Rattle.cad_files.proofs.plan.read_plan.Goals as goal
+
+pub returns-in-Ok-false-clause-err : goal.returns-in-Ok-false-clause-err
+returns-in-Ok-false-clause-err g c = λ text h nr nm.
+    let whole = c.in-Ok-false.ensures.ends c.in-Ok-false.field-0-test text [] h in
+    of_end [] (record { begins = begins _ _ _ _ h; seven = All-nil (λ (fields : List (List ℕ)). length fields ≡ 7) }) whole (omega arith) refl
 
 pub returns-in-Err-clause-err : goal.returns-in-Err-clause-err
 returns-in-Err-clause-err g c = λ text h nr nm.
-    inl (fields_of c.next_row.new.row ∷ [], begins _ _ _ _ (c.in-Ok-true.ensures.more c.in-Ok-true.field-0-test text [] h), plan_of-more [] _ beginning _ refl c.in-Err.ensures.err)
+    let fields = fields_of c.next_row.new.row in
+    let read = c.in-Ok-true.ensures.more c.in-Ok-true.field-0-test text [] h in
+    elim (seven_or_not fields) [
+      | inl seven ↦ of_record [] fields (taken-first _ text fields _ read seven) (omega arith) refl (plan_of-more [] _ beginning _ refl c.in-Err.ensures.err)
+      | inr other ↦
+          let same : faulty (faults.Syntax 1) ≡ faulty c.in-Err.fault = sym (first-other fields other) ∙ c.in-Err.ensures.err in
+          let is : faults.Syntax 1 ≡ c.in-Err.fault = cc in
+          rw (sym is) (of_first fields (begins _ _ _ _ read) other)
+    ]
 
 pub loop-rows-init : goal.loop-rows-init
 loop-rows-init g c = record {
@@ -19,7 +37,7 @@ loop-rows-init g c = record {
 pub returns-in-Ok-false-next_row-clause-err : goal.returns-in-Ok-false-next_row-clause-err
 returns-in-Ok-false-next_row-clause-err g c = λ text h nr nm.
     let (rows, read, p) = c.loop-rows.invariant.read text h in
-    inr (refl, rows, c.in-Ok-false-next_row.ensures.ends c.in-Ok-false-next_row.field-0-test text rows read, ap is_unfinished p)
+    of_end rows (taken-plan _ text rows _ _ p (λ e. cc e) (λ e. cc e) read) (c.in-Ok-false-next_row.ensures.ends c.in-Ok-false-next_row.field-0-test text rows read) (few-reading rows _ _ _ p) (ap is_unfinished p)
 
 pub returns-in-Ok-false-take_row-clause-ok : goal.returns-in-Ok-false-take_row-clause-ok
 returns-in-Ok-false-take_row-clause-ok g c = λ text h.
@@ -30,11 +48,9 @@ returns-in-Ok-false-take_row-clause-ok g c = λ text h.
 pub returns-in-Err-take_row-clause-err : goal.returns-in-Err-take_row-clause-err
 returns-in-Err-take_row-clause-err g c = λ text h nr nm.
     let (rows, read, p) = c.loop-rows.invariant.read text h in
-    inl (
-      rows ++ (fields_of c.next_row-in-loop-rows.new.row ∷ []),
-      begins _ _ _ _ (c.in-Ok-true-next_row.ensures.more c.in-Ok-true-next_row.field-0-test text rows read),
-      plan_of-more rows _ _ _ p (c.in-Err-take_row.ensures.err nm),
-    )
+    let fields = fields_of c.next_row-in-loop-rows.new.row in
+    let more = c.in-Ok-true-next_row.ensures.more c.in-Ok-true-next_row.field-0-test text rows read in
+    of_record rows fields (taken _ text rows (fields ∷ []) _ _ p (λ e. cc e) (λ e. cc e) more) (few-reading rows _ _ _ p) (ap is_unfinished p) (plan_of-more rows _ _ _ p (c.in-Err-take_row.ensures.err nm))
 
 pub loop-rows-smaller : goal.loop-rows-smaller
 loop-rows-smaller g c =

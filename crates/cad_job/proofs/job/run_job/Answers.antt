@@ -1,8 +1,8 @@
 use Rattle.std.proofs.Common.{◌∙◌, [], inl, inr}
 use Rattle.csv.specs.Reading.{strip_bom}
 use Rattle.std.proofs.KnownBytes.{Appends-nil}
-use Rattle.cad_files.proofs.InputFacts.{begins}
-use Rattle.cad_job.proofs.JobFacts.{if_some, script_job, fault_job, has_read-start}
+use Rattle.cad_files.proofs.FewRecords.{few-opened}
+use Rattle.cad_job.proofs.JobFacts.{if_some, script_job, fault_job, has_read-start, job_read}
 use Rattle.cad_job.proofs.job.run_job.Goals as goal
 
 pub returns-in-Err-clause-does : goal.returns-in-Err-clause-does
@@ -19,8 +19,12 @@ returns-in-Err-build-clause-does g c = if_some _ _ (λ input known.
     let e = c.has_headers.ensures in
     let start = has_read-start g.R.Read.remaining c.from_reader-reader.result (g.R.Read.remaining c.args.reader) input
     (rw e at fr.trim ∙ c.new.ensures.trim) (rw e at fr.has_headers) fr.headers (rw e at fr.config ∙ c.new.ensures.config) (rw e at fr.flexible ∙ c.new.ensures.flexible) fr.state fr.source known in
-    let (plan, read, opens) = c.in-Ok.ensures.ok (strip_bom input) start in
-    ([], Appends-nil _, rw c.fault_of_plan-in-Err-build.ensures (fault_job (Unit {0}) c.in-Err-build.fault (strip_bom input) c.args.depth (λ _ memory. inr (plan, _, begins _ _ _ _ read, opens, c.in-Err-build.ensures.err memory)))))
+    let (plan, read, opens) = c.in-Ok.ensures.ok (strip_bom input) start in (
+      [],
+      Appends-nil _,
+      rw c.fault_of_plan-in-Err-build.ensures (fault_job (Unit {0}) c.in-Err-build.fault (strip_bom input) c.args.depth (λ _ memory. let read_all = job_read g.R.Read.remaining (strip_bom input) plan _ _ opens read in
+          inr (plan, _, read_all, opens, few-opened plan _ opens, c.in-Err-build.ensures.err memory))),
+    ))
 
 pub returns-clause-does : goal.returns-clause-does
 returns-clause-does g c = if_some _ _ (λ input known.
