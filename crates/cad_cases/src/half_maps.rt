@@ -1,10 +1,10 @@
-//! Maps on half-edges that are made of worked plans: what they show, and the halves of an island.
+//! Maps on half-edges that are made of plain ones: what they show, and the halves of an island.
 ghost use Rattle.std.specs.Prelude.{◌≡◌, true, IfOk};
 ghost use Rattle.cad_map.specs.Valid.{IsValid};
 ghost use Rattle.cad_surgery.specs.Parts.{map_of as map_that_stands};
 ghost use Rattle.half_table.specs.Rows.{has};
 
-use crate::bases::{ISLAND, OPEN, PINCH, PLAN, SQUARE};
+use crate::bases::{ISLAND, OPEN, PLAN, SQUARE};
 use crate::cases::lines;
 use crate::history::map_of;
 use cad_files::{area_text, outline_text, plan_text};
@@ -40,35 +40,27 @@ fn are_outlines_same(
     Ok(one.as_slice() == other.as_slice())
 }
 
-// Compares all that a plan's map shows with what it shows on half-edges.
-fn compare<R: Abort + AllocGlobal>(rt: &R, plan: &[&str]) -> Result<(), Fail> {
+/// Fails where a map on half-edges shows another plan text, other areas or other outlines than the plain map that it is
+/// made of.
+pub(crate) fn compare<R: Abort + AllocGlobal>(rt: &R, map: &PlainMap) -> Result<(), Fail>
+    requires { IsValid map.now }
+{
     let alloc = rt.alloc();
-    let plan = lines(alloc, plan)?;
-    let map = map_of(alloc, plan.as_slice())?;
-    let halves = half_map_of(alloc, &map)?;
-    let text = plan_text(alloc, &map)?;
+    let halves = half_map_of(alloc, map)?;
+    let text = plan_text(alloc, map)?;
     let again = plan_text(alloc, &halves)?;
     assert!(rt; text.as_slice() == again.as_slice());
-    let areas = area_text(alloc, &map)?;
+    let areas = area_text(alloc, map)?;
     let too = area_text(alloc, &halves)?;
     assert!(rt; areas.as_slice() == too.as_slice());
-    let same = are_outlines_same(alloc, &map, &halves, &Face::Outside)?;
+    let same = are_outlines_same(alloc, map, &halves, &Face::Outside)?;
     assert!(rt; same);
     for place in 0..map.counts().parcels {
         let parcel = map.parcel_at(place).unwrap().number;
-        let same = are_outlines_same(alloc, &map, &halves, &Face::Parcel(parcel))?;
+        let same = are_outlines_same(alloc, map, &halves, &Face::Parcel(parcel))?;
         assert!(rt; same);
     }
     Ok(())
-}
-
-#[test]
-fn half_maps_show_their_plans(rt: HostRuntime) -> Result<(), Fail> {
-    compare(&rt, &[PLAN, OPEN])?;
-    compare(&rt, &[PLAN, SQUARE, OPEN])?;
-    compare(&rt, &[PLAN, SQUARE, ISLAND, OPEN])?;
-    compare(&rt, &[PLAN, PINCH, OPEN])?;
-    compare(&rt, &[PLAN, "retired,7", SQUARE, "retired,9", OPEN])
 }
 
 #[test]

@@ -38,7 +38,11 @@ pub(crate) fn map_of(alloc: Global, plan: &[u8]) -> Result<PlainMap, Fail>
 }
 
 /// An editor of the store's map.
-fn editor_of<M: MapStore + Drop>(alloc: Global, store: M, depth: Depth) -> Result<Editor<M>, Memory>
+pub(crate) fn editor_of<M: MapStore + Drop>(
+    alloc: Global,
+    store: M,
+    depth: Depth,
+) -> Result<Editor<M>, Memory>
     requires { IsValid (M.map store) }
     ensures { IfOk result (StandsForSome M.map M.belongs) }
 {
@@ -49,7 +53,7 @@ fn editor_of<M: MapStore + Drop>(alloc: Global, store: M, depth: Depth) -> Resul
 }
 
 /// The command that a record asks for.
-fn command_of(alloc: Global, record: &str) -> Result<Command, Fail> {
+pub(crate) fn command_of(alloc: Global, record: &str) -> Result<Command, Fail> {
     let text = lines(alloc, &[record])?;
     let mut reader = ReaderBuilder::new()
         .has_headers(false)

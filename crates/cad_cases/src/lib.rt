@@ -16,6 +16,8 @@ mod dividing;
 #[cfg(test)]
 mod enclosing;
 #[cfg(test)]
+mod every_map;
+#[cfg(test)]
 mod faults;
 #[cfg(test)]
 mod files;
@@ -25,6 +27,8 @@ mod half_maps;
 mod history;
 #[cfg(test)]
 mod merging;
+#[cfg(test)]
+mod near_checks;
 #[cfg(test)]
 mod plans;
 #[cfg(test)]

@@ -1,9 +1,10 @@
 //! The map that an edit makes of a map.
-ghost use Rattle.std.specs.Prelude.{◌≡◌, None, IfOk, OnOk};
+ghost use Rattle.std.specs.Prelude.{◌≡◌, ◌⊎◌, Some, None, IfOk, IfErr, OnOk};
 ghost use Rattle.std.specs.List.{AllByRecursion};
-ghost use Rattle.cad_map.specs.Valid.{IsValid};
+ghost use Rattle.cad_map.specs.Valid.{IsValid, CanBeTested};
 ghost use Rattle.geo_exact.specs.Position.{OnTheMap};
 ghost use Rattle.cad_rows.specs.Limits.{IsNumber};
+ghost use Rattle.cad_rows.specs.declared.refusals.Refusal.TheVariants.{Memory as OutOfMemory};
 ghost use Rattle.cad_map.specs.Refusals.{first_refusal as first_refusal_of};
 ghost use Rattle.cad_map.specs.Effects.{after};
 ghost use Rattle.cad_map.specs.Asked.{GivesInRange};
@@ -19,12 +20,39 @@ use crate::edits::points::{add_point, move_point};
 use crate::edits::sources::{SourceChange, add_source, change_sources};
 use crate::edits::split::{Halves, split};
 use crate::parcels::NewParcel;
+use crate::refusal::admit;
 use cad_map::PlainMap;
-use cad_rows::{Edit, Memory, StringNo};
+use cad_rows::{Edit, Memory, Refusal, StringNo};
 use geo_exact::Pt;
 
+/// The map that an edit makes of a valid one, where nothing speaks against the edit at once. No rule
+/// has been asked of it yet, so it may break one.
+///
+/// # Errors
+/// The first reason to refuse the edit before anything is tried; `Memory` where there is none and
+/// memory ran out.
+pub fn try_edit(map: &PlainMap, edit: &Edit) -> Result<PlainMap, Refusal>
+    requires { IsValid map.now }
+    ensures given { GivesInRange edit.now }
+    ensures allowed { IfOk result (λ made. first_refusal_of map.now edit.now ≡ None) }
+    ensures made { IfOk result (λ made. made ≡ after map.now edit.now) }
+    ensures tested { IfOk result (λ made. CanBeTested made) }
+    ensures refused { IfErr result (λ r. (first_refusal_of map.now edit.now ≡ Some r)
+        ⊎ ((first_refusal_of map.now edit.now ≡ None) × (r ≡ OutOfMemory))) }
+{
+    are_in_range(edit);
+    let found = match admit(map, edit) {
+        Ok(found) => found,
+        Err(refusal) => return Err(refusal),
+    };
+    match effect_of(map, edit, &found) {
+        Ok(made) => Ok(made),
+        Err(_) => Err(Refusal::Memory),
+    }
+}
+
 /// The numbers and texts in an edit are in range, by their types.
-pub(crate) fn are_in_range(edit: &Edit)
+fn are_in_range(edit: &Edit)
     ensures { GivesInRange edit.now }
 {
     match edit {
@@ -85,7 +113,7 @@ fn are_strings_in_range(strings: &[StringNo])
 }
 
 /// The map that an edit makes of a map.
-pub(crate) fn effect_of(map: &PlainMap, edit: &Edit, found: &Admitted) -> Result<PlainMap, Memory>
+fn effect_of(map: &PlainMap, edit: &Edit, found: &Admitted) -> Result<PlainMap, Memory>
     requires valid { IsValid map.now }
     requires range { GivesInRange edit.now }
     requires allowed { first_refusal_of map.now edit.now ≡ None }

@@ -1,8 +1,7 @@
 //! A plain map that can be edited. Its records are two whole maps.
 ghost use Rattle.std.specs.Prelude.{◌≡◌};
 
-use crate::effect::{are_in_range, effect_of};
-use crate::refusal::admit;
+use crate::effect::try_edit;
 use cad_map::{Counts, MapStore, MapView, PlainMap};
 use cad_rows::{
     Edit, Face, Memory, ParcelNo, ParcelRow, PointNo, PointRow, Refusal, SourceNo, SourceRow,
@@ -114,13 +113,9 @@ impl MapStore for PlainStore {
     ghost belongs = { λ r b a. (r.before ≡ b) × (r.after ≡ a) };
 
     fn apply(&mut self, edit: &Edit) -> Result<WholeMaps, Refusal> {
-        let found = match admit(&self.map, edit) {
-            Ok(found) => found,
+        let made = match try_edit(&self.map, edit) {
+            Ok(made) => made,
             Err(refusal) => return Err(refusal),
-        };
-        are_in_range(edit);
-        let Ok(made) = effect_of(&self.map, edit, &found) else {
-            return Err(Refusal::Memory);
         };
         if let Some(rule) = first_broken(&made) {
             return Err(Refusal::Breaks(rule));

@@ -268,7 +268,8 @@ fn expect_loose(rt: &impl Abort, table: &HalfTable<Ticks>, h: &Half)
 fn expect_leads_on(rt: &impl Abort, table: &HalfTable<Ticks>, first: &Half, last: &Half)
     requires first_in { has table.now.rows first.now ≡ true }
     requires last_in { has table.now.rows last.now ≡ true }
-    ensures { LeadsOn first.now last.now (next table.now.rows) }
+    ensures leads { LeadsOn first.now last.now (next table.now.rows) }
+    ensures linked { IsLinked table.now.rows }
 {
     let after = table.next(*last);
     assert!(rt; !is_same(&after, &table.twin(*last)));
