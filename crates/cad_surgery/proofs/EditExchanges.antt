@@ -36,14 +36,14 @@ use Rattle.cad_surgery.specs.GridEdits.{gone_by, come_by}
 use Rattle.cad_surgery.proofs.RowExchanges.{AreApart, one-row, AreBetween, none-between, turned, taken, put, moved}
 
 -- the numbers of rows
-abbrev of_point : PointRow → ℕ
+abbrev pub of_point : PointRow → ℕ
 of_point r = r.number
 
-abbrev of_string : StringRow → ℕ
+abbrev pub of_string : StringRow → ℕ
 of_string r = r.number
 
 -- where a row says that the point lies
-abbrev placed : Option PointRow → Position
+abbrev pub placed : Option PointRow → Position
 placed o = unwrap_or (option_map (λ r. r.position) o) origin
 
 -- a list of one
@@ -53,7 +53,7 @@ only P y p x h = elim (Contains-cases y [] x h) [
   | inr later ↦ let low = later.1 in absurd (omega arith)
 ]
 
-some-from : {X : Type 0} (o : Option X) → is_some o ≡ true → (x : X) × (o ≡ Some x)
+pub some-from : {X : Type 0} (o : Option X) → is_some o ≡ true → (x : X) × (o ≡ Some x)
 some-from None h = cc
 some-from (Some x) h = (x, refl)
 
@@ -152,10 +152,10 @@ module _ (m : Map) (v : IsValid m) where
 
   -- ---- A point comes, goes or moves
 
-  pushed-at : (new : Map) (row : PointRow) → new.points ≡ m.points ++ row ∷ [] → (q : ℕ) → IsTrue (has_point m q) → position_of new q ≡ position_of m q
+  pub pushed-at : (new : Map) (row : PointRow) → new.points ≡ m.points ++ row ∷ [] → (q : ℕ) → IsTrue (has_point m q) → position_of new q ≡ position_of m q
   pushed-at new row rows q known = ap placed (ap (row_with of_point q) rows ∙ same-pushed of_point q m.points (row ∷ []) known)
 
-  without-at : (new : Map) (p : ℕ) → new.points ≡ without_row of_point p m.points → (q : ℕ) → q ≢ p → position_of new q ≡ position_of m q
+  pub without-at : (new : Map) (p : ℕ) → new.points ≡ without_row of_point p m.points → (q : ℕ) → q ≢ p → position_of new q ≡ position_of m q
   without-at new p rows q off = ap placed (ap (row_with of_point q) rows ∙ same-without of_point q p m.points off)
 
   point-added : (row : PointRow) → point_of m row.number ≡ None
@@ -187,10 +187,10 @@ module _ (m : Map) (v : IsValid m) where
     numbered : row.number ≡ p
     numbered = found-number of_point p m.points row is
 
-    at-new : position_of map_moved p ≡ there
+    pub at-new : position_of map_moved p ≡ there
     at-new = ap (position_of map_moved) (sym numbered) ∙ ap placed (own-with_row of_point row_moved m.points (ap (λ (o : Option PointRow). is_some o) (ap (point_of m) numbered ∙ is)))
 
-    at-others : (q : ℕ) → q ≢ p → position_of map_moved q ≡ position_of m q
+    pub at-others : (q : ℕ) → q ≢ p → position_of map_moved q ≡ position_of m q
     at-others q off = ap placed (same-with_row of_point q row_moved m.points (λ e. off (e ∙ numbered)))
 
     away : ¬ (position_of m p ≡ position_of map_moved p)

@@ -18,7 +18,7 @@ use Rattle.cad_surgery.specs.Gridded.{HoldsJust, IsGridOf, string_entry, point_e
 none-in : {X : Type 0} (x : X) → ¬ Contains [] x
 none-in x h = let low = h.1 in omega arith
 
-map-last : {X Y : Type 0} (f : X → Y) (xs : List X) (x : X) → map f (xs ++ x ∷ []) ≡ map f xs ++ f x ∷ []
+pub map-last : {X Y : Type 0} (f : X → Y) (xs : List X) (x : X) → map f (xs ++ x ∷ []) ≡ map f xs ++ f x ∷ []
 map-last f [] x = refl
 map-last f (y ∷ xs) x = ap (λ (l : List _). f y ∷ l) (map-last f xs x)
 

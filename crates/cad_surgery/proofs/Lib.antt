@@ -3,6 +3,7 @@ pub mod GridRows
 pub mod Exchanges
 pub mod RowExchanges
 pub mod EditExchanges
+pub mod GridLists
 pub mod WholeStrings
 pub mod RingsOfHalves
 pub mod CycleRings

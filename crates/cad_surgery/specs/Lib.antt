@@ -10,4 +10,5 @@ pub mod Proper
 pub mod Gridded
 pub mod Exchanged
 pub mod GridEdits
+pub mod GridLists
 pub mod AtRest
