@@ -4,6 +4,7 @@ pub mod Exchanges
 pub mod RowExchanges
 pub mod EditExchanges
 pub mod GridLists
+pub mod GridEdits
 pub mod WholeStrings
 pub mod RingsOfHalves
 pub mod CycleRings

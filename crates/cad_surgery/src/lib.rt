@@ -4,6 +4,7 @@
 mod building;
 mod draft;
 mod grid;
+mod grid_edits;
 mod grid_lists;
 mod half_map;
 mod kept;
