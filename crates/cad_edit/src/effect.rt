@@ -52,7 +52,7 @@ pub fn try_edit(map: &PlainMap, edit: &Edit) -> Result<PlainMap, Refusal>
 }
 
 /// The numbers and texts in an edit are in range, by their types.
-fn are_in_range(edit: &Edit)
+pub fn are_in_range(edit: &Edit)
     ensures { GivesInRange edit.now }
 {
     match edit {

@@ -15,6 +15,6 @@ mod store;
 mod strings_at;
 
 pub use admitted::Admitted;
-pub use effect::try_edit;
+pub use effect::{are_in_range, try_edit};
 pub use refusal::{admit, first_refusal};
 pub use store::{PlainStore, WholeMaps};

@@ -18,3 +18,5 @@ mod NearPoints
 mod NearStrings
 mod NearCorners
 mod NearFaces
+pub mod Untouched
+pub mod CallerLemmas

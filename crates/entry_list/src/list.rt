@@ -49,6 +49,11 @@ impl<V> EntryList<V> {
         }
     }
 
+    /// What the list takes its memory from.
+    pub fn allocator(&self) -> Global {
+        *self.slots.allocator()
+    }
+
     /// The number of rows. No number has two.
     pub fn len(&self) -> usize
         ensures len { result ≡ length (rows_of self.now) }
