@@ -17,9 +17,9 @@ module _ {X : Type 0} where
       → ((y : X) → P y → Q y) → Q x → HavePassed Q xs (i + 1)
   pass-row P Q xs i x at before keeps now y there = elim (before y there) [
     | inl left ↦ elim (Contains-cases x (drop (i + 1) xs) y (subst (λ (l : List X). Contains l y) (drop-at xs i x at) left)) [
-        | inl is ↦ inr (subst Q is now)
-        | inr later ↦ inl later
-      ]
+      | inl is ↦ inr (subst Q is now)
+      | inr later ↦ inl later
+    ]
     | inr passed ↦ inr (keeps y passed)
   ]
 

@@ -399,7 +399,7 @@ fn far_squares(alloc: Global) -> Result<String, Fail> {
         let square = format!(in alloc;
             "; point,{a},{west},0; point,{b},{east},0; point,{c},{east},1000; point,{d},{west},1000; \
             parcel,{a},Far; string,1{a},{a},{b},{a},0; string,1{b},{b},{c},{a},0; \
-            string,1{c},{c},{d},{a},0; string,1{d},{d},{a},{a},0; "
+            string,1{c},{c},{d},{a},0; string,1{d},{d},{a},{a},0"
         )?;
         text.push_str(square.as_str())?;
     }

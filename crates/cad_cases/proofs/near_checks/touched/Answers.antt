@@ -29,23 +29,23 @@ returns-in-Split c = IfOk-weaker c.everything.result _ _ (λ _ touches. touches 
 pub returns-in-AddSource : goal.returns-in-AddSource
 returns-in-AddSource c =
     let nothing = λ (e : Edit) (same : c.args.edit.now ≡ e) (by : touched_by c.args.before.now e ≡ touching [] [] []).
-        as-named c.named-in-AddSource.result c.args.before.now c.args.made.now c.args.edit.now e (touching [] [] []) c.requires.tried c.requires.made same by c.named-in-AddSource.ensures in
+    as-named c.named-in-AddSource.result c.args.before.now c.args.made.now c.args.edit.now e (touching [] [] []) c.requires.tried c.requires.made same by c.named-in-AddSource.ensures in
     elim c.in-AddSource.is [
       | inl added ↦ nothing _ added.2 refl
       | inr other ↦ elim other [
-          | inl dropped ↦ nothing _ dropped.1 refl
-          | inr other ↦ elim other [
-              | inl attached ↦ nothing _ attached.2 refl
-              | inr other ↦ elim other [ inl detached ↦ nothing _ detached.2 refl | inr renamed ↦ nothing _ renamed.2 refl ]
-            ]
+        | inl dropped ↦ nothing _ dropped.1 refl
+        | inr other ↦ elim other [
+          | inl attached ↦ nothing _ attached.2 refl
+          | inr other ↦ elim other [ inl detached ↦ nothing _ detached.2 refl | inr renamed ↦ nothing _ renamed.2 refl ]
         ]
+      ]
     ]
 
 pub returns-in-Divide : goal.returns-in-Divide
 returns-in-Divide c =
     let named : List ℕ → List ℕ → Touched = λ chain strings. touching chain strings (c.in-Divide.face ∷ Parcel c.in-Divide.parcel ∷ []) in
     let lists : named c.in-Divide.chain c.in-Divide.strings ≡ named c.as_slice.result.now c.as_slice-in-Divide.result.now =
-        λ i. named (sym c.as_slice.ensures i) (sym c.as_slice-in-Divide.ensures i) in
+    λ i. named (sym c.as_slice.ensures i) (sym c.as_slice-in-Divide.ensures i) in
     let parcel = λ (e : Edit) (same : c.args.edit.now ≡ e) (by : touched_by c.args.before.now e ≡ named c.in-Divide.chain c.in-Divide.strings).
-        as-named c.named-in-Divide.result c.args.before.now c.args.made.now c.args.edit.now e _ c.requires.tried c.requires.made same (by ∙ lists) c.named-in-Divide.ensures in
+    as-named c.named-in-Divide.result c.args.before.now c.args.made.now c.args.edit.now e _ c.requires.tried c.requires.made same (by ∙ lists) c.named-in-Divide.ensures in
     elim c.in-Divide.is [ inl divided ↦ parcel _ divided.2 refl | inr enclosed ↦ parcel _ enclosed.2 refl ]
