@@ -38,11 +38,7 @@ pub(crate) fn map_of(alloc: Global, plan: &[u8]) -> Result<PlainMap, Fail>
 }
 
 /// An editor of the store's map.
-pub(crate) fn editor_of<M: MapStore + Drop>(
-    alloc: Global,
-    store: M,
-    depth: Depth,
-) -> Result<Editor<M>, Memory>
+fn editor_of<M: MapStore + Drop>(alloc: Global, store: M, depth: Depth) -> Result<Editor<M>, Memory>
     requires { IsValid (M.map store) }
     ensures { IfOk result (StandsForSome M.map M.belongs) }
 {
@@ -53,7 +49,7 @@ pub(crate) fn editor_of<M: MapStore + Drop>(
 }
 
 /// The command that a record asks for.
-pub(crate) fn command_of(alloc: Global, record: &str) -> Result<Command, Fail> {
+fn command_of(alloc: Global, record: &str) -> Result<Command, Fail> {
     let text = lines(alloc, &[record])?;
     let mut reader = ReaderBuilder::new()
         .has_headers(false)

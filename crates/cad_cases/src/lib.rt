@@ -16,19 +16,13 @@ mod dividing;
 #[cfg(test)]
 mod enclosing;
 #[cfg(test)]
-mod every_map;
-#[cfg(test)]
 mod faults;
 #[cfg(test)]
 mod files;
 #[cfg(test)]
-mod half_maps;
-#[cfg(test)]
 mod history;
 #[cfg(test)]
 mod merging;
-#[cfg(test)]
-mod near_checks;
 #[cfg(test)]
 mod plans;
 #[cfg(test)]
