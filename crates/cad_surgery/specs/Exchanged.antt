@@ -37,4 +37,5 @@ CanEnter g come =
 -- the grid is that of two maps, and these go where the second is alone
 abbrev pub CanLeave : Grid → Listed → Type 0
 CanLeave g gone =
-    (old : Map) × (come : Listed) × (new : Map) × IsGridOfBoth g old new × IsExchange old gone come new
+    (old : Map) × (come : Listed) × (new : Map) × IsGridOfBoth g old new
+    × IsExchange old gone come new

@@ -102,7 +102,8 @@ fn halves<M: MapView>(
     second: StringNo,
 ) -> Result<Entries, Memory>
     requires { IsTried (M.map map.now) (Split string point at.x at.y first second) }
-    ensures { IfOk result (AreEntries (come_by (M.map map.now) (Split string point at.x at.y first second))) }
+    ensures { IfOk result (AreEntries
+        (come_by (M.map map.now) (Split string point at.x at.y first second))) }
 {
     let row = map.string(string).unwrap();
     let one = Span {

@@ -149,7 +149,8 @@ pub(crate) fn point_with_strings<M: MapView>(
         → let e = Move point to.x to.y in IsBeside (M.map map.now) b e
         → point_of b point ≡ Some row → row.position ≡ at → AreEntries (gone_by b e) l) }
     ensures comes { IfOk result (λ l. (b : Map)
-        → let e = Move point at.x at.y in IsBeside (M.map map.now) b e → AreEntries (come_by b e) l) }
+        → let e = Move point at.x at.y in IsBeside (M.map map.now) b e
+        → AreEntries (come_by b e) l) }
     ensures joins { IfOk result (λ l. (row : PointRow) (new : ℕ) → IsValid (M.map map.now)
         → point_of (M.map map.now) point ≡ Some row → row.position ≡ at
         → AreEntries (gone_by (M.map map.now) (Join point new)) l) }
@@ -200,11 +201,11 @@ pub(crate) fn strings_of_chain<M: MapView>(
     chain: &[PointNo],
 ) -> Result<Entries, Memory>
     requires { length strings.now ≤ length chain.now }
-    ensures divides { IfOk result (λ l. (b : Map) (face : Face) (parcel : ℕ) (label : List ℕ) (source : ℕ)
-        → let e = Divide face chain.now strings.now parcel label source in
+    ensures divides { IfOk result (λ l. (b : Map) (face : Face) (parcel : ℕ) (label : List ℕ)
+        (source : ℕ) → let e = Divide face chain.now strings.now parcel label source in
         IsBeside (M.map map.now) b e → AreEntries (come_by b e) l) }
-    ensures encloses { IfOk result (λ l. (b : Map) (face : Face) (parcel : ℕ) (label : List ℕ) (source : ℕ)
-        → let e = Enclose face chain.now strings.now parcel label source in
+    ensures encloses { IfOk result (λ l. (b : Map) (face : Face) (parcel : ℕ) (label : List ℕ)
+        (source : ℕ) → let e = Enclose face chain.now strings.now parcel label source in
         IsBeside (M.map map.now) b e → AreEntries (come_by b e) l) }
 {
     let mut entries = Entries::new(alloc);
