@@ -16,7 +16,7 @@ use Rattle.cad_files.specs.Fields.{digits_from, magnitude_of, number_of, coordin
 use Rattle.cad_files.specs.Texts.{list_field}
 use Rattle.cad_files.proofs.DigitFacts.{digits_next}
 
-digits_push : (v m d : ℕ) (ds : List ℕ) → d < 10 → digits_from v ds ≡ Some m → digits_from v (ds ++ ((48 + d) ∷ [])) ≡ Some (m * 10 + d)
+pub digits_push : (v m d : ℕ) (ds : List ℕ) → d < 10 → digits_from v ds ≡ Some m → digits_from v (ds ++ ((48 + d) ∷ [])) ≡ Some (m * 10 + d)
 unfolding digits_from
 digits_push v m d [] h e =
     let v_is : v ≡ m = cc in
@@ -26,7 +26,7 @@ digits_push v m d (c ∷ cs) h e = elim (cases_Bool (nat_le 48 c && nat_le c 57)
   | inr other ↦ absurd (let bad : None ≡ Some m = rw other at e in cc)
 ]
 
-digits_decimal : (n : ℕ) → n < 2 ^ 64 → digits_from 0 (decimal n) ≡ Some n
+pub digits_decimal : (n : ℕ) → n < 2 ^ 64 → digits_from 0 (decimal n) ≡ Some n
 unfolding digits_from
 digits_decimal = decimal_by_steps (λ n ds. digits_from 0 ds ≡ Some n)
     (λ n h. digits_next 0 (48 + n) [] (omega arith) (omega arith) ∙ ap (λ k. Some k) (omega arith))

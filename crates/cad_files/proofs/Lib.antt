@@ -40,3 +40,4 @@ pub mod NoCornerMet
 pub mod NextSides
 pub mod PoolFacts
 pub mod RepeatFacts
+pub mod CallerLemmas

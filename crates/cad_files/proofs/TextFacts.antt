@@ -46,7 +46,7 @@ join-push c p (q ∷ ps) x =
     ap (λ (l : List ℕ). p ++ (c ∷ l)) (join-push c q ps x)
     ∙ sym (append_assoc (p ++ (c ∷ join_with_byte c (q ∷ ps))) (c ∷ []) x ∙ append_assoc p (c ∷ join_with_byte c (q ∷ ps)) (c ∷ x) ∙ ap (λ (l : List ℕ). p ++ (c ∷ l)) (sym (append_assoc (join_with_byte c (q ∷ ps)) (c ∷ []) x)))
 
-join-some : (c : ℕ) (ps : List (List ℕ)) (x : List ℕ) → 0 < length ps → join_with_byte c (ps ++ x ∷ []) ≡ (join_with_byte c ps ++ c ∷ []) ++ x
+pub join-some : (c : ℕ) (ps : List (List ℕ)) (x : List ℕ) → 0 < length ps → join_with_byte c (ps ++ x ∷ []) ≡ (join_with_byte c ps ++ c ∷ []) ++ x
 join-some c [] x h = absurd (omega arith)
 join-some c (p ∷ ps) x h = join-push c p ps x
 

@@ -4,7 +4,7 @@ ghost use Rattle.cad_map.specs.Valid.{IsValid};
 ghost use Rattle.cad_files.specs.Texts.{HasAppended, record_text, text_of};
 ghost use Rattle.cad_files.specs.Reports.{hundredths_of, area_field, two_digits, area_record, area_record_in, area_records};
 
-use crate::writing::{begun, finished, write_record};
+use crate::writing::{finished, write_record, writer as new_writer};
 use cad_map::{MapView, sum_of};
 use cad_rows::{Face, Memory, ParcelRow};
 use csv::Writer;
@@ -29,9 +29,9 @@ fn push_two_digits(text: &mut Vec<u8>, number: u8) -> Result<(), Memory>
     Ok(())
 }
 
-// The field of so many hundredths of a square metre.
+/// The field of so many hundredths of a square metre, in square metres. `Err` where memory runs out.
 #[tactic(auto, unfolding(crate::specs::Reports::area_field))]
-fn area_text_of(alloc: Global, h: i128) -> Result<Vec<u8>, Memory>
+pub fn area_text_of(alloc: Global, h: i128) -> Result<Vec<u8>, Memory>
     ensures { IfOk result (λ text. text.items ≡ area_field h) }
 {
     let mut text = Vec::new(alloc);
@@ -92,7 +92,7 @@ pub fn area_text<M: MapView>(alloc: Global, view: &M) -> Result<Vec<u8>, Memory>
     requires { IsValid (M.map view.now) }
     ensures { IfOk result (λ text. text.items ≡ text_of (area_records (M.map view.now))) }
 {
-    let mut writer = begun(alloc);
+    let mut writer = new_writer(alloc);
     write_areas(alloc, &mut writer, view)?;
     write_record(&mut writer, &[b"end", b"", b"", b"", b"", b"", b""])?;
     let text = finished(writer)?;

@@ -20,8 +20,8 @@ fn append_number(alloc: Global, text: &mut Vec<u8>, place: usize, number: u32) -
     Ok(())
 }
 
-/// The field of a list of numbers.
-pub(crate) fn list_text<Kind>(alloc: Global, numbers: &[Number<Kind>]) -> Result<Vec<u8>, Memory>
+/// The field of a list of numbers. `Err` where memory runs out.
+pub fn list_text<Kind>(alloc: Global, numbers: &[Number<Kind>]) -> Result<Vec<u8>, Memory>
     ensures { IfOk result (λ text. text.items ≡ list_field numbers.now) }
 {
     let mut text = Vec::new(alloc);

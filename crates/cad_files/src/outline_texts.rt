@@ -7,7 +7,7 @@ ghost use Rattle.cad_files.specs.Reports.{outlines_of, ring_record, end_record, 
 use crate::answers::answer_text;
 use crate::list_texts::list_text;
 use crate::plan_texts::face_number;
-use crate::writing::{begun, finished, write_record};
+use crate::writing::{finished, write_record, writer as new_writer};
 use cad_history::Answer;
 use cad_map::{MapView, outline};
 use cad_rings::Ring;
@@ -65,7 +65,7 @@ fn rings_text(
         ∷ []))) }
 {
     let (outer, holes) = rings.split_at(outlines);
-    let mut writer = begun(alloc);
+    let mut writer = new_writer(alloc);
     write_rings(alloc, &mut writer, face, b"outer", outer)?;
     write_rings(alloc, &mut writer, face, b"hole", holes)?;
     write_record(&mut writer, &[b"end", b"", b"", b"", b"", b"", b""])?;

@@ -10,7 +10,7 @@ ghost use Rattle.cad_files.specs.PlanMap.{IsPlanOf, IsFaultOf};
 ghost use Rattle.cad_files.specs.declared.faults.PlanFault.{PlanFault};
 
 use crate::list_texts::list_text;
-use crate::writing::{begun, finished, write_record};
+use crate::writing::{finished, write_record, writer as new_writer};
 use cad_map::MapView;
 use cad_rows::{Face, Memory, ParcelNo, ParcelRow, PointRow, SourceRow, StringRow};
 use csv::Writer;
@@ -56,7 +56,7 @@ fn write_parcel(alloc: Global, writer: &mut Writer<Vec<u8>>, row: &ParcelRow) ->
 }
 
 /// The number that stands for a face.
-pub(crate) fn face_number(face: Face) -> u32
+pub fn face_number(face: Face) -> u32
     ensures { decimal result ≡ face_field face }
 {
     match face {
@@ -183,7 +183,7 @@ pub fn plan_text<M: MapView>(alloc: Global, view: &M) -> Result<Vec<u8>, Memory>
     requires { IsValid (M.map view.now) }
     ensures { IfOk result (λ text. text.items ≡ text_of (plan_records (M.map view.now))) }
 {
-    let mut writer = begun(alloc);
+    let mut writer = new_writer(alloc);
     write_record(&mut writer, &[b"plan", b"2", b"", b"", b"", b"", b""])?;
     write_rows(alloc, &mut writer, view, Kind::Sources)?;
     write_rows(alloc, &mut writer, view, Kind::Points)?;

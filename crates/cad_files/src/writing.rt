@@ -21,16 +21,9 @@ pub(crate) fn one_record(alloc: Global, fields: &[&[u8]]) -> Result<Vec<u8>, Mem
     }
 }
 
-/// A writer of a text of which nothing is written yet.
-pub(crate) fn begun(alloc: Global) -> Writer<Vec<u8>>
-    ensures { HasWritten [] result }
-{
-    WriterBuilder::new().from_writer(Vec::new(alloc))
-}
-
-/// Writes one record more.
+/// Writes one record more. `Err` where memory runs out.
 #[tactic(auto, unfolding(crate::specs::Texts::record_text))]
-pub(crate) fn write_record(writer: &mut Writer<Vec<u8>>, fields: &[&[u8]]) -> Result<(), Memory>
+pub fn write_record(writer: &mut Writer<Vec<u8>>, fields: &[&[u8]]) -> Result<(), Memory>
     ensures { OnOk result
         (HasAppended (record_text (map (λ f. f.now) fields.now)) writer.old writer.new) }
 {
@@ -40,8 +33,8 @@ pub(crate) fn write_record(writer: &mut Writer<Vec<u8>>, fields: &[&[u8]]) -> Re
     }
 }
 
-/// The text that was written.
-pub(crate) fn finished(writer: Writer<Vec<u8>>) -> Result<Vec<u8>, Memory>
+/// The text that was written. `Err` where memory runs out.
+pub fn finished(writer: Writer<Vec<u8>>) -> Result<Vec<u8>, Memory>
     ensures { IfOk result (λ text. (written : List ℕ) → HasWritten written writer
         → text.items ≡ written) }
 {
@@ -49,4 +42,11 @@ pub(crate) fn finished(writer: Writer<Vec<u8>>) -> Result<Vec<u8>, Memory>
         Ok(text) => Ok(text),
         Err(_) => Err(Memory),
     }
+}
+
+/// A writer of records that has written nothing.
+pub fn writer(alloc: Global) -> Writer<Vec<u8>>
+    ensures { HasWritten [] result }
+{
+    WriterBuilder::new().from_writer(Vec::new(alloc))
 }

@@ -5,7 +5,7 @@ use Rattle.cad_files.proofs.outline_texts.rings_text.Goals as goal
 
 pub returns : goal.returns
 returns c =
-    let outer = c.in_ok-write_rings.ensures [] c.begun-writer.ensures in
+    let outer = c.in_ok-write_rings.ensures [] c.writer-writer.ensures in
     let holes = c.in_ok-write_rings-2.ensures _ outer in
     let last = c.in_ok-write_record.ensures _ holes in
     c.in_ok-text.ensures _ last

@@ -6,7 +6,7 @@ use Rattle.cad_files.proofs.plan_texts.plan_text.Goals as goal
 
 pub returns : goal.returns
 returns g c =
-    let first = c.in_ok-write_record.ensures [] c.begun-writer.ensures in
+    let first = c.in_ok-write_record.ensures [] c.writer-writer.ensures in
     let sources = c.in_ok-write_rows.ensures _ first in
     let points = c.in_ok-write_rows-2.ensures _ sources in
     let parcels = c.in_ok-write_rows-3.ensures _ points in
