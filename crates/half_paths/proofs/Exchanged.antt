@@ -57,7 +57,7 @@ turned-all y ys [] pick all = tt
 turned-all y ys (x ∷ xs) pick all = (nat_eq-symm y.string x.string ∙ pick x all.0, turned-all y ys xs pick all.1)
 
 -- a half of the same string is the half or its twin
-same-string : (x k : Half) → nat_eq x.string k.string ≡ true → (x ≡ k) ⊎ (x ≡ twin k)
+pub same-string : (x k : Half) → nat_eq x.string k.string ≡ true → (x ≡ k) ⊎ (x ≡ twin k)
 same-string x k e = by x.forward k.forward refl refl
   where
     s : x.string ≡ k.string
@@ -70,7 +70,7 @@ same-string x k e = by x.forward k.forward refl refl
     by false true m n = inr (λ i. record { string = s i; forward = (m ∙ ap not (sym n)) i })
 
 -- what leads to another string is none of the loose ones
-loose-apart : (f : Half → Half) (x y : Half) (ks : List Half) → f x ≡ y → AreLoose f ks → AreElsewhere y ks → AreElsewhere x ks
+pub loose-apart : (f : Half → Half) (x y : Half) (ks : List Half) → f x ≡ y → AreLoose f ks → AreElsewhere y ks → AreElsewhere x ks
 loose-apart f x y [] leads loose e = tt
 loose-apart f x y (k ∷ ks) leads (l, ls) (e0, es) = (by (nat_eq x.string k.string) refl, loose-apart f x y ks leads ls es)
   where
@@ -88,7 +88,7 @@ pub unstrung-loose : (f : Half → Half) (q : Half) (rest : List Half) → AreLo
 unstrung-loose f q [] loose = tt
 unstrung-loose f q (b ∷ rest) loose = (loose.0.0, loose.1.0.1, unstrung-loose f b rest loose.1)
 
-each-loose : (f : Half → Half) (ks : List Half) → AreLoose f ks → AllByRecursion (λ k. f k ≡ twin k) ks
+pub each-loose : (f : Half → Half) (ks : List Half) → AreLoose f ks → AllByRecursion (λ k. f k ≡ twin k) ks
 each-loose f [] l = tt
 each-loose f (k ∷ ks) l = (l.0.0, each-loose f ks l.1)
 
@@ -127,7 +127,7 @@ no-source f (k ∷ es) x own e =
     ap (λ b. b || holds (sources es) x) here ∙ no-source f es x own.1 n.1
 
 -- a half that leads to what no half within the path leads to
-enters-outside : (f : Half → Half) (a : Half) (rest : List Half) (x y : Half) → IsStrung f a rest → f x ≡ y → holds (seams_of a rest) (twin y) ≡ false → holds (seams_of a rest) x ≡ false
+pub enters-outside : (f : Half → Half) (a : Half) (rest : List Half) (x y : Half) → IsStrung f a rest → f x ≡ y → holds (seams_of a rest) (twin y) ≡ false → holds (seams_of a rest) x ≡ false
 enters-outside f a rest x y tied leads e =
     ap (λ l. holds l x) (sym (sources-strung a rest))
     ∙ no-source f (strung a rest) x (strung-of f a rest tied) (ap (holds (targets (strung a rest))) leads ∙ no-target a rest y e)

@@ -1,8 +1,9 @@
 pub mod Redirected
-mod Along
-mod Apart
+pub mod Along
+pub mod Apart
 mod TwoEnds
-mod Added
+pub mod Added
 mod Dropped
-mod Exchanged
+pub mod Exchanged
 mod TestPaths
+pub mod Tied

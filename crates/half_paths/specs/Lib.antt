@@ -4,3 +4,4 @@ pub mod Strung
 pub mod Ends
 pub mod Loose
 pub mod Rerouted
+pub mod Round

@@ -15,11 +15,13 @@ mod ends;
 mod loose;
 mod path;
 mod rerouting;
+mod round;
 
 pub use ends::{close_ring, cut_path, open_ring, put_path};
 pub use loose::{add_strings, drop_strings};
 pub use path::{loosen, string_up};
-pub use rerouting::reroute;
+pub use rerouting::{last_half, reroute};
+pub use round::{tie_ring, untie_ring};
 
 #[cfg(test)]
 mod tests;

@@ -64,7 +64,7 @@ pub fn reroute<T: Tally>(
 }
 
 /// The last half of a path.
-fn last_half(first: Half, rest: &[Half]) -> Half
+pub fn last_half(first: Half, rest: &[Half]) -> Half
     ensures { result ≡ last_of first rest.now }
 {
     let mut last = first;
