@@ -114,6 +114,35 @@ holds-more m rows old new bs b x holds on here others n = by (face_place b.face 
 same_place : (f g : Face) → face_place f ≡ face_place g → f ≡ g
 same_place f g e = is_face-same f g (is_face-place f g ∙ ap (λ (n : ℕ). n == face_place g) e ∙ nat_eq_equiv.refl (face_place g))
 
+-- a face that is there is among the faces
+pub face-known : (d : Parts) (f : Face) → has_face (rows_of d) f ≡ true → Contains (faces (rows_of d)) f
+face-known d Outside is = Contains-first Outside (map (λ (p : ParcelRow). Parcel p.number) d.parcels)
+face-known d (Parcel n) is = Contains-later Outside (map (λ (p : ParcelRow). Parcel p.number) d.parcels) (Parcel n) (of_row d.parcels is)
+  where
+    of_row : (ps : List ParcelRow) → is_some (row_with (λ (p : ParcelRow). p.number) n ps) ≡ true → Contains (map (λ (p : ParcelRow). Parcel p.number) ps) (Parcel n)
+    of_row [] there = cc
+    of_row (p ∷ ps) there = go (p.number == n) refl there (λ more. of_row ps more)
+      where
+        go : (t : Bool) → (p.number == n) ≡ t → is_some (row_with (λ (p : ParcelRow). p.number) n (p ∷ ps)) ≡ true → (is_some (row_with (λ (p : ParcelRow). p.number) n ps) ≡ true → Contains (map (λ (p : ParcelRow). Parcel p.number) ps) (Parcel n)) → Contains (map (λ (p : ParcelRow). Parcel p.number) (p ∷ ps)) (Parcel n)
+        go true is there again = subst (Contains (map (λ (p : ParcelRow). Parcel p.number) (p ∷ ps))) (ap Parcel (eqb-true p.number n is)) (Contains-first (Parcel p.number) (map (λ (p : ParcelRow). Parcel p.number) ps))
+        go false is there again = Contains-later (Parcel p.number) (map (λ (p : ParcelRow). Parcel p.number) ps) (Parcel n) (again (rw is at there))
+
+-- ---- The ring that a half is on
+
+module _ (m : Map) (rows : HalfRows) (whole : HasWholeRings m) where
+  abbrev pub home_of : Half → Boundary
+  home_of h = unwrap_or (find (λ b. has_side (side_by rows h) (sides_of b.ring)) m.boundaries) (bounding Outside [])
+
+  pub home-is : (b : Boundary) (h : Half) → Contains m.boundaries b → IsOnRing m rows b h → home_of h ≡ b
+  home-is b h there on = by (find (λ b. has_side (side_by rows h) (sides_of b.ring)) m.boundaries) refl
+    where
+      by : (o : Option Boundary) → find (λ b. has_side (side_by rows h) (sides_of b.ring)) m.boundaries ≡ o → home_of h ≡ b
+      by (Some c) is =
+          let found = find-Contains (λ b. has_side (side_by rows h) (sides_of b.ring)) m.boundaries c is in
+          ap (λ (o : Option Boundary). unwrap_or o (bounding Outside [])) is
+          ∙ one_part (λ (b : Boundary). sides_of b.ring) (side_by rows h) m.boundaries c b (once-from_pairs (all_sides m) whole.once (side_by rows h)) found.0 there (has_side-Contains (side_by rows h) (sides_of c.ring) found.1) on.side
+      by None is = absurd (find-some (λ b. has_side (side_by rows h) (sides_of b.ring)) m.boundaries b there (Contains-has_side (side_by rows h) (sides_of b.ring) on.side) is)
+
 -- ---- They are one half of each ring
 
 module _ (d : Parts) (bs : List Boundary) (whole : HasWholeRings (with_rings d bs)) (holds : HoldsRings (with_rings d bs) d.table.rows d.kept bs) where
@@ -123,25 +152,14 @@ module _ (d : Parts) (bs : List Boundary) (whole : HasWholeRings (with_rings d b
   abbrev rows : HalfRows
   rows = d.table.rows
 
-  -- the ring that a half is on
   abbrev homes : Half → Boundary
-  homes h = unwrap_or (find (λ b. has_side (side_by rows h) (sides_of b.ring)) bs) (bounding Outside [])
-
-  home-is : (b : Boundary) (h : Half) → Contains bs b → IsOnRing m rows b h → homes h ≡ b
-  home-is b h there on = by (find (λ b. has_side (side_by rows h) (sides_of b.ring)) bs) refl
-    where
-      by : (o : Option Boundary) → find (λ b. has_side (side_by rows h) (sides_of b.ring)) bs ≡ o → homes h ≡ b
-      by (Some c) is =
-          let found = find-Contains (λ b. has_side (side_by rows h) (sides_of b.ring)) bs c is in
-          ap (λ (o : Option Boundary). unwrap_or o (bounding Outside [])) is
-          ∙ one_part (λ (b : Boundary). sides_of b.ring) (side_by rows h) bs c b (once-from_pairs (all_sides m) whole.once (side_by rows h)) found.0 there (has_side-Contains (side_by rows h) (sides_of c.ring) found.1) on.side
-      by None is = absurd (find-some (λ b. has_side (side_by rows h) (sides_of b.ring)) bs b there (Contains-has_side (side_by rows h) (sides_of b.ring) on.side) is)
+  homes h = home_of m rows whole h
 
   home-each : (xs : List Half) (cs : List Boundary) → ((c : Boundary) → Contains cs c → Contains bs c) → AreOnRings m rows xs cs → map (λ (x : Half). homes x) xs ≡ cs
   home-each [] [] sub all = refl
   home-each [] (c ∷ cs) sub all = absurd all
   home-each (x ∷ xs) [] sub all = absurd all
-  home-each (x ∷ xs) (c ∷ cs) sub all = λ i. home-is c x (sub c (Contains-first c cs)) all.0 i ∷ home-each xs cs (λ b h. sub b (Contains-later c cs b h)) all.1 i
+  home-each (x ∷ xs) (c ∷ cs) sub all = λ i. home-is m rows whole c x (sub c (Contains-first c cs)) all.0 i ∷ home-each xs cs (λ b h. sub b (Contains-later c cs b h)) all.1 i
 
   placed-there : (n : ℕ) (c : Boundary) → Contains (rings_placed n bs) c → Contains bs c
   placed-there n c h = (filter-Contains (λ (b : Boundary). face_place b.face == n) bs c h).0
@@ -181,24 +199,12 @@ module _ (d : Parts) (bs : List Boundary) (whole : HasWholeRings (with_rings d b
   keys-pairs : EachPair (λ a b. a ≢ b) keys
   keys-pairs = (zero-apart d.parcels, places-pairs d.parcels whole.v1.parcels.distinct)
 
-  face-there : (f : Face) → has_face (rows_of d) f ≡ true → Contains (faces (rows_of d)) f
-  face-there Outside is = Contains-first Outside (map (λ (p : ParcelRow). Parcel p.number) d.parcels)
-  face-there (Parcel n) is = Contains-later Outside (map (λ (p : ParcelRow). Parcel p.number) d.parcels) (Parcel n) (of_row d.parcels is)
-    where
-      of_row : (ps : List ParcelRow) → is_some (row_with (λ (p : ParcelRow). p.number) n ps) ≡ true → Contains (map (λ (p : ParcelRow). Parcel p.number) ps) (Parcel n)
-      of_row [] there = cc
-      of_row (p ∷ ps) there = go (p.number == n) refl there (λ more. of_row ps more)
-        where
-          go : (t : Bool) → (p.number == n) ≡ t → is_some (row_with (λ (p : ParcelRow). p.number) n (p ∷ ps)) ≡ true → (is_some (row_with (λ (p : ParcelRow). p.number) n ps) ≡ true → Contains (map (λ (p : ParcelRow). Parcel p.number) ps) (Parcel n)) → Contains (map (λ (p : ParcelRow). Parcel p.number) (p ∷ ps)) (Parcel n)
-          go true is there again = subst (Contains (map (λ (p : ParcelRow). Parcel p.number) (p ∷ ps))) (ap Parcel (eqb-true p.number n is)) (Contains-first (Parcel p.number) (map (λ (p : ParcelRow). Parcel p.number) ps))
-          go false is there again = Contains-later (Parcel p.number) (map (λ (p : ParcelRow). Parcel p.number) ps) (Parcel n) (again (rw is at there))
-
   ring-face : (b : Boundary) → Contains bs b → has_face (rows_of d) b.face ≡ true
   ring-face b there = All-at_each (λ b. has_face (rows_of d) b.face ≡ true) bs b whole.v1.faces_of_rings there
 
   each-among : AllByRecursion (λ b. list_any (λ k. face_place b.face == k) keys ≡ true) bs
   each-among = All-from_each (λ (b : Boundary). list_any (λ k. face_place b.face == k) keys ≡ true) bs (λ b there.
-      list_any-Contains (λ k. face_place b.face == k) keys (face_place b.face) (Contains-map face_place (faces (rows_of d)) b.face (face-there b.face (ring-face b there))) (nat_eq_equiv.refl (face_place b.face)))
+      list_any-Contains (λ k. face_place b.face == k) keys (face_place b.face) (Contains-map face_place (faces (rows_of d)) b.face (face-known d b.face (ring-face b there))) (nat_eq_equiv.refl (face_place b.face)))
 
   all-homes : IsPermutation (map (λ (k : Face × Half). homes k.1) (kept_halves d)) bs
   all-homes =
@@ -221,7 +227,7 @@ module _ (d : Parts) (bs : List Boundary) (whole : HasWholeRings (with_rings d b
   is-kept f x among =
       let it = on-one (items_at d.kept (face_place f)) (rings_placed (face_place f) bs) x (holds (face_place f)) among in
       let at = filter-Contains (λ (b : Boundary). face_place b.face == face_place f) bs it.0 it.1 in
-      let home = home-is it.0 x at.0 it.2 in
+      let home = home-is m rows whole it.0 x at.0 it.2 in
       record {
         is_shown = it.2.shown;
         there = subst (Contains bs) (sym home) at.0;

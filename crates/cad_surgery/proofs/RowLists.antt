@@ -1,6 +1,7 @@
 -- Rows under their numbers, and the list of the rows.
-use Rattle.std.proofs.Common.{◌≡◌, ℕ, zero, suc, List, [], ◌∷◌, ◌++◌, Bool, true, false, ◌==◌, not, cond, map, find, true≢false, nat_eq, refl, sym, ap, ◌∙◌, subst, Option, Some, None, slice_get, insert}
-use Rattle.std.specs.Prelude.{option_map, filter, is_some, IfSome, IfNone, if◌then◌else◌}
+use Rattle.std.proofs.Common.{Bor, ◌≡◌, ℕ, zero, suc, List, [], ◌∷◌, ◌++◌, Bool, true, false, ◌==◌, not, cond, map, find, true≢false, nat_eq, refl, sym, ap, ◌∙◌, subst, Option, Some, None, slice_get, insert}
+use Rattle.std.specs.Option.{option_copied}
+use Rattle.std.specs.Prelude.{IsSome, option_map, filter, is_some, IfSome, IfNone, if◌then◌else◌}
 use Rattle.std.specs.List.{list_any}
 use Rattle.std.specs.Map.{values_of}
 use Rattle.std.specs.List.{AllByRecursion}
@@ -69,6 +70,16 @@ pub taken-row : {R : Type 0} (slots : Slots R) (n : ℕ) (o : Option (ℕ × R))
 taken-row slots n None there = tt
 taken-row slots n (Some r) there = value-at (rows_of slots) r.0 ∙ ap (option_map (λ e. e.1)) there
 
+numbered-at : {R : Type 0} (number : R → ℕ) (es : List (ℕ × R)) (place n : ℕ) (row : R) → AreNumbered number es → slice_get es place ≡ Some (n, row) → number row ≡ n
+numbered-at number [] place n row all at = cc
+numbered-at number (e ∷ es) zero n row all at = let same : e ≡ (n, row) = cc in subst (λ (f : ℕ × _). number f.1 ≡ f.0) same (sym all.0)
+numbered-at number (e ∷ es) (suc place) n row all at = numbered-at number es place n row all.1 at
+
+pub taken-number : {R : Type 0} (number : R → ℕ) (slots : Slots R) (n : ℕ) (o : Option (ℕ × R)) → AreNumbered number (rows_of slots)
+    → IfSome o (λ r. StandsAt slots r.0 n r.1) → IfSome o (λ r. number r.1 ≡ n)
+taken-number number slots n None all there = tt
+taken-number number slots n (Some r) all there = numbered-at number (rows_of slots) r.0 n r.1 all there
+
 pub taken-back : {R : Type 0} (old new : Slots R) (n : ℕ) (o : Option (ℕ × R)) → IfSome o (λ r. PutsIn new old r.0 n r.1)
     → IfSome o (λ r. rows_in old ≡ insert (rows_in new) r.0 r.1)
 taken-back old new n None back = tt
@@ -105,3 +116,8 @@ some-by_numbers number n (r ∷ rows) = by (number r == n) refl (some-by_numbers
     by : (t : Bool) → (number r == n) ≡ t → is_some (row_with number n rows) ≡ list_any (λ k. k == n) (map number rows) → is_some (row_with number n (r ∷ rows)) ≡ list_any (λ k. k == n) (map number (r ∷ rows))
     by true is rest = rw is refl
     by false is rest = rw is rest
+
+-- a row that is copied is there
+pub some-copied : {R : Type 0} (o : Option (Bor R)) (row : R) → option_copied o ≡ Some row → IsSome o
+some-copied None row is = cc
+some-copied (Some r) row is = refl

@@ -1,10 +1,10 @@
 -- The star of a point: the half-edges that begin there.
-use Rattle.std.specs.Prelude.{◌≡◌, ◌++◌, ℕ, ◌==◌, List, [], ◌∷◌, find, Option, option_map, if◌then◌else◌}
+use Rattle.std.specs.Prelude.{◌≡◌, ◌++◌, ℕ, Bool, ◌==◌, ◌&&◌, List, [], ◌∷◌, find, Option, option_map, if◌then◌else◌}
 use Rattle.std.specs.List.{flat_map}
 use Rattle.cad_rows.specs.declared.rows.StringRow.{StringRow}
 use Rattle.cad_rings.specs.Cycle.{Side}
 use Rattle.half_table.specs.declared.half.Half.{Half}
-use Rattle.half_table.specs.Half.{forward_of, backward_of}
+use Rattle.half_table.specs.Half.{forward_of, backward_of, is_half}
 use Rattle.key_lists.specs.Held.{Held, items_at}
 use Rattle.cad_surgery.specs.declared.stars.Spoke.{Spoke}
 
@@ -33,3 +33,7 @@ half_to far spokes = option_map (λ (x : Spoke). x.half) (find (λ (x : Spoke). 
 -- the half along a side, by the star of the point where it begins
 abbrev pub half_along : Held Spoke → Side → Option Half
 half_along stars s = half_to s.1 (items_at stars s.0)
+
+-- whether two halves of a star are the same
+abbrev pub is_spoke : Spoke → Spoke → Bool
+is_spoke s t = is_half s.half t.half && (s.far == t.far)

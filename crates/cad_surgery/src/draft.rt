@@ -29,11 +29,11 @@ use std::marker::Model;
 /// A map whose rings are the cycles of a table of half-edges.
 #[derive(Drop)]
 pub(crate) struct Draft<T: Tally> {
-    rows: MapRows,
-    table: HalfTable<T>,
-    kept: KeyLists<Half>,
-    stars: KeyLists<Spoke>,
-    grid: CellGrid,
+    pub(crate) rows: MapRows,
+    pub(crate) table: HalfTable<T>,
+    pub(crate) kept: KeyLists<Half>,
+    pub(crate) stars: KeyLists<Spoke>,
+    pub(crate) grid: CellGrid,
 }
 
 impl<T: Tally> Model for Draft<T> {

@@ -21,7 +21,7 @@ use std::marker::Model;
 /// halves that begin at each point, and a grid of its strings and points.
 #[derive(Drop)]
 pub struct HalfMap<T: Tally> {
-    draft: Draft<T>,
+    pub(crate) draft: Draft<T>,
 }
 
 impl<T: Tally> Model for HalfMap<T> {

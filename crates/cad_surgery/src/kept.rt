@@ -8,7 +8,7 @@ use half_table::Half;
 use key_lists::KeyLists;
 
 /// The place of a face: 0 for the outside, and one more than the number of a parcel.
-fn face_place(face: Face) -> u64
+pub(crate) fn face_place(face: Face) -> u64
     ensures { result ≡ face_place_of face }
 {
     match face {

@@ -1,7 +1,12 @@
 //! What the parts of a map on half-edges have to do with the map that they stand for.
-ghost use Rattle.std.specs.Prelude.{◌≡◌, List};
+ghost use Rattle.std.specs.Prelude.{◌≡◌, ℕ, List, map, reverse};
 ghost use Rattle.cad_rows.specs.declared.edits.Edit.{Edit};
+ghost use Rattle.cad_rows.specs.declared.edits.Edit.TheVariants.{Enclose};
+ghost use Rattle.cad_rows.specs.declared.names.Face.{Face};
+ghost use Rattle.cad_rows.specs.declared.names.Face.TheVariants.{Parcel};
 ghost use Rattle.cad_map.specs.declared.boundary.Boundary.{Boundary};
+ghost use Rattle.cad_map.specs.Boundaries.{bounding, canonical_form};
+ghost use Rattle.cad_map.specs.Division.{hole_placed};
 ghost use Rattle.cad_map.specs.Effects.{after};
 ghost use Rattle.cad_map.specs.Map.{Map};
 ghost use Rattle.cad_map.specs.Rings.{HasWholeRings};
@@ -10,6 +15,8 @@ ghost use Rattle.cad_surgery.specs.Parts.{Parts, FitTogether, map_of};
 ghost use Rattle.cad_surgery.specs.Fits.{FitRings, HasSidesOnce, with_rings};
 ghost use Rattle.cad_surgery.specs.Exchanged.{IsExchange};
 ghost use Rattle.cad_surgery.specs.GridEdits.{gone_by, come_by};
+ghost use Rattle.cad_surgery.specs.Islands.{IsIslandOf};
+ghost use Rattle.cad_surgery.specs.Handing.{HaveTwoFaces};
 
 /// Where the parts go half by half with the rings of a map whose rings are whole, they stand for
 /// that map.
@@ -31,4 +38,20 @@ pub fn the_map_makes_halves()
 pub fn edits_exchange_entries()
     ensures { (m : Map) (e : Edit) → IsTried m e
         → IsExchange m (gone_by m e) (come_by m e) (after m e) }
+{}
+
+/// An enclosure that is tried brings an island into the face: the new parcel's ring, and its reverse
+/// as a hole of the face. The new parcel is one face more, and has the holes that pass over.
+pub fn enclosures_bring_islands()
+    ensures island { (m : Map) (face : Face) (points strings : List ℕ) (parcel : ℕ)
+        (label : List ℕ) (source : ℕ)
+        → let e = Enclose face points strings parcel label source in IsTried m e
+        → IsIslandOf m (after m e) face (Parcel parcel) points
+        (canonical_form (bounding (Parcel parcel) points))
+        (canonical_form (bounding face (reverse points)))
+        (map (hole_placed m face (Parcel parcel) points) m.boundaries) }
+    ensures faces { (m : Map) (face : Face) (points strings : List ℕ) (parcel : ℕ)
+        (label : List ℕ) (source : ℕ)
+        → let e = Enclose face points strings parcel label source in IsTried m e
+        → HaveTwoFaces m (after m e) face (Parcel parcel) }
 {}

@@ -3,15 +3,26 @@
 
 mod building;
 mod draft;
+mod draft_grid;
+mod draft_rows;
+mod edits;
 mod grid;
 mod grid_edits;
 mod grid_lists;
+mod grid_records;
 mod half_map;
+mod half_map_edits;
 mod kept;
 mod laws;
 mod map_rows;
+mod play;
+mod record;
 mod rows;
 mod stars;
+mod touched;
 
 pub use half_map::HalfMap;
-pub use laws::{edits_exchange_entries, halves_make_the_map, the_map_makes_halves};
+pub use laws::{
+    edits_exchange_entries, enclosures_bring_islands, halves_make_the_map, the_map_makes_halves,
+};
+pub use record::{SmallRecord, weight};

@@ -38,6 +38,11 @@ impl<R: Numbered> Rows<R> {
         }
     }
 
+    /// What the rows take their memory from.
+    pub(crate) fn allocator(&self) -> Global {
+        self.list.allocator()
+    }
+
     pub(crate) fn len(&self) -> usize
         ensures { result ≡ length (rows_in self.now) }
     {
@@ -114,6 +119,7 @@ impl<R: Numbered> Rows<R> {
     /// that is put in at that place takes none either.
     pub(crate) fn take(&mut self, number: u32) -> Option<(usize, R)>
         ensures row { IfSome result (λ r. slice_get (rows_in self.old) r.0 ≡ Some r.1) }
+        ensures number { IfSome result (λ r. R.number_of r.1 ≡ number) }
         ensures rows { rows_in self.new ≡ without_row R.number_of number (rows_in self.old) }
         ensures back { IfSome result (λ r. rows_in self.old ≡ insert (rows_in self.new) r.0 r.1) }
         ensures none { IfNone result (row_with R.number_of number (rows_in self.old) ≡ None) }
@@ -121,6 +127,25 @@ impl<R: Numbered> Rows<R> {
         ensures slot { OnSome result (HasSlot self.new number) }
     {
         self.list.take(u64::from(number))
+    }
+
+    /// Takes the row with a number out, which is there, and gives its place with it. A row of its
+    /// number that is put in at the place stands where this one stood. It takes no memory, and neither
+    /// does what is put in.
+    pub(crate) fn take_there(&mut self, number: u32) -> (usize, R)
+        requires { IsSome (row_with R.number_of number (rows_in self.old)) }
+        ensures row { slice_get (rows_in self.old) result.0 ≡ Some result.1 }
+        ensures number { R.number_of result.1 ≡ number }
+        ensures found { row_with R.number_of number (rows_in self.old) ≡ Some result.1 }
+        ensures rows { rows_in self.new ≡ without_row R.number_of number (rows_in self.old) }
+        ensures slot { HasSlot self.new (R.number_of result.1) }
+        ensures absent { row_with R.number_of (R.number_of result.1) (rows_in self.new) ≡ None }
+        ensures place { result.0 ≤ length (rows_in self.new) }
+        ensures back { (row : R) → R.number_of row ≡ R.number_of result.1
+            → insert (rows_in self.new) result.0 row ≡ with_row R.number_of row (rows_in self.old) }
+        ensures slots { KeepsSlots self.old self.new }
+    {
+        self.take(number).unwrap()
     }
 
     /// Puts a row in the place of the one with its number, and gives that one. It takes no memory.

@@ -4,7 +4,7 @@ use Rattle.std.specs.Map.{values_of}
 use Rattle.entry_list.specs.Slots.{rows_of}
 use Rattle.cad_map.specs.Table.{AreNumbered, row_with, without_row}
 use Rattle.cad_surgery.specs.Rows.{rows_in}
-use Rattle.cad_surgery.proofs.RowLists.{values-without, numbered-without, taken-row, taken-back, taken-none}
+use Rattle.cad_surgery.proofs.RowLists.{values-without, numbered-without, taken-row, taken-number, taken-back, taken-none}
 use Rattle.cad_surgery.proofs.rows.Rows.take.Goals as goal
 
 pub invariant_of-self : goal.invariant_of-self
@@ -32,3 +32,7 @@ returns-clause-rows g c =
     let number = g.R.Numbered.number_of in
     ap values_of (rw c.from.ensures at c.take.ensures.without) ∙ values-without number c.args.number (rows_of c.self.inside.list) c.self.invariant
     ∙ ap (λ slots. without_row number c.args.number (rows_in slots)) c.self.view_is
+
+pub returns-clause-number : goal.returns-clause-number
+returns-clause-number g c =
+    taken-number g.R.Numbered.number_of c.self.inside.list c.args.number c.take.result c.self.invariant (rw c.from.ensures at c.take.ensures.row)

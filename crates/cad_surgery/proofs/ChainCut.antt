@@ -1,0 +1,99 @@
+-- A path cut out and taken apart.
+use Rattle.std.proofs.Common.{◌≡◌, ◌≢◌, Bool, true, false, true≢false, List, [], ◌∷◌, if◌then◌else◌, refl, sym, ap, ◌∙◌, subst, nat_eq}
+use Rattle.std.proofs.lemmas.Bool.Decides.{Decides-eqb}
+use Rattle.half_table.specs.declared.half.Half.{Half}
+use Rattle.half_table.specs.Half.{twin, is_half}
+use Rattle.half_table.specs.Cycle.{holds}
+use Rattle.half_table.proofs.Halves.{is_half-self, is_half-other, is_half-turned, twin-twin}
+use Rattle.half_paths.specs.Redirect.{redirect}
+use Rattle.half_paths.specs.Path.{AreDifferent, AreElsewhere, last_of}
+use Rattle.half_paths.specs.Strung.{unstrung, IsStrung, IsUnstrung}
+use Rattle.half_paths.specs.Loose.{AreLoose}
+use Rattle.half_paths.specs.Ends.{cut, CanCut}
+use Rattle.half_paths.proofs.Redirected.{neither}
+use Rattle.half_paths.proofs.Along.{seams_of, Agree, strung-kept}
+use Rattle.half_paths.proofs.Apart.{other, far, last-turned, twin-first, last-apart, first-unstrung, last-unstrung}
+use Rattle.half_paths.proofs.Exchanged.{enters-outside}
+use Rattle.half_paths.proofs.Tied.{unstrung-now, unstrung-elsewhere, loose-all}
+
+module _ (f : Half → Half) (a : Half) (rest : List Half) (different : AreDifferent (a ∷ rest)) (tied : IsStrung f a rest) (before beyond : Half)
+    (enters : f before ≡ a) (returns : f beyond ≡ twin (last_of a rest)) (on_away : AreElsewhere (f (last_of a rest)) (a ∷ rest)) (back_away : AreElsewhere (f (twin a)) (a ∷ rest)) where
+  abbrev z : Half
+  z = last_of a rest
+
+  pub can_cut : CanCut a z f
+  can_cut = record {
+    two = is_half-other a (twin z) (λ e. true≢false (sym (is_half-self (twin a)) ∙ ap (λ (h : Half). is_half h (twin a)) (ap twin e ∙ twin-twin z) ∙ last-turned a rest different));
+    no_ring = other (f z) a on_away.0;
+    no_ring_back = other (f (twin a)) (twin z) (far (f (twin a)) a rest back_away);
+  }
+
+  -- a half elsewhere is no end of the path
+  not_last : (g : Half) → AreElsewhere g (a ∷ rest) → is_half g z ≡ false
+  not_last g away = other g z (far g a rest away)
+
+  not_first : (g : Half) → AreElsewhere g (a ∷ rest) → is_half g (twin a) ≡ false
+  not_first g away = other g (twin a) away.0
+
+  apart : is_half beyond before ≡ false
+  apart = is_half-other beyond before (λ e. clash (sym returns ∙ ap f e ∙ enters))
+    where
+      clash : twin z ≡ a → ⊥
+      clash e = true≢false (sym (is_half-self z) ∙ ap (is_half z) (sym (twin-twin z) ∙ ap twin e) ∙ last-turned a rest different)
+
+  module _ (mid : Half → Half) (is_mid : mid ≡ redirect (cut before beyond a z f) f) where
+    value : (g : Half) (p q r s : Bool) → is_half g before ≡ p → is_half g (twin a) ≡ q → is_half g z ≡ r → is_half g beyond ≡ s
+        → mid g ≡ (if p then f (twin a) else if q then a else if r then twin z else if s then f z else f g)
+    value g p q r s e1 e2 e3 e4 =
+        ap (λ n. n g) is_mid ∙ (λ i. if e1 i then f (twin a) else if e2 i then a else if e3 i then twin z else if e4 i then f z else f g)
+
+    agree : (ks : List Half) → holds ks before ≡ false → holds ks (twin a) ≡ false → holds ks z ≡ false → holds ks beyond ≡ false → Agree mid f ks
+    agree [] p q r s = tt
+    agree (k ∷ ks) p q r s =
+        let e1 = neither (is_half before k) (holds ks before) p in
+        let e2 = neither (is_half (twin a) k) (holds ks (twin a)) q in
+        let e3 = neither (is_half z k) (holds ks z) r in
+        let e4 = neither (is_half beyond k) (holds ks beyond) s in
+        (value k false false false false (is_half-turned before k e1.0) (is_half-turned (twin a) k e2.0) (is_half-turned z k e3.0) (is_half-turned beyond k e4.0), agree ks e1.1 e2.1 e3.1 e4.1)
+
+    pub mid-strung : IsStrung mid a rest
+    mid-strung =
+        strung-kept mid f a rest
+        (agree (seams_of a rest) (enters-outside f a rest before a tied enters (twin-first a rest different)) (twin-first a rest different) (last-apart a rest different)
+        (enters-outside f a rest beyond (twin z) tied returns (ap (holds (seams_of a rest)) (twin-twin z) ∙ last-apart a rest different))) tied
+
+    not_before : (g : Half) → f g ≢ a → is_half g before ≡ false
+    not_before g far_off = is_half-other g before (λ e. far_off (ap f e ∙ enters))
+
+    pub mid-before : (g : Half) → g ≡ before → mid g ≡ f (twin a)
+    mid-before g is = value g true (is_half g (twin a)) (is_half g z) (is_half g beyond) (ap (is_half g) (sym is) ∙ is_half-self g) refl refl refl
+
+    pub mid-beyond : (g : Half) → g ≡ beyond → AreElsewhere g (a ∷ rest) → mid g ≡ f z
+    mid-beyond g is away =
+        value g false false false true (ap (λ (h : Half). is_half h before) is ∙ apart) (not_first g away) (not_last g away) (ap (is_half g) (sym is) ∙ is_half-self g)
+
+    pub mid-other : (g : Half) → AreElsewhere g (a ∷ rest) → (g ≡ before → ⊥) → (g ≡ beyond → ⊥) → mid g ≡ f g
+    mid-other g away far_off near =
+        value g false false false false (is_half-other g before far_off) (not_first g away) (not_last g away) (is_half-other g beyond near)
+
+    -- the ends lead back
+    not-before_first : is_half (twin a) before ≡ false
+    not-before_first = is_half-other (twin a) before (λ e. true≢false (sym ((Decides-eqb (f (twin a)).string a.string).1 (ap (λ (h : Half). h.string) (ap f e ∙ enters))) ∙ back_away.0))
+
+    not-before_last : is_half z before ≡ false
+    not-before_last = is_half-other z before (λ e. true≢false (sym ((Decides-eqb (f z).string a.string).1 (ap (λ (h : Half). h.string) (ap f e ∙ enters))) ∙ on_away.0))
+
+    mid_first : mid (twin a) ≡ a
+    mid_first = value (twin a) false true (is_half (twin a) z) (is_half (twin a) beyond) not-before_first (is_half-self (twin a)) refl refl
+
+    mid_last : mid z ≡ twin z
+    mid_last = value z false false true (is_half z beyond) not-before_last (last-turned a rest different) (is_half-self z) refl
+
+    module _ (new : Half → Half) (is_new : new ≡ redirect (unstrung a rest) mid) where
+      pub cut-loose : AreLoose new (a ∷ rest)
+      cut-loose =
+          loose-all new a rest (subst (λ n. IsUnstrung n a rest) (sym is_new) (unstrung-now mid a rest different))
+          (ap (λ n. n (twin a)) is_new ∙ first-unstrung mid a rest different ∙ mid_first) (ap (λ n. n z) is_new ∙ last-unstrung mid a rest different ∙ mid_last)
+
+      pub cut-elsewhere : (g : Half) → AreElsewhere g (a ∷ rest) → new g ≡ mid g
+      cut-elsewhere g away = ap (λ n. n g) is_new ∙ unstrung-elsewhere mid a rest g away

@@ -1,0 +1,54 @@
+-- Rows, a table with one half kept of each ring, and stars of a map, as parts that fit together.
+use Rattle.std.proofs.Common.{◌≡◌, refl, sym, ap, subst, []}
+use Rattle.cad_map.specs.Map.{Map}
+use Rattle.cad_map.specs.Rings.{HasWholeRings}
+use Rattle.cell_grid.specs.Grid.{Grid}
+use Rattle.half_table.specs.declared.half.Half.{Half}
+use Rattle.half_table.specs.Rows.{Table}
+use Rattle.key_lists.specs.Held.{Held}
+use Rattle.cad_surgery.specs.declared.map_rows.MapRows.{MapRows}
+use Rattle.cad_surgery.specs.declared.stars.Spoke.{Spoke}
+use Rattle.cad_surgery.specs.Rows.{map_in}
+use Rattle.cad_surgery.specs.Parts.{Parts, FitTogether, map_of}
+use Rattle.cad_surgery.specs.Fits.{FitRings}
+use Rattle.cad_surgery.specs.Building.{parts_of}
+use Rattle.cad_surgery.specs.Splitting.{FitMap}
+use Rattle.cad_surgery.proofs.FromHalves.{fit-together, map-is}
+use Rattle.cad_surgery.proofs.ToHalves.{fits}
+use Rattle.cad_surgery.proofs.WholeStrings.{strings-once}
+
+module _ (rows : MapRows) (table : Table) (held : Held Half) (stars : Held Spoke) (grid : Grid) where
+  abbrev pub parts : Parts
+  parts = parts_of (map_in rows) table held stars grid
+
+  module _ (m : Map) (whole : HasWholeRings m) (fit : FitMap m rows table.rows held stars) where
+    rings : FitRings (parts_of m table held stars grid) m.boundaries
+    rings = record {
+      local = fit.fits.local;
+      ends = fit.fits.ends;
+      faces = fit.fits.faces;
+      kept = fit.fits.kept;
+      no_face = fit.fits.no_face;
+      stars = fit.are_stars;
+    }
+
+    -- they fit together, and stand for the map
+    pub fit-parts : FitTogether parts
+    fit-parts =
+        subst (λ (q : Map). FitTogether (parts_of q table held stars grid)) (sym fit.rows_are)
+        (fit-together (parts_of m table held stars grid) m.boundaries whole rings)
+
+    pub fit-map : map_of parts ≡ m
+    fit-map =
+        subst (λ (q : Map). map_of (parts_of q table held stars grid) ≡ m) (sym fit.rows_are)
+        (map-is (parts_of m table held stars grid) m.boundaries whole rings)
+
+  -- and parts that stand for a map with whole rings are its
+  pub parts-fit : FitTogether parts → HasWholeRings (map_of parts) → FitMap (map_of parts) rows table.rows held stars
+  parts-fit together whole =
+      let k = fits parts together (strings-once (map_of parts) whole) in
+      record {
+        rows_are = refl;
+        fits = record { local = k.local; ends = k.ends; faces = k.faces; kept = k.kept; no_face = k.no_face };
+        are_stars = k.stars;
+      }

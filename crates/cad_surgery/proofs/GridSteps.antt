@@ -1,0 +1,59 @@
+-- The steps of an edit beside the grid.
+use Rattle.std.proofs.Common.{◌≡◌, ap, subst, sym, ◌∙◌, Option, Some, None, refl, ◌⊎◌}
+use Rattle.std.specs.Prelude.{option_map}
+use Rattle.geo_exact.specs.Position.{Position}
+use Rattle.cad_rows.specs.declared.rows.PointRow.{PointRow}
+use Rattle.cad_map.specs.Asked.{GivesInRange}
+use Rattle.cad_map.specs.Effects.{after}
+use Rattle.cad_map.specs.Map.{Map}
+use Rattle.cell_grid.specs.Together.{Listed}
+use Rattle.cad_laws.specs.Tried.{IsTried}
+use Rattle.cad_surgery.specs.AtRest.{IsAtRest}
+use Rattle.cad_surgery.specs.Exchanged.{IsExchange}
+use Rattle.cad_surgery.specs.Gridded.{IsGridOf}
+use Rattle.cad_surgery.specs.GridEdits.{gone_by, come_by}
+use Rattle.cad_surgery.specs.GridLists.{AreEntries, IsBeside}
+use Rattle.cad_surgery.specs.Parts.{Parts, map_of, kept_at}
+use Rattle.cad_surgery.specs.Proper.{IsProper}
+use Rattle.cad_surgery.specs.Record.{edit_of, Holds, IsMadeOf}
+use Rattle.cad_surgery.specs.declared.record.SmallRecord.{SmallRecord}
+use Rattle.cad_surgery.proofs.Played.{listed}
+
+-- parts that differ in the grid alone
+module _ (old new : Parts) (beside : new ≡ record old { grid = new.grid }) where
+  pub same-map : map_of new ≡ map_of old
+  same-map = ap map_of beside
+
+  pub same-proper : IsProper (map_of old) old.table.rows (kept_at old) → IsProper (map_of new) new.table.rows (kept_at new)
+  same-proper proper = subst (λ (d : Parts). IsProper (map_of d) d.table.rows (kept_at d)) (sym beside) proper
+
+  pub same-table : new.table ≡ old.table
+  same-table = ap (λ (d : Parts). d.table) beside
+
+  pub rests : IsProper (map_of old) old.table.rows (kept_at old) → (m : Map) → map_of old ≡ m → IsGridOf new.grid m → IsAtRest new
+  rests proper m is grid = record {
+    proper = same-proper proper;
+    grid = subst (IsGridOf new.grid) (sym (same-map ∙ is)) grid;
+  }
+
+-- what a record's edit is tried on, and what it exchanges
+pub tried-of : (r : SmallRecord) (b : Map) → IsMadeOf r b → GivesInRange (edit_of r) → IsTried b (edit_of r)
+tried-of r b made given = record { valid = made.valid; given = given; allowed = made.allowed }
+
+pub exchange-of : (m b : Map) (r : SmallRecord) (gone come : Listed) (made : IsMadeOf r b) (given : GivesInRange (edit_of r)) → ((m ≡ b) ⊎ (m ≡ after b (edit_of r)))
+    → ((b : Map) → IsBeside m b (edit_of r) → Holds r b → AreEntries (gone_by b (edit_of r)) gone)
+    → ((b : Map) → IsBeside m b (edit_of r) → AreEntries (come_by b (edit_of r)) come) → IsExchange b gone come (after b (edit_of r))
+exchange-of m b r gone come made given is goes comes =
+    let tried = tried-of r b made given in
+    let beside : IsBeside m b (edit_of r) = record { tried = tried; is = is } in
+    listed b (edit_of r) tried gone come (goes b beside made.holds) (comes b beside)
+
+-- the row of a point that lay at a position
+pub record IsRowAt (o : Option PointRow) (at : Position) : Type 0 where
+  pub row : PointRow
+  pub is : o ≡ Some row
+  pub position : row.position ≡ at
+
+pub row-at : (o : Option PointRow) (at : Position) → option_map (λ r. r.position) o ≡ Some at → IsRowAt o at
+row-at None at is = cc
+row-at (Some r) at is = record { row = r; is = refl; position = cc }

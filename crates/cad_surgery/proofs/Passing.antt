@@ -1,0 +1,23 @@
+-- A point between two others: a path of two strings through it, and the one string past it.
+pub mod OneHand
+pub mod RingsWithout
+pub mod Between
+pub mod Routes
+pub mod Local
+pub mod Through
+pub mod Past
+pub mod KeptAlong
+pub mod Relabelled
+pub mod InPlace
+pub mod FitThrough
+pub mod FitPast
+pub mod Ready
+pub mod StarsChanged
+pub mod SplitBetween
+pub mod SplitMade
+pub mod SplitUndone
+pub mod JoinBetween
+pub mod JoinMade
+pub mod JoinUndone
+pub mod Lengths
+pub mod SplitBegun

@@ -1,0 +1,114 @@
+use Rattle.std.proofs.Common.{◌≡◌, ◌∙◌, ap, subst, sym, refl}
+use Rattle.cad_map.specs.Effects.{after}
+use Rattle.cad_surgery.specs.Exchanged.{IsGridOfBoth}
+use Rattle.cad_surgery.specs.Parts.{map_of}
+use Rattle.cad_surgery.proofs.Exchanges.{exchange-back, both-back, both-holds}
+use Rattle.cad_map.specs.Outcome.{out_of_memory}
+use Rattle.cad_map.specs.Valid.{IsValid}
+use Rattle.cad_map.specs.Touched.{IsTouched}
+use Rattle.cad_laws.specs.Tried.{IsTried}
+use Rattle.cad_valid.specs.Near.{HoldsMap, touched_of}
+use Rattle.cad_surgery.proofs.Played.{listed}
+use Rattle.cad_surgery.proofs.GridSteps.{same-map, same-proper, rests}
+use Rattle.cad_surgery.proofs.play.play.Goals as goal
+
+pub returns-in_default-clause-refused : goal.returns-in_default-clause-refused
+returns-in_default-clause-refused g c = out_of_memory c.requires.tried.allowed
+
+pub enter-requires : goal.enter-requires
+enter-requires g c =
+    let m = map_of c.args.draft.now in
+    let e = c.args.edit.now in
+    let lists = c.in-Ok.plan.exchange in
+    (m, lists.gone, after m e, c.requires.rest.grid, listed m e c.requires.tried lists.gone lists.come c.in-Ok.ensures.gone c.in-Ok.ensures.come)
+
+pub returns-in_default-enter-clause-refused : goal.returns-in_default-enter-clause-refused
+returns-in_default-enter-clause-refused g c = out_of_memory c.requires.tried.allowed
+
+pub returns-in_default-enter-clause-rest : goal.returns-in_default-enter-clause-rest
+returns-in_default-enter-clause-rest g c =
+    let m = map_of c.args.draft.now in
+    rests c.args.draft.now c.enter.new.self c.enter.ensures.beside c.requires.rest.proper m refl
+    (c.in_default-enter.ensures.err m c.requires.rest.grid)
+
+pub try_rows-requires-clause-held : goal.try_rows-requires-clause-held
+try_rows-requires-clause-held g c =
+    let m = map_of c.args.draft.now in
+    let e = c.args.edit.now in
+    let lists = c.in-Ok.plan.exchange in
+    let x = listed m e c.requires.tried lists.gone lists.come c.in-Ok.ensures.gone c.in-Ok.ensures.come in
+    let both = c.in-Ok-enter.ensures.both m (after m e) lists.gone c.requires.rest.grid x in
+    subst (λ n. HoldsMap c.enter.new.self.grid (after n e)) (sym (same-map c.args.draft.now c.enter.new.self c.enter.ensures.beside))
+    (both-holds c.enter.new.self.grid m (after m e) both)
+
+pub try_rows-requires-clause-touched : goal.try_rows-requires-clause-touched
+try_rows-requires-clause-touched g c =
+    subst (λ n. IsTouched n (after n c.args.edit.now) (touched_of c.in-Ok.plan.touched)) (sym (same-map c.args.draft.now c.enter.new.self c.enter.ensures.beside))
+    c.in-Ok.ensures.touched
+
+pub try_rows-requires-clause-tried : goal.try_rows-requires-clause-tried
+try_rows-requires-clause-tried g c =
+    subst (λ m. IsTried m c.args.edit.now) (sym (same-map c.args.draft.now c.enter.new.self c.enter.ensures.beside)) c.requires.tried
+
+pub withdraw-requires : goal.withdraw-requires
+withdraw-requires g c =
+    let m = map_of c.args.draft.now in
+    let e = c.args.edit.now in
+    let lists = c.in-Ok.plan.exchange in
+    let x = listed m e c.requires.tried lists.gone lists.come c.in-Ok.ensures.gone c.in-Ok.ensures.come in
+    let both = c.in-Ok-enter.ensures.both m (after m e) lists.gone c.requires.rest.grid x in
+    (m, lists.come, after m e, subst (λ grid. IsGridOfBoth grid m (after m e)) (sym c.try_rows.ensures.beside.grid) both, x)
+
+pub returns-in-Ok-try_rows-clause-made : goal.returns-in-Ok-try_rows-clause-made
+returns-in-Ok-try_rows-clause-made g c =
+    same-map c.try_rows.new.draft c.withdraw.new.self c.withdraw.ensures.beside ∙ c.in-Ok-try_rows.ensures.made
+    ∙ ap (λ m. after m c.args.edit.now) (same-map c.args.draft.now c.enter.new.self c.enter.ensures.beside)
+
+pub returns-in-Ok-try_rows-clause-valid : goal.returns-in-Ok-try_rows-clause-valid
+returns-in-Ok-try_rows-clause-valid g c =
+    subst IsValid (sym (same-map c.try_rows.new.draft c.withdraw.new.self c.withdraw.ensures.beside)) c.in-Ok-try_rows.ensures.valid
+
+pub returns-in-Ok-try_rows-clause-rest : goal.returns-in-Ok-try_rows-clause-rest
+returns-in-Ok-try_rows-clause-rest g c =
+    let m = map_of c.args.draft.now in
+    let e = c.args.edit.now in
+    let lists = c.in-Ok.plan.exchange in
+    let x = listed m e c.requires.tried lists.gone lists.come c.in-Ok.ensures.gone c.in-Ok.ensures.come in
+    let both = c.in-Ok-enter.ensures.both m (after m e) lists.gone c.requires.rest.grid x in
+    rests c.try_rows.new.draft c.withdraw.new.self c.withdraw.ensures.beside
+    (c.try_rows.ensures.beside.proper (same-proper c.args.draft.now c.enter.new.self c.enter.ensures.beside c.requires.rest.proper))
+    (after m e) (c.in-Ok-try_rows.ensures.made ∙ ap (λ q. after q e) (same-map c.args.draft.now c.enter.new.self c.enter.ensures.beside))
+    (c.withdraw.ensures.left m (after m e) lists.come (subst (λ grid. IsGridOfBoth grid m (after m e)) (sym c.try_rows.ensures.beside.grid) both) x)
+
+pub withdraw-requires-in-Err : goal.withdraw-requires-in-Err
+withdraw-requires-in-Err g c =
+    let m = map_of c.args.draft.now in
+    let e = c.args.edit.now in
+    let lists = c.in-Ok.plan.exchange in
+    let x = listed m e c.requires.tried lists.gone lists.come c.in-Ok.ensures.gone c.in-Ok.ensures.come in
+    let both = c.in-Ok-enter.ensures.both m (after m e) lists.gone c.requires.rest.grid x in (
+      after m e,
+      lists.gone,
+      m,
+      both-back c.try_rows.new.draft.grid m (after m e) (subst (λ grid. IsGridOfBoth grid m (after m e)) (sym c.try_rows.ensures.beside.grid) both),
+      exchange-back m (after m e) lists.gone lists.come x,
+    )
+
+pub returns-clause-err : goal.returns-clause-err
+returns-clause-err g c =
+    same-map c.try_rows.new.draft c.withdraw-in-Err.new.self c.withdraw-in-Err.ensures.beside ∙ c.in-Err.ensures.err
+    ∙ same-map c.args.draft.now c.enter.new.self c.enter.ensures.beside
+
+pub returns-clause-rest : goal.returns-clause-rest
+returns-clause-rest g c =
+    let m = map_of c.args.draft.now in
+    let e = c.args.edit.now in
+    let lists = c.in-Ok.plan.exchange in
+    let x = listed m e c.requires.tried lists.gone lists.come c.in-Ok.ensures.gone c.in-Ok.ensures.come in
+    let both = c.in-Ok-enter.ensures.both m (after m e) lists.gone c.requires.rest.grid x in
+    rests c.try_rows.new.draft c.withdraw-in-Err.new.self c.withdraw-in-Err.ensures.beside
+    (c.try_rows.ensures.beside.proper (same-proper c.args.draft.now c.enter.new.self c.enter.ensures.beside c.requires.rest.proper))
+    m (c.in-Err.ensures.err ∙ same-map c.args.draft.now c.enter.new.self c.enter.ensures.beside)
+    (c.withdraw-in-Err.ensures.left (after m e) m lists.gone
+    (both-back c.try_rows.new.draft.grid m (after m e) (subst (λ grid. IsGridOfBoth grid m (after m e)) (sym c.try_rows.ensures.beside.grid) both))
+    (exchange-back m (after m e) lists.gone lists.come x))

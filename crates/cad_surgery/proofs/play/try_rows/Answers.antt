@@ -1,0 +1,46 @@
+use Rattle.std.proofs.Common.{◌≡◌, ◌∙◌, subst, sym, true≢false}
+use Rattle.cad_map.specs.Effects.{after}
+use Rattle.cad_map.specs.Outcome.{refused, out_of_memory, breaking}
+use Rattle.cad_map.specs.Touched.{IsTouched}
+use Rattle.cad_valid.specs.Near.{HoldsMap, touched_of}
+use Rattle.cad_map.specs.Valid.{IsValid, CanBeTested, FirstBroken, KeepsAll}
+use Rattle.cad_map.proofs.CallerLemmas.{valid-from_kept}
+use Rattle.cad_surgery.specs.Parts.{map_of}
+use Rattle.cad_surgery.proofs.Played.{tested, valid-untouched}
+use Rattle.cad_surgery.proofs.play.try_rows.Goals as goal
+
+pub returns-in_default-clause-refused : goal.returns-in_default-clause-refused
+returns-in_default-clause-refused g c = out_of_memory c.requires.tried.allowed
+
+pub returns-then-not-is_placed-clause-valid : goal.returns-then-not-is_placed-clause-valid
+returns-then-not-is_placed-clause-valid g c =
+    subst IsValid (sym c.in-Ok.ensures.made)
+    (valid-untouched (map_of c.args.draft.now) c.args.edit.now c.requires.tried c.in-Ok.change c.in-Ok.ensures.edit c.requires.alone
+    (λ placed. true≢false (sym (c.is_placed.ensures.1 placed) ∙ c.if-not-is_placed.true)))
+
+pub first_broken_near-requires-clause-tested : goal.first_broken_near-requires-clause-tested
+first_broken_near-requires-clause-tested g c =
+    subst CanBeTested (sym c.in-Ok.ensures.made) (tested (map_of c.args.draft.now) c.args.edit.now c.requires.tried)
+
+pub first_broken_near-requires-clause-held : goal.first_broken_near-requires-clause-held
+first_broken_near-requires-clause-held g c =
+    subst (λ grid. HoldsMap grid (map_of c.make_rows.new.self)) (sym c.grid.ensures)
+    (subst (HoldsMap c.make_rows.new.self.grid) (sym c.in-Ok.ensures.made)
+    (subst (λ grid. HoldsMap grid (after (map_of c.args.draft.now) c.args.edit.now)) (sym c.make_rows.ensures.beside.grid) c.requires.held))
+
+pub first_broken_near-requires-clause-touched : goal.first_broken_near-requires-clause-touched
+first_broken_near-requires-clause-touched g c = record {
+  before = map_of c.args.draft.now;
+  valid = c.requires.tried.valid;
+  touched = subst (λ m. IsTouched (map_of c.args.draft.now) m (touched_of c.args.touched.now)) (sym c.in-Ok.ensures.made) c.requires.touched;
+}
+
+pub returns-in-Some-clause-refused : goal.returns-in-Some-clause-refused
+returns-in-Some-clause-refused g c =
+    refused (breaking c.requires.tried.allowed (subst (λ m. FirstBroken m c.in-Some.rule) c.in-Ok.ensures.made c.in-Some.ensures.broken))
+
+pub returns-clause-valid : goal.returns-clause-valid
+returns-clause-valid g c =
+    subst IsValid (sym c.in-Ok.ensures.made)
+    (valid-from_kept (after (map_of c.args.draft.now) c.args.edit.now) (tested (map_of c.args.draft.now) c.args.edit.now c.requires.tried)
+    (subst KeepsAll c.in-Ok.ensures.made c.in_default-first_broken_near.ensures.kept))

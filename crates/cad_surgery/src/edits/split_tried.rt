@@ -1,0 +1,59 @@
+//! A split with its room and its strings in the table: tried, and taken back or kept.
+ghost use Rattle.std.specs.Prelude.{◌≡◌, ◌∷◌, [], true, false, Some, slice_get, if◌then◌else◌, OnErr, IfOk, OnOk};
+ghost use Rattle.half_table.specs.declared.half.Half.{Half as HalfOf};
+ghost use Rattle.half_table.specs.Half.{forward_of};
+ghost use Rattle.half_table.specs.Rows.{next, has};
+ghost use Rattle.half_paths.specs.Loose.{AreLoose, is_of};
+ghost use Rattle.entry_list.specs.Slots.{HasSlot};
+ghost use Rattle.cad_map.specs.Effects.{after};
+ghost use Rattle.cad_map.specs.Map.{string_of};
+ghost use Rattle.cad_rows.specs.declared.edits.Edit.TheVariants.{Split};
+ghost use Rattle.cad_surgery.specs.Rows.{map_in};
+ghost use Rattle.cad_surgery.specs.Splitting.{CanBeginSplit, FitMap};
+
+use crate::edits::rooms::make_room_for_path;
+use crate::edits::split::split;
+use crate::map_rows::MapRows;
+use crate::stars::Spoke;
+use cad_rows::{Memory, PointRow, StringNo, StringRow};
+use half_table::{Half, HalfTable, Tally};
+use key_lists::KeyLists;
+
+/// Splits a string, with the room that it takes, and gives the string's row with its place. The
+/// string stays in the table, loose.
+///
+/// # Errors
+///
+/// Where memory runs out the map stays, and the table has the strings that it had.
+pub(crate) fn begin_split<T: Tally>(
+    rows: &mut MapRows,
+    table: &mut HalfTable<T>,
+    kept: &mut KeyLists<Half>,
+    stars: &mut KeyLists<Spoke>,
+    string: StringNo,
+    point: PointRow,
+    first: StringRow,
+    second: StringRow,
+) -> Result<(usize, StringRow), Memory>
+    requires { CanBeginSplit string point first second rows.old table.old.rows kept.old stars.old }
+    ensures fits { (can : CanBeginSplit string point first second rows.old table.old.rows kept.old stars.old)
+        → OnOk result (FitMap (after can.map (Split string point.number point.position.x point.position.y
+        first.number second.number)) rows.new table.new.rows kept.new stars.new) }
+    ensures err { (can : CanBeginSplit string point first second rows.old table.old.rows kept.old stars.old)
+        → OnErr result (FitMap can.map rows.new table.new.rows kept.new stars.new) }
+    ensures err_table { OnErr result (table.new.rows ≡ table.old.rows) }
+    ensures row { IfOk result (λ r. slice_get (map_in rows.old).strings r.0 ≡ Some r.1) }
+    ensures found { IfOk result (λ r. string_of (map_in rows.old) string ≡ Some r.1) }
+    ensures slot { IfOk result (λ r. HasSlot rows.new.strings r.1.number) }
+    ensures loose { OnOk result (AreLoose (next table.new.rows) (forward_of string ∷ [])) }
+    ensures has { OnOk result ((h : HalfOf) → has table.new.rows h
+        ≡ (if is_of (first.number ∷ second.number ∷ []) h then true else has table.old.rows h)) }
+{
+    make_room_for_path(rows, stars, point.number, first.number, second.number)?;
+    table.add_loose(first.number, first.from, first.to)?;
+    if let Err(memory) = table.add_loose(second.number, second.from, second.to) {
+        table.remove_loose(first.number);
+        return Err(memory);
+    }
+    Ok(split(rows, table, kept, stars, string, point, first, second))
+}

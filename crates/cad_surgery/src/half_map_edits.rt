@@ -1,0 +1,77 @@
+//! Edits of a map on half-edges, taken back and made again by their records.
+ghost use Rattle.std.specs.Prelude.{◌≡◌, ◌≤◌, IsTrue, IsSome, IfOk, IfErr, OnOk, OnErr};
+ghost use Rattle.cad_map.specs.Costs.{weight_bound, work_bound};
+ghost use Rattle.cad_map.specs.Effects.{after};
+ghost use Rattle.cad_map.specs.Map.{Map};
+ghost use Rattle.cad_map.specs.Outcome.{LeadsTo, MayRefuse};
+ghost use Rattle.cad_map.specs.Refusals.{first_refusal as first_refusal_of};
+ghost use Rattle.cad_map.specs.Valid.{IsValid};
+ghost use Rattle.cad_surgery.specs.Parts.{map_of};
+ghost use Rattle.cad_surgery.specs.Record.{edit_of, Belongs, weight};
+ghost use Rattle.cad_surgery.specs.RowEdits.{is_of_rows};
+ghost use Rattle.cad_surgery.specs.Work.{TakesWork};
+
+use crate::half_map::HalfMap;
+use crate::play::{play, play_again, play_back};
+use crate::record::{SmallRecord, are_in_range as gives_in_range};
+use cad_edit::{are_in_range, first_refusal};
+use cad_rows::{Edit, Memory, Refusal};
+use half_table::Tally;
+
+impl<T: Tally> HalfMap<T> {
+    /// Makes an edit of rows alone, and gives its record: a source or a point that comes or goes, a
+    /// point that moves, a source that is attached or detached, a parcel that gets another label. A
+    /// refused one leaves the map as it was.
+    pub fn apply(&mut self, edit: &Edit) -> Result<SmallRecord, Refusal>
+        requires valid { IsValid (map_of self.old) }
+        requires alone { IsTrue (is_of_rows edit.now) }
+        // The outcome is that of the edit, both ways.
+        ensures made { OnOk result (LeadsTo (map_of self.old) edit.now (map_of self.new)) }
+        ensures refused { IfErr result (MayRefuse (map_of self.old) edit.now) }
+        ensures recorded { IfOk result (λ r. Belongs r (map_of self.old) (map_of self.new)) }
+        ensures err { OnErr result (map_of self.new ≡ map_of self.old) }
+        // The record is small, and so is the work.
+        ensures weight { IfOk result
+            (λ r. weight r ≤ weight_bound (map_of self.old) (map_of self.new)) }
+        ensures work { TakesWork self.old.table self.new.table
+            (work_bound (map_of self.old) (after (map_of self.old) edit.now)) }
+        ensures at_once { IsSome (first_refusal_of (map_of self.old) edit.now)
+            → self.new.table.work ≡ self.old.table.work }
+    {
+        if let Some(refusal) = first_refusal(&self.draft, edit) {
+            return Err(refusal);
+        }
+        are_in_range(edit);
+        play(&mut self.draft, edit)
+    }
+
+    /// Goes from the map after an edit of rows alone to the map before it. Where memory runs out the
+    /// map stays.
+    pub fn back(&mut self, change: &SmallRecord) -> Result<(), Memory>
+        requires made { (before : Map) × Belongs change.now before (map_of self.old) }
+        requires alone { IsTrue (is_of_rows (edit_of change.now)) }
+        ensures before { OnOk result ((before : Map) → Belongs change.now before (map_of self.old)
+            → map_of self.new ≡ before) }
+        ensures err { OnErr result (map_of self.new ≡ map_of self.old) }
+        ensures work { (before : Map) → Belongs change.now before (map_of self.old)
+            → TakesWork self.old.table self.new.table (work_bound before (map_of self.old)) }
+    {
+        gives_in_range(change);
+        play_back(&mut self.draft, change)
+    }
+
+    /// Goes from the map before an edit of rows alone to the map after it. Where memory runs out the
+    /// map stays.
+    pub fn forward(&mut self, change: &SmallRecord) -> Result<(), Memory>
+        requires made { (after : Map) × Belongs change.now (map_of self.old) after }
+        requires alone { IsTrue (is_of_rows (edit_of change.now)) }
+        ensures after { OnOk result ((after : Map) → Belongs change.now (map_of self.old) after
+            → map_of self.new ≡ after) }
+        ensures err { OnErr result (map_of self.new ≡ map_of self.old) }
+        ensures work { (after : Map) → Belongs change.now (map_of self.old) after
+            → TakesWork self.old.table self.new.table (work_bound (map_of self.old) after) }
+    {
+        gives_in_range(change);
+        play_again(&mut self.draft, change)
+    }
+}

@@ -1,0 +1,208 @@
+//! Edits tried on a map on half-edges: made, looked at, and taken back where they break a rule.
+ghost use Rattle.std.specs.Prelude.{◌≡◌, ◌↔◌, IsTrue, IfOk, IfErr, OnOk, OnErr};
+ghost use Rattle.cad_map.specs.Asked.{GivesInRange};
+ghost use Rattle.cad_map.specs.Effects.{after};
+ghost use Rattle.cad_map.specs.Map.{Map};
+ghost use Rattle.cad_map.specs.Outcome.{MayRefuse};
+ghost use Rattle.cad_map.specs.Touched.{IsTouched};
+ghost use Rattle.cad_map.specs.Valid.{IsValid};
+ghost use Rattle.cad_laws.specs.Tried.{IsTried};
+ghost use Rattle.cad_valid.specs.Near.{HoldsMap, touched_of};
+ghost use Rattle.cad_surgery.specs.AtRest.{IsAtRest};
+ghost use Rattle.cad_surgery.specs.GridEdits.{gone_by, come_by};
+ghost use Rattle.cad_surgery.specs.GridLists.{AreEntries, IsBeside};
+ghost use Rattle.cad_surgery.specs.Parts.{map_of};
+ghost use Rattle.cad_surgery.specs.Record.{edit_of, Holds, IsMadeOf, IsPlaced};
+ghost use Rattle.cad_surgery.specs.RowEdits.{is_of_rows, KeepsBeside};
+
+use crate::draft::Draft;
+use crate::grid_edits::{coming, going};
+use crate::grid_records::{what_comes, what_goes};
+use crate::record::SmallRecord;
+use crate::touched::touched_by_rows;
+use cad_rows::{Edit, Memory, Refusal};
+use cad_valid::{Touched, first_broken_near};
+use cell_grid::Entries;
+use half_table::Tally;
+
+// Whether a point came, or lies elsewhere: of the edits of rows alone no other can break a rule.
+fn is_placed(change: &SmallRecord) -> bool
+    ensures { IsTrue result ↔ IsPlaced change.now }
+{
+    match change {
+        SmallRecord::AddPoint { .. } | SmallRecord::Move { .. } => true,
+        _ => false,
+    }
+}
+
+// Makes an edit of rows alone, and takes it back where it breaks a rule. The grid holds the strings
+// and points of the map after it.
+fn try_rows<T: Tally>(
+    draft: &mut Draft<T>,
+    edit: &Edit,
+    touched: &Touched,
+) -> Result<SmallRecord, Refusal>
+    requires alone { IsTrue (is_of_rows edit.now) }
+    requires tried { IsTried (map_of draft.old) edit.now }
+    requires held { HoldsMap draft.old.grid (after (map_of draft.old) edit.now) }
+    requires touched { IsTouched (map_of draft.old) (after (map_of draft.old) edit.now)
+        (touched_of touched.now) }
+    ensures made { OnOk result (map_of draft.new ≡ after (map_of draft.old) edit.now) }
+    ensures valid { OnOk result (IsValid (map_of draft.new)) }
+    ensures edit { IfOk result (λ r. edit_of r ≡ edit.now) }
+    ensures holds { IfOk result (λ r. Holds r (map_of draft.old)) }
+    ensures refused { IfErr result (MayRefuse (map_of draft.old) edit.now) }
+    ensures err { OnErr result (map_of draft.new ≡ map_of draft.old) }
+    ensures beside { KeepsBeside draft.old draft.new }
+{
+    let Ok(change) = draft.make_rows(edit) else {
+        return Err(Refusal::Memory);
+    };
+    if !is_placed(&change) {
+        return Ok(change);
+    }
+    if let Some(rule) = first_broken_near(draft, draft.grid(), touched) {
+        let _ = draft.unmake_rows(&change);
+        return Err(Refusal::Breaks(rule));
+    }
+    Ok(change)
+}
+
+// What goes out of the grid by an edit, and what comes in.
+#[derive(Drop)]
+struct Exchange {
+    gone: Entries,
+    come: Entries,
+}
+
+// What an edit exchanges in the grid, and what it touches.
+#[derive(Drop)]
+struct Plan {
+    exchange: Exchange,
+    touched: Touched,
+}
+
+fn plan_of<T: Tally>(draft: &Draft<T>, edit: &Edit) -> Result<Plan, Memory>
+    requires alone { IsTrue (is_of_rows edit.now) }
+    requires tried { IsTried (map_of draft.now) edit.now }
+    ensures gone { IfOk result
+        (λ p. AreEntries (gone_by (map_of draft.now) edit.now) p.exchange.gone) }
+    ensures come { IfOk result
+        (λ p. AreEntries (come_by (map_of draft.now) edit.now) p.exchange.come) }
+    ensures touched { IfOk result (λ p. IsTouched (map_of draft.now)
+        (after (map_of draft.now) edit.now) (touched_of p.touched)) }
+{
+    let exchange = exchange_by(draft, edit)?;
+    let touched = touched_by_rows(draft.rows.points.allocator(), draft, edit)?;
+    Ok(Plan { exchange, touched })
+}
+
+fn exchange_by<T: Tally>(draft: &Draft<T>, edit: &Edit) -> Result<Exchange, Memory>
+    requires alone { IsTrue (is_of_rows edit.now) }
+    requires tried { IsTried (map_of draft.now) edit.now }
+    ensures gone { IfOk result (λ x. AreEntries (gone_by (map_of draft.now) edit.now) x.gone) }
+    ensures come { IfOk result (λ x. AreEntries (come_by (map_of draft.now) edit.now) x.come) }
+{
+    let alloc = draft.rows.points.allocator();
+    let gone = going(alloc, draft, edit)?;
+    let come = coming(alloc, draft, edit)?;
+    Ok(Exchange { gone, come })
+}
+
+/// Makes an edit that nothing speaks against at once, and gives its record. Where memory runs out,
+/// or it breaks a rule, the map stays.
+pub(crate) fn play<T: Tally>(draft: &mut Draft<T>, edit: &Edit) -> Result<SmallRecord, Refusal>
+    requires alone { IsTrue (is_of_rows edit.now) }
+    requires tried { IsTried (map_of draft.old) edit.now }
+    requires rest { IsAtRest draft.old }
+    ensures made { OnOk result (map_of draft.new ≡ after (map_of draft.old) edit.now) }
+    ensures valid { OnOk result (IsValid (map_of draft.new)) }
+    ensures edit { IfOk result (λ r. edit_of r ≡ edit.now) }
+    ensures holds { IfOk result (λ r. Holds r (map_of draft.old)) }
+    ensures refused { IfErr result (MayRefuse (map_of draft.old) edit.now) }
+    ensures err { OnErr result (map_of draft.new ≡ map_of draft.old) }
+    ensures rest { IsAtRest draft.new }
+    ensures table { draft.new.table ≡ draft.old.table }
+{
+    let Ok(plan) = plan_of(draft, edit) else {
+        return Err(Refusal::Memory);
+    };
+    let Ok(()) = draft.enter(&plan.exchange.come) else {
+        return Err(Refusal::Memory);
+    };
+    match try_rows(draft, edit, &plan.touched) {
+        Ok(change) => {
+            draft.withdraw(&plan.exchange.gone);
+            Ok(change)
+        }
+        Err(refusal) => {
+            draft.withdraw(&plan.exchange.come);
+            Err(refusal)
+        }
+    }
+}
+
+fn exchange_of<T: Tally>(draft: &Draft<T>, change: &SmallRecord) -> Result<Exchange, Memory>
+    requires { IsTrue (is_of_rows (edit_of change.now)) }
+    ensures gone { IfOk result (λ x. (b : Map) → IsBeside (map_of draft.now) b (edit_of change.now)
+        → Holds change.now b → AreEntries (gone_by b (edit_of change.now)) x.gone) }
+    ensures come { IfOk result (λ x. (b : Map) → IsBeside (map_of draft.now) b (edit_of change.now)
+        → AreEntries (come_by b (edit_of change.now)) x.come) }
+{
+    let alloc = draft.rows.points.allocator();
+    let gone = what_goes(alloc, draft, change)?;
+    let come = what_comes(alloc, draft, change)?;
+    Ok(Exchange { gone, come })
+}
+
+/// Goes from the map after an edit to the map before it. Where memory runs out the map stays.
+pub(crate) fn play_back<T: Tally>(draft: &mut Draft<T>, change: &SmallRecord) -> Result<(), Memory>
+    requires alone { IsTrue (is_of_rows (edit_of change.now)) }
+    requires given { GivesInRange (edit_of change.now) }
+    requires made { (m : Map) × IsMadeOf change.now m
+        × (map_of draft.old ≡ after m (edit_of change.now)) }
+    requires rest { IsAtRest draft.old }
+    ensures before { OnOk result ((m : Map) → IsMadeOf change.now m
+        → map_of draft.old ≡ after m (edit_of change.now) → map_of draft.new ≡ m) }
+    ensures err { OnErr result (map_of draft.new ≡ map_of draft.old) }
+    ensures rest { IsAtRest draft.new }
+    ensures table { draft.new.table ≡ draft.old.table }
+{
+    let exchange = exchange_of(draft, change)?;
+    draft.enter(&exchange.gone)?;
+    match draft.unmake_rows(change) {
+        Ok(()) => {
+            draft.withdraw(&exchange.come);
+            Ok(())
+        }
+        Err(memory) => {
+            draft.withdraw(&exchange.gone);
+            Err(memory)
+        }
+    }
+}
+
+/// Goes from the map before an edit to the map after it. Where memory runs out the map stays.
+pub(crate) fn play_again<T: Tally>(draft: &mut Draft<T>, change: &SmallRecord) -> Result<(), Memory>
+    requires alone { IsTrue (is_of_rows (edit_of change.now)) }
+    requires given { GivesInRange (edit_of change.now) }
+    requires made { IsMadeOf change.now (map_of draft.old) }
+    requires rest { IsAtRest draft.old }
+    ensures after { OnOk result (map_of draft.new ≡ after (map_of draft.old) (edit_of change.now)) }
+    ensures err { OnErr result (map_of draft.new ≡ map_of draft.old) }
+    ensures rest { IsAtRest draft.new }
+    ensures table { draft.new.table ≡ draft.old.table }
+{
+    let exchange = exchange_of(draft, change)?;
+    draft.enter(&exchange.come)?;
+    match draft.remake_rows(change) {
+        Ok(()) => {
+            draft.withdraw(&exchange.gone);
+            Ok(())
+        }
+        Err(memory) => {
+            draft.withdraw(&exchange.come);
+            Err(memory)
+        }
+    }
+}
