@@ -3,6 +3,7 @@ use crate::cases::{AMPLE_DEPTH, lines};
 use cad_files::MemSink;
 use cad_history::Depth;
 use cad_job::{JobFault, args_status, read_args, run_path};
+use std::alloc::Global;
 use std::fs;
 use std::test::Fail;
 
@@ -41,6 +42,56 @@ fn arguments_that_are_none(rt: HostRuntime) -> Result<(), Fail> {
     Ok(())
 }
 
+/// What is told of these words, which are no arguments of a job.
+fn told<'a>(alloc: Global, words: &'a [&'a str]) -> Result<String, Fail> {
+    match read_args(alloc, words) {
+        Ok(_) => Err(Fail::from("arguments were read")),
+        Err(error) => Ok(format!(in alloc; "{error}")?),
+    }
+}
+
+#[test]
+fn texts_of_arguments_that_are_none(rt: HostRuntime) -> Result<(), Fail> {
+    for (words, text) in [
+        (
+            ["cadedit", "--depth", "0"].as_slice(),
+            "error: invalid value '0' for '--depth <N>': 0 is not in 1..=1000\n\n\
+            For more information, try '--help'.\n",
+        ),
+        (
+            ["cadedit", "--depth", "x"].as_slice(),
+            "error: invalid value 'x' for '--depth <N>': invalid digit found in string\n\n\
+            For more information, try '--help'.\n",
+        ),
+        (
+            ["cadedit", "F", "G"].as_slice(),
+            "error: unexpected argument 'G' found\n\n\
+            Usage: cadedit [OPTIONS] [FILE]\n\n\
+            For more information, try '--help'.\n",
+        ),
+    ] {
+        let told = told(rt.alloc(), words)?;
+        assert!(rt; told.as_str() == text, "{told}");
+    }
+    Ok(())
+}
+
+#[test]
+fn help(rt: HostRuntime) -> Result<(), Fail> {
+    let told = told(rt.alloc(), &["cadedit", "--help"])?;
+    for part in [
+        "Edits a cadastral map.",
+        "\n\nUsage: cadedit [OPTIONS] [FILE]\n\nArguments:\n  [FILE]  The job; standard input where",
+        "\n\nOptions:\n      --depth <N>  How many edits can be undone, from 1 to 1000 [default: 100]\n",
+        "  -h, --help       Print help",
+        "  -V, --version    Print version\n",
+        "Status: 0 the job is done, 2 the plan is at fault, 3",
+    ] {
+        assert!(rt; told.as_str().contains(part), "{part}");
+    }
+    Ok(())
+}
+
 #[test]
 fn version(rt: HostRuntime) -> Result<(), Fail> {
     match read_args(rt.alloc(), &["cadedit", "--version"]) {
@@ -57,9 +108,15 @@ fn version(rt: HostRuntime) -> Result<(), Fail> {
 fn a_job_in_a_file(rt: HostRuntime) -> Result<(), Fail> {
     let job = lines(
         rt.alloc(),
-        &["plan,1; open; add-source,1,Plan 7; undo; undo; print"],
+        &[
+            "plan,1; open; add-source,1,Plan 7; add-point,1,0,0; attach,point,1,1; undo; redo",
+            "undo; undo; undo; undo; print",
+        ],
     )?;
-    let answers = lines(rt.alloc(), &["ok; ok; nothing; plan,2; open"])?;
+    let answers = lines(
+        rt.alloc(),
+        &["ok; ok; ok; ok; ok; ok; ok; ok; nothing; plan,2; open"],
+    )?;
     let depth = Depth::new(AMPLE_DEPTH).expect(&rt, "a depth");
     fs::write(&rt, "job_in_a_file.csv", job.as_slice())?;
     let mut sink = MemSink::new(rt.alloc(), u64::MAX);

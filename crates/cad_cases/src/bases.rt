@@ -27,3 +27,16 @@ pub(crate) const PINCH: &str =
     string,13,7,8,1,0; string,14,8,9,1,0; string,15,9,1,1,0; string,21,1,2,2,1; \
     string,22,2,3,2,1; string,23,3,1,2,1; string,31,1,4,3,2; string,32,4,5,3,2; \
     string,33,5,1,3,2";
+
+/// A script on the square with its island: it divides the parcel round the island, tells areas and outlines, and merges
+/// the two parts.
+pub(crate) const ISLAND_SCRIPT: &str =
+    "divide,1,1 3,21,3,C,1; areas; outline,1; merge,1,3; outline,1";
+
+/// The answers to it.
+pub(crate) const ISLAND_ANSWERS: &str =
+    "ok; area,1,A,980000,0.49; area,2,B,20000,0.01; area,3,C,1000000,0.50; end; \
+    ring,1,outer,1 2 3; ring,1,hole,6 8 7; end; ok; ring,1,outer,1 2 3 4; ring,1,hole,6 8 7; end";
+
+/// How many records of the answers have been given, after so many of the script.
+pub(crate) const ISLAND_COUNTS: [usize; 6] = [0, 1, 5, 8, 9, 12];

@@ -44,6 +44,11 @@ pub(crate) fn faulty(name: &'static str, job: &'static [&'static str], fault: Pl
     }
 }
 
+/// The depth of history that cases have but those on depth.
+pub(crate) fn deep<R: Abort>(rt: &R) -> Depth {
+    Depth::new(AMPLE_DEPTH).expect(rt, "a depth")
+}
+
 /// A number of any kind.
 pub(crate) fn number<Kind, R: Abort>(rt: &R, no: u32) -> Number<Kind> {
     Number::new(no).expect(rt, "a number")

@@ -106,6 +106,15 @@ fn lists_of_commands(rt: HostRuntime) -> Result<(), Fail> {
             answers: &["ok; ok; ok; nothing; ok; nothing"],
         },
         List {
+            name: "two edits back at depth two",
+            depth: 2,
+            commands: &[
+                "add-point,5,100,500; add-point,6,200,500; add-point,7,300,500; undo; undo; undo",
+                "add-point,8,400,500; undo; undo",
+            ],
+            answers: &["ok; ok; ok; ok; ok; nothing; ok; ok; nothing"],
+        },
+        List {
             name: "a refused edit leaves what can be made again",
             depth: AMPLE_DEPTH,
             commands: &["add-point,5,500,500; undo; drop-point,9; redo"],

@@ -12,6 +12,8 @@ mod cases;
 #[cfg(test)]
 mod chains;
 #[cfg(test)]
+mod damaged;
+#[cfg(test)]
 mod dividing;
 #[cfg(test)]
 mod enclosing;

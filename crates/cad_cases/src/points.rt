@@ -1,4 +1,5 @@
 //! Sources, points and attachments.
+use crate::bases::{OPEN, PLAN, SQUARE};
 use crate::cases::{answered, check, check_at, faulty};
 use cad_files::PlanFault;
 use cad_job::JobFault;
@@ -91,15 +92,23 @@ fn points_and_sources(rt: HostRuntime) -> Result<(), Fail> {
 fn undo_at_a_depth(rt: HostRuntime) -> Result<(), Fail> {
     let depth_1 = [answered(
         "a redo that an edit closes, at depth 1",
-        &["plan,1; open; add-point,5,500,500; add-point,6,600,600; undo; undo; redo; redo"],
+        &[
+            PLAN,
+            SQUARE,
+            OPEN,
+            "add-point,5,500,500; add-point,6,600,600; undo; undo; redo; redo",
+        ],
         &["ok; ok; ok; nothing; ok; nothing"],
     )];
     check_at(&rt, 1, &depth_1)?;
     let depth_2 = [answered(
         "undo down to the depth, and a new edit after it",
         &[
-            "plan,1; open; add-point,5,100,500; add-point,6,200,500; add-point,7,300,500; undo",
-            "undo; undo; add-point,8,400,500; undo; undo",
+            PLAN,
+            SQUARE,
+            OPEN,
+            "add-point,5,100,500; add-point,6,200,500; add-point,7,300,500; undo; undo; undo",
+            "add-point,8,400,500; undo; undo",
         ],
         &["ok; ok; ok; ok; ok; nothing; ok; ok; nothing"],
     )];

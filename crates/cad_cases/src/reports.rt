@@ -31,6 +31,17 @@ fn areas_of_parcels(rt: HostRuntime) -> Result<(), Fail> {
             &["area,2,B,1000000,0.50; area,1,A,1000000,0.50; end"],
         ),
         answered(
+            "the largest square that there can be",
+            &[
+                "plan,2; point,1,-10000000000,-10000000000; point,2,10000000000,-10000000000",
+                "point,3,10000000000,10000000000; point,4,-10000000000,10000000000; parcel,1,A",
+                "string,11,1,2,1,0; string,12,2,3,1,0; string,13,3,4,1,0; string,14,4,1,1,0",
+                OPEN,
+                "areas",
+            ],
+            &["area,1,A,800000000000000000000,400000000000000.00; end"],
+        ),
+        answered(
             "a map without parcels",
             &[PLAN, OPEN, "areas; outline,0; areas,1"],
             &["end; end; syntax"],
