@@ -5,5 +5,4 @@ mod TwoEnds
 pub mod Added
 mod Dropped
 pub mod Exchanged
-mod TestPaths
 pub mod Tied

@@ -22,6 +22,3 @@ pub use loose::{add_strings, drop_strings};
 pub use path::{loosen, string_up};
 pub use rerouting::{last_half, reroute};
 pub use round::{tie_ring, untie_ring};
-
-#[cfg(test)]
-mod tests;
