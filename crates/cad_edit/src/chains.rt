@@ -55,7 +55,7 @@ pub(crate) fn is_bad(points: &[PointNo], least: usize, strings: &[StringNo], wan
 
 /// A string for each two neighbours of a chain, from the former to the latter, with one source. An error where memory
 /// runs out.
-pub(crate) fn rows_along(
+pub fn rows_along(
     alloc: Global,
     chain: &[PointNo],
     strings: &[StringNo],

@@ -15,6 +15,10 @@ mod store;
 mod strings_at;
 
 pub use admitted::Admitted;
+pub use chains::rows_along;
+pub use edits::join::both_sources;
 pub use effect::{are_in_range, try_edit};
+pub use placing::is_in_ring;
 pub use refusal::{admit, first_refusal};
 pub use store::{PlainStore, WholeMaps};
+pub use strings_at::two_at;

@@ -7,7 +7,7 @@ ghost use Rattle.cad_map.specs.Rings.{HasWholeRings};
 ghost use Rattle.cad_rings.specs.Cycle.{anchor_of};
 ghost use Rattle.cad_map.specs.Boundaries.{is_face as is_face_of};
 
-use cad_map::{Boundary, PlainMap, is_face, position, sum_round};
+use cad_map::{Boundary, MapView, PlainMap, is_face, position, sum_round};
 use cad_rings::Ring;
 use cad_rows::{Face, Memory, PointNo};
 use geo_exact::{DoubledArea, crosses};
@@ -46,8 +46,8 @@ fn is_hole_inside(map: &PlainMap, face: &Face, ring: &Ring, boundary: &Boundary)
 }
 
 /// Whether a point is inside a ring: an odd number of the ring's sides is counted there.
-fn is_in_ring(map: &PlainMap, ring: &Ring, point: PointNo) -> bool
-    ensures { result ≡ is_in_ring_of map.now ring.now point }
+pub fn is_in_ring<M: MapView>(map: &M, ring: &Ring, point: PointNo) -> bool
+    ensures { result ≡ is_in_ring_of (M.map map.now) ring.now point }
 {
     let at = position(map, point);
     let mut inside = false;

@@ -21,7 +21,7 @@ fn in_order<'a>(first: &'a StringRow, second: &'a StringRow) -> (&'a StringRow, 
 }
 
 /// The two strings that end at a point, the lower-numbered one first.
-pub(crate) fn two_at<M: MapView>(map: &M, point: PointNo) -> (&StringRow, &StringRow)
+pub fn two_at<M: MapView>(map: &M, point: PointNo) -> (&StringRow, &StringRow)
     requires valid { IsValid (M.map map.now) }
     requires two { degree (M.map map.now) point ≡ 2 }
     ensures { by_number (strings_at (M.map map.now) point) ≡ result.0.now ∷ result.1.now ∷ [] }

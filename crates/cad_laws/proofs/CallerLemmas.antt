@@ -7,6 +7,7 @@ pub use Rattle.cad_laws.proofs.PlacedFaces.{divided-faces, enclosed-faces, map-m
 pub use Rattle.cad_laws.proofs.EnclosedCorners.{enclosed-island}
 pub use Rattle.cad_laws.proofs.MergedCorners.{merged-corners}
 pub use Rattle.cad_laws.proofs.MergedFaces.{merged-faces}
+pub use Rattle.cad_laws.proofs.NamedParcels.{of-parcels}
 pub use Rattle.cad_laws.proofs.JoinedCorners.{join-at}
 pub use Rattle.cad_laws.proofs.SplitAt.{split-between}
 -- that the rings are whole after each edit

@@ -1,15 +1,15 @@
 -- The boundaries and the faces of sides after a division and an enclosure.
 use Rattle.std.proofs.Common.{◌≡◌, ℕ, ◌⊎◌, inl, inr, refl, sym, ap, subst, ◌∙◌, List, [], ◌∷◌, ◌++◌, map, reverse, filter, not, None, Some, arith}
 use Rattle.std.proofs.lemmas.List.Elements.{Contains-append_cases, Contains-append_left, Contains-append_right}
-use Rattle.std.proofs.lemmas.List.Sorted.{IsPermutation-refl, IsPermutation-sym, IsPermutation-middle, Contains-permutation}
+use Rattle.std.proofs.lemmas.List.Sorted.{IsPermutation-refl, IsPermutation-sym, IsPermutation-middle, IsPermutation-reverse, Contains-permutation}
 use Rattle.std.specs.Prelude.{IsPermutation, slice_index}
 use Rattle.std.specs.List.{Contains}
 use Rattle.cad_rows.specs.declared.names.Face.{Face}
 use Rattle.cad_rows.specs.declared.names.Face.TheVariants.{Parcel}
 use Rattle.cad_rows.specs.declared.edits.Edit.TheVariants.{Divide, Enclose}
-use Rattle.cad_rings.specs.Cycle.{Ring, Side, has_side, sides_of, sides_along, Corner}
+use Rattle.cad_rings.specs.Cycle.{Ring, Side, has_side, opposite, sides_of, sides_along, Corner}
 use Rattle.cad_rings.specs.Surgery.{sides_of_chain, both_ways}
-use Rattle.cad_rings.proofs.CallerLemmas.{cut, sides_of-least_rotation, sides_of-cut, sides_along-append, sides_of_chain-is}
+use Rattle.cad_rings.proofs.CallerLemmas.{cut, sides_of-least_rotation, sides_of-cut, sides_along-append, sides_along-reverse, sides_of_chain-is}
 use Rattle.cad_map.specs.declared.boundary.Boundary.{Boundary}
 use Rattle.cad_map.specs.Boundaries.{bounding, canonical_form, canonical_order}
 use Rattle.cad_map.specs.Map.{Map}
@@ -210,6 +210,25 @@ module _ (m : Map) (valid : IsValid m) (face : Face) (chain strings : List ℕ) 
       (Contains-append_left (sides_along A inner Z) (sides_along Z k.ys A) s
       (subst (λ (l : List Side). Contains l s) (sym sides) h))
 
+  chain-right : (s : Side) → Contains (sides_of_chain chain) s
+      → Contains (sides_of R) (opposite s)
+  chain-right s h =
+      let k = cut i j inner b.ring
+      (maps.two m valid face chain strings parcel label source can b ring) in
+      let A = slice_index b.ring i in
+      let Z = slice_index b.ring j in
+      let across = maps.across m valid face chain strings parcel label source can b ring in
+      let sides : sides_along A inner Z ≡ sides_of_chain chain =
+      sym (sides_of_chain-is A inner Z) ∙ ap sides_of_chain across in
+      let turned = map opposite (sides_along A inner Z) in
+      subst (λ (l : List Side). Contains l (opposite s))
+      (sym (ap sides_of k.right ∙ sides_along-append Z (reverse inner) A k.xs Z))
+      (Contains-append_left (sides_along Z (reverse inner) A) (sides_along A k.xs Z) (opposite s)
+      (subst (λ (l : List Side). Contains l (opposite s)) (sym (sides_along-reverse A inner Z))
+      (Contains-permutation turned (reverse turned) (opposite s) (IsPermutation-reverse turned)
+      (Contains-map opposite (sides_along A inner Z) s
+      (subst (λ (l : List Side). Contains l s) (sym sides) h)))))
+
   were-parted : IsPermutation m.boundaries (b ∷ others_of)
   were-parted =
       let only = maps.only m valid face chain strings parcel label source can b ring in
@@ -227,6 +246,7 @@ module _ (m : Map) (valid : IsValid m) (face : Face) (chain strings : List ℕ) 
     has_last = has_side-Contains (leaving can.last) (sides_of b.ring) ring.has_last;
     hands = hands;
     along = chain-left;
+    back = chain-right;
     placed =
         subst (λ (a : Map). HasPlaced m a face (Parcel parcel) (b ∷ []) L R others_of)
         (sym (maps.divide-is m valid face chain strings parcel label source can b ring))

@@ -74,13 +74,15 @@ pub record IsDividedIn (m after : Map) (face new : Face) (chain : List ℕ)
   pub has_first : Contains (sides_of cut.ring) (leaving first)
   pub has_last : Contains (sides_of cut.ring) (leaving last)
   -- the two rings share out the sides of the one, and have the chain's besides, the left one those
-  -- along it
+  -- along it and the right one those back
   pub hands : IsPermutation
       (sides_of (left_of_chain chain first last cut.ring) ++ sides_of
       (right_of_chain chain first last cut.ring))
       (both_ways (sides_of_chain chain) ++ sides_of cut.ring)
   pub along : (s : Side) → Contains (sides_of_chain chain) s
       → Contains (sides_of (left_of_chain chain first last cut.ring)) s
+  pub back : (s : Side) → Contains (sides_of_chain chain) s
+      → Contains (sides_of (right_of_chain chain first last cut.ring)) (opposite s)
   pub placed : HasPlaced m after face new (cut ∷ []) (left_of_chain chain first last cut.ring)
       (right_of_chain chain first last cut.ring) (uncut m first)
 

@@ -31,6 +31,7 @@ use crate::swept::{has_distinct_positions_swept, has_no_crossing_swept};
 use cad_map::{MapView, PlainMap};
 use cad_rows::{Memory, Rule};
 pub use near::{Touched, first_broken_near};
+pub use rings::{anchor_of, is_hole};
 use std::alloc::Global;
 
 /// The first rule that a map breaks, of V3, V4, V6, V7 and V8 in this order, or `None` where it keeps them all. Takes no

@@ -20,7 +20,7 @@ pub(crate) fn is_outline<M: MapView>(map: &M, face: &Face, place: usize) -> bool
 }
 
 /// Whether a ring of a face has negative doubled area.
-pub(crate) fn is_hole<M: MapView>(map: &M, face: &Face, place: usize) -> bool
+pub fn is_hole<M: MapView>(map: &M, face: &Face, place: usize) -> bool
     requires whole { HasWholeRings (M.map map.now) }
     requires there { place < length (rings_at face.now (M.rings map.now)) }
     ensures { result ≡ is_negative (M.map map.now) (ring_at (M.rings map.now) face.now place) }
@@ -39,7 +39,7 @@ pub(crate) fn doubled_area_of<M: MapView>(map: &M, face: &Face, place: usize) ->
 }
 
 /// The anchor of a ring of a face, its least point.
-pub(crate) fn anchor_of<M: MapView>(map: &M, face: &Face, place: usize) -> PointNo
+pub fn anchor_of<M: MapView>(map: &M, face: &Face, place: usize) -> PointNo
     requires whole { HasWholeRings (M.map map.now) }
     requires there { place < length (rings_at face.now (M.rings map.now)) }
     ensures value { result ≡ anchor_of_ring (ring_at (M.rings map.now) face.now place) }

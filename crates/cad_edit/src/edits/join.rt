@@ -6,7 +6,7 @@ ghost use Rattle.cad_rings.specs.Cycle.{times_through};
 ghost use Rattle.cad_rings.specs.Surgery.{without};
 ghost use Rattle.cad_map.specs.Boundaries.{bounding};
 ghost use Rattle.cad_map.specs.Map.{string_of, degree};
-ghost use Rattle.cad_map.specs.Changes.{both_sources, join as join_of};
+ghost use Rattle.cad_map.specs.Changes.{both_sources as both_sources_of, join as join_of};
 ghost use Rattle.cad_map.specs.Refusals.{not_degree_two};
 ghost use Rattle.cad_edit.specs.Admitted.{AreStrings, HasStrings};
 
@@ -67,22 +67,22 @@ pub(crate) fn join(
         number: string,
         from: far_end(&first, point),
         to: far_end(&second, point),
-        sources: joined(first.sources, &second.sources)?,
+        sources: both_sources(&first.sources, &second.sources)?,
     })?;
     map.set_boundaries(boundaries);
     Ok(())
 }
 
 /// The sources of one list, and then those of another that aren't among them.
-fn joined(
-    sources: Numbers<SourceNo>,
+pub fn both_sources(
+    sources: &Numbers<SourceNo>,
     others: &Numbers<SourceNo>,
 ) -> Result<Numbers<SourceNo>, Memory>
-    ensures { IfOk result (λ made. made ≡ both_sources sources others.now) }
+    ensures { IfOk result (λ made. made ≡ both_sources_of sources.now others.now) }
 {
     let mut made = sources.copy()?;
     for other in others.as_slice() {
-        put_unless_among(&mut made, &sources, *other)?;
+        put_unless_among(&mut made, sources, *other)?;
     }
     Ok(made)
 }

@@ -7,7 +7,7 @@ use Rattle.cad_edit.proofs.placing.is_in_ring.Given as goal
 
 -- whether an odd number of the sides so far is counted
 abbrev pub invariant-loop-from : goal.invariant-loop-from
-invariant-loop-from l = record {
+invariant-loop-from g l = record {
   whole : l.yielded ++ sides_left l.from-iterator ≡ sides_of l.ring;
-  value : l.inside ≡ is_inside (placed (position_of l.map) l.yielded) l.at;
+  value : l.inside ≡ is_inside (placed (position_of (g.M.MapView.map l.map)) l.yielded) l.at;
 }

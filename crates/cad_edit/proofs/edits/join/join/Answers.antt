@@ -25,7 +25,7 @@ returns c =
     let s = c.in_ok-first.first in
     let t = c.in_ok-second.second in
     let are : by_number (strings_at m p) ≡ s ∷ t ∷ [] = c.two_found.ensures ∙ (λ i. sym c.in_ok-first.ensures i ∷ sym c.in_ok-second.ensures i ∷ []) in
-    rw (c.set_boundaries.ensures, c.in_ok-put_string.ensures.ok, c.take_point.ensures, c.take_string-2.ensures, c.take_string.ensures, c.in_ok-boundaries.ensures, c.in_ok-joined.ensures, c.far_end.ensures, c.far_end-2.ensures)
+    rw (c.set_boundaries.ensures, c.in_ok-put_string.ensures.ok, c.take_point.ensures, c.take_string-2.ensures, c.take_string.ensures, c.in_ok-boundaries.ensures, c.in_ok-both_sources.ensures, c.far_end.ensures, c.far_end-2.ensures)
     (λ i. record m {
       points = without_row (λ r. r.number) p m.points;
       strings = left-is m c.requires.valid p s t are i ++ string_joining p c.args.string (sym are i);
