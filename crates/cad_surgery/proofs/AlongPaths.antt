@@ -57,6 +57,10 @@ pub elsewhere-of : (path : List Half) (h : Half) → is_of (strings_of path) h �
 elsewhere-of [] h is = tt
 elsewhere-of (k ∷ path) h is = let parts = neither (nat_eq h.string k.string) (is_of (strings_of path) h) is in (parts.0, elsewhere-of path h parts.1)
 
+pub of-elsewhere : (path : List Half) (h : Half) → AreElsewhere h path → is_of (strings_of path) h ≡ false
+of-elsewhere [] h away = refl
+of-elsewhere (k ∷ path) h away = ap (λ (t : Bool). t || is_of (strings_of path) h) away.0 ∙ of-elsewhere path h away.1
+
 -- ---- Halves of a path in turn
 
 module _ (nx : Half → Half) where

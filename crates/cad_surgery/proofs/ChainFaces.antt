@@ -1,41 +1,37 @@
 -- The faces of halves where a chain comes across a face.
-use Rattle.std.proofs.Common.{◌≡◌, ◌≢◌, ◌⊎◌, ℕ, ◌≤◌, ◌||◌, Bool, true, false, List, [], ◌∷◌, ◌++◌, map, length, refl, sym, ap, ◌∙◌, subst, inl, inr, true≢false, if◌then◌else◌, arith, nat_eq}
-use Rattle.std.specs.Prelude.{IsPermutation}
-use Rattle.std.specs.List.{AllByRecursion, Contains, list_any}
+use Rattle.std.proofs.Common.{◌≡◌, ◌≢◌, ◌⊎◌, ℕ, ◌≤◌, ◌*◌, ◌||◌, Bool, true, false, List, [], ◌∷◌, length, refl, sym, ap, ◌∙◌, subst, inl, inr, true≢false, if◌then◌else◌, arith, nat_eq}
+use Rattle.std.specs.List.{Contains}
 use Rattle.std.proofs.lemmas.Bool.Decides.{Decides-eqb}
-use Rattle.std.proofs.lemmas.List.Elements.{Contains-append_left, Contains-append_right, Contains-append_cases}
-use Rattle.std.proofs.lemmas.List.Sorted.{Contains-permutation, IsPermutation-sym}
 use Rattle.cad_rows.specs.declared.names.Face.{Face}
-use Rattle.cad_rings.specs.Cycle.{Side, sides_of, opposite, Corner}
-use Rattle.cad_rings.specs.Surgery.{both_ways, sides_of_chain}
+use Rattle.cad_rings.specs.Cycle.{sides_of, Corner}
+use Rattle.cad_rings.specs.Surgery.{sides_of_chain}
 use Rattle.cad_map.specs.Chain.{start_of, next_of, end_of, last_but_one}
 use Rattle.cad_map.specs.declared.boundary.Boundary.{Boundary}
 use Rattle.cad_map.specs.Boundaries.{is_face}
-use Rattle.cad_map.specs.Map.{Map, has_string}
-use Rattle.cad_map.specs.Merger.{handed_over}
+use Rattle.cad_map.specs.Map.{Map}
 use Rattle.cad_map.specs.Rings.{HasWholeRings}
-use Rattle.cad_map.proofs.CallerLemmas.{Contains-cases, Contains-first, Contains-later, Contains-map, Contains-flat_map, list_any-Contains, is_face-same, in_both_ways}
+use Rattle.cad_map.proofs.CallerLemmas.{Contains-first, list_any-Contains, is_face-same}
 use Rattle.half_table.specs.declared.half.Half.{Half}
 use Rattle.half_table.specs.Half.{twin, is_half}
 use Rattle.half_table.specs.Cycle.{holds}
 use Rattle.half_table.specs.Rows.{HalfRows, IsLinked, has, next, origin_of, face, cycle}
-use Rattle.half_table.proofs.Halves.{is_half-self, twin-twin}
-use Rattle.half_paths.specs.Path.{strings_of, last_of, AreIn, AreElsewhere}
+use Rattle.half_table.proofs.Closed.{has-cycle, cycle-only}
+use Rattle.half_table.proofs.Halves.{is_half-self, is_half-twin}
+use Rattle.half_paths.specs.Path.{strings_of, last_of, AreIn}
 use Rattle.half_paths.specs.Loose.{is_of, AreLoose}
 use Rattle.half_paths.proofs.Exchanged.{same-string}
 use Rattle.cad_laws.specs.Local.{IsShown, side_by, IsLocal}
 use Rattle.cad_surgery.specs.Labels.{IsOnRing}
 use Rattle.cad_surgery.specs.Paths.{AreAlong, HasStringsMore}
-use Rattle.cad_surgery.specs.Relabelled.{on_cycles}
+use Rattle.cad_surgery.specs.Relabelled.{on_cycles, cycles_length}
 use Rattle.cad_surgery.specs.Islands.{FitsTable, AreOfRings}
 use Rattle.cad_surgery.specs.Chains.{IsChainOf}
 use Rattle.cad_surgery.proofs.CycleRings.{cycle-each, cycle-next}
 use Rattle.cad_surgery.proofs.Labels.{any-there}
 use Rattle.cad_surgery.proofs.RingCycles.{one-on, face-on, ring-held, held-ring, each-held, held-each}
-use Rattle.cad_surgery.proofs.AlongPaths.{on-path, is-on_path}
-use Rattle.cad_surgery.proofs.IslandTable.{more-old, more-rest}
+use Rattle.cad_surgery.proofs.IslandTable.{more-rest}
 use Rattle.cad_surgery.proofs.IslandFaces.{handed-stays}
-use Rattle.cad_surgery.proofs.ChainTable.{off-chain}
+use Rattle.cad_surgery.proofs.ChainRings.{left-in, right-in, other-in, one-in, handed-in, parted-cases, first-on, one-ring, path-rings as on-rings}
 
 -- ---- The cycles of loose strings
 
@@ -73,6 +69,15 @@ module _ (rows : HalfRows) (linked : IsLinked rows) where
       one : holds (cycle rows h) g ≡ nat_eq g.string h.string
       one = by (holds (cycle rows h) g) (nat_eq g.string h.string) refl refl
 
+  -- and so they are two halves a string
+  pub length-of_loose : (path : List Half) → AreIn rows path → AreLoose (next rows) path → cycles_length rows path ≡ 2 * length path
+  length-of_loose [] within loose = refl
+  length-of_loose (h ∷ path) within loose =
+      let ring = has-cycle rows linked h (twin h ∷ []) within.0 ((loose.0.0, loose.0.1), (ap (λ (t : Bool). t || false) (is_half-twin h), (refl, tt))) in
+      let two = ap length (cycle-only rows linked h (twin h ∷ []) ring) in
+      let later = length-of_loose path within.1 loose.1 in
+      omega (arith, two, later)
+
 -- ---- The faces of the two rings and of the others
 
 module _ (whole parted : Map) (outer inner : Face) (chain : List ℕ) (fc lc : Corner) (one left right : Boundary) (others : List Boundary)
@@ -85,60 +90,36 @@ module _ (whole parted : Map) (outer inner : Face) (chain : List ℕ) (fc lc : C
   path = first ∷ rest
 
   left_in : Contains parted.boundaries left
-  left_in = Contains-permutation (left ∷ right ∷ others) parted.boundaries left (IsPermutation-sym parted.boundaries (left ∷ right ∷ others) it.were) (Contains-first left (right ∷ others))
+  left_in = left-in whole parted outer inner chain fc lc one left right others it
 
   right_in : Contains parted.boundaries right
-  right_in = Contains-permutation (left ∷ right ∷ others) parted.boundaries right (IsPermutation-sym parted.boundaries (left ∷ right ∷ others) it.were) (Contains-later left (right ∷ others) right (Contains-first right others))
+  right_in = right-in whole parted outer inner chain fc lc one left right others it
 
   other_in : (b : Boundary) → Contains others b → Contains parted.boundaries b
-  other_in b among = Contains-permutation (left ∷ right ∷ others) parted.boundaries b (IsPermutation-sym parted.boundaries (left ∷ right ∷ others) it.were) (Contains-later left (right ∷ others) b (Contains-later right others b among))
+  other_in = other-in whole parted outer inner chain fc lc one left right others it
 
   old-side : (g : Half) → side_by old g ≡ side_by mid g
   old-side g = λ i. (sym (same_origin g) i, sym (same_origin (twin g)) i)
 
   -- the path's first half is on the left ring
-  pub first-left : IsOnRing parted mid left first
-  first-left = record {
-    shown = more.all first ∙ ap (λ (b : Bool). b || has_string whole first.string) (is-on_path path first (Contains-first first rest));
-    side = it.along (side_by mid first) (subst (λ (l : List Side). Contains l (side_by mid first)) along (Contains-map (side_by mid) path first (Contains-first first rest)));
-  }
+  first-left : IsOnRing parted mid left first
+  first-left = first-on whole parted outer inner chain fc lc one left right others it parts long first rest more mid along
 
   -- a half of the path is on the left ring or on the right one
   path-rings : (g : Half) → IsShown parted g → is_of (strings_of path) g ≡ true → IsOnRing parted mid left g ⊎ IsOnRing parted mid right g
-  path-rings g shown on =
-      elim (Contains-append_cases (sides_of left.ring) (sides_of right.ring) (side_by mid g)
-      (Contains-permutation (both_ways (sides_of_chain chain) ++ sides_of one.ring) (sides_of left.ring ++ sides_of right.ring) (side_by mid g)
-      (IsPermutation-sym (sides_of left.ring ++ sides_of right.ring) (both_ways (sides_of_chain chain) ++ sides_of one.ring) it.hands)
-      (Contains-append_left (both_ways (sides_of_chain chain)) (sides_of one.ring) (side_by mid g) (leads (on-path path g on))))) [
-        | inl a ↦ inl (record { shown = shown; side = a })
-        | inr b ↦ inr (record { shown = shown; side = b })
-      ]
-    where
-      leads : Contains path g ⊎ Contains path (twin g) → Contains (both_ways (sides_of_chain chain)) (side_by mid g)
-      leads (inl forth) = (in_both_ways (sides_of_chain chain) (side_by mid g) (subst (λ (l : List Side). Contains l (side_by mid g)) along (Contains-map (side_by mid) path g forth))).0
-      leads (inr back) =
-          subst (Contains (both_ways (sides_of_chain chain))) (λ i. (origin_of mid (twin-twin g i), origin_of mid (twin g)))
-          (in_both_ways (sides_of_chain chain) (side_by mid (twin g)) (subst (λ (l : List Side). Contains l (side_by mid (twin g))) along (Contains-map (side_by mid) path (twin g) back))).1
+  path-rings = on-rings whole parted outer inner chain fc lc one left right others it parts long first rest more mid along
 
   -- a half of the first map that is on the right ring was on the ring that is cut
   cut-face : (g : Half) → IsShown whole g → IsOnRing parted mid right g → face old g ≡ outer
   cut-face g shown on =
-      elim (Contains-append_cases (both_ways (sides_of_chain chain)) (sides_of one.ring) (side_by mid g)
-      (Contains-permutation (sides_of left.ring ++ sides_of right.ring) (both_ways (sides_of_chain chain) ++ sides_of one.ring) (side_by mid g) it.hands
-      (Contains-append_right (sides_of left.ring) (sides_of right.ring) (side_by mid g) on.side))) [
-        | inl chained ↦ absurd (off-chain whole parted chain long fc lc it.corners parts mid first rest more local along first_side last_side g shown chained)
-        | inr had ↦
-            let there = Contains-permutation (one ∷ map (handed_over outer inner) others) whole.boundaries one it.are (Contains-first one (map (handed_over outer inner) others)) in
-            face-on whole rings old one there g (record { shown = shown; side = subst (Contains (sides_of one.ring)) (sym (old-side g)) had }) (face old g) (fits.faces g shown) ∙ it.one_face
-      ]
+      let had = one-ring whole parted outer inner chain fc lc one left right others it parts long first rest more mid along local first_side last_side g shown (inr on) in
+      face-on whole rings old one (one-in whole parted outer inner chain fc lc one left right others it) g
+      (record { shown = shown; side = subst (Contains (sides_of one.ring)) (sym (old-side g)) had }) (face old g) (fits.faces g shown) ∙ it.one_face
 
   -- and on a ring that keeps its face, it has had it
   same-face : (b : Boundary) → Contains others b → is_face inner b.face ≡ false → (g : Half) → IsShown whole g → IsOnRing parted mid b g → face old g ≡ b.face
   same-face b among away g shown on =
-      let there : Contains whole.boundaries b =
-      subst (Contains whole.boundaries) (handed-stays outer inner b away)
-      (Contains-permutation (one ∷ map (handed_over outer inner) others) whole.boundaries (handed_over outer inner b) it.are
-      (Contains-later one (map (handed_over outer inner) others) (handed_over outer inner b) (Contains-map (handed_over outer inner) others b among))) in
+      let there : Contains whole.boundaries b = subst (Contains whole.boundaries) (handed-stays outer inner b away) (handed-in whole parted outer inner chain fc lc one left right others it b among) in
       face-on whole rings old b there g (record { shown = shown; side = subst (Contains (sides_of b.ring)) (sym (old-side g)) on.side }) (face old g) (fits.faces g shown)
 
   module _ (new : Half → Face)
@@ -156,9 +137,9 @@ module _ (whole parted : Map) (outer inner : Face) (chain : List ℕ) (fc lc : C
     ]
     by_cycles b there g on false false false is_s is_t is_u =
         let shown = more-rest whole parted path more g on.shown is_u in
-        elim (Contains-cases left (right ∷ others) b (Contains-permutation parted.boundaries (left ∷ right ∷ others) b it.were there)) [
+        elim (parted-cases whole parted outer inner chain fc lc one left right others it b there) [
           | inl same ↦ absurd (true≢false (sym (ring-held parted parts mid local two left left_in first g first-left (subst (λ (x : Boundary). IsOnRing parted mid x g) (sym same) on)) ∙ is_t))
-          | inr later ↦ elim (Contains-cases right others b later) [
+          | inr later ↦ elim later [
             | inl same ↦ cut-face g shown (subst (λ (x : Boundary). IsOnRing parted mid x g) (sym same) on) ∙ sym it.right_face ∙ ap (λ (x : Boundary). x.face) same
             | inr among ↦ other_face among shown (is_face inner b.face) refl
           ]

@@ -1,6 +1,6 @@
 -- A table that goes with a map, after a chain has come across a face.
-use Rattle.std.proofs.Common.{◌≡◌, ◌≢◌, ℕ, ◌≤◌, Bool, List, [], ◌∷◌, length, refl, sym, ap, ◌∙◌, subst, if◌then◌else◌}
-use Rattle.std.specs.List.{AllByRecursion, list_any}
+use Rattle.std.proofs.Common.{◌≡◌, ◌≢◌, ℕ, ◌≤◌, List, ◌∷◌, length, sym, ap, ◌∙◌, if◌then◌else◌}
+use Rattle.std.specs.List.{AllByRecursion}
 use Rattle.cad_rows.specs.declared.names.Face.{Face}
 use Rattle.cad_rings.specs.Cycle.{Corner}
 use Rattle.cad_rings.specs.Surgery.{sides_of_chain}
@@ -11,10 +11,9 @@ use Rattle.cad_map.specs.Rings.{HasWholeRings}
 use Rattle.half_table.specs.declared.half.Half.{Half}
 use Rattle.half_table.specs.Half.{twin}
 use Rattle.half_table.specs.Cycle.{holds}
-use Rattle.half_table.specs.Rows.{HalfRows, IsLinked, next, origin_of, face, cycle}
-use Rattle.half_table.specs.Surgery.{KeepsHalves, Relabels}
-use Rattle.half_paths.specs.Path.{strings_of, last_of, AreIn}
-use Rattle.half_paths.specs.Loose.{is_of, AreLoose}
+use Rattle.half_table.specs.Rows.{HalfRows, IsLinked, has, origin_of, face, cycle}
+use Rattle.half_paths.specs.Path.{strings_of, last_of}
+use Rattle.half_paths.specs.Loose.{is_of}
 use Rattle.cad_laws.specs.Local.{IsShown, side_by, IsLocal}
 use Rattle.cad_surgery.specs.Parts.{HasHalves}
 use Rattle.cad_surgery.specs.Paths.{AreAlong, HasStringsMore}
@@ -24,49 +23,42 @@ use Rattle.cad_surgery.specs.Chains.{IsChainOf}
 use Rattle.cad_surgery.proofs.WholeStrings.{two-ends}
 use Rattle.cad_surgery.proofs.PartsRings.{half-two}
 use Rattle.cad_surgery.proofs.KeptShown.{local-kept, bare}
-use Rattle.cad_surgery.proofs.RelabelledEach.{cycle-same}
 use Rattle.cad_surgery.proofs.RingCycles.{labelled-faces}
 use Rattle.cad_surgery.proofs.IslandFits.{side-same, along-same, on-same, of-same, ends-same}
-use Rattle.cad_surgery.proofs.ChainFaces.{cycles-of_loose, chain-labelled}
+use Rattle.cad_surgery.proofs.ChainFaces.{chain-labelled}
 
 module _ (whole parted : Map) (outer inner : Face) (chain : List ℕ) (fc lc : Corner) (one left right : Boundary) (others : List Boundary)
     (it : IsChainOf whole parted outer inner chain fc lc one left right others) (rings : HasWholeRings whole) (parts : HasWholeRings parted) (long : 2 ≤ length chain)
-    (first : Half) (rest : List Half) (more : HasStringsMore whole parted (first ∷ rest)) (moved : List Half) (old path_faced mid half_faced new : HalfRows)
-    (linked : IsLinked old) (within : AreIn old (first ∷ rest)) (loose : AreLoose (next old) (first ∷ rest)) (lone : RelabelsEach (first ∷ rest) outer old path_faced)
-    (halves : KeepsHalves path_faced mid) (local : IsLocal parted mid) (labels : Relabels (cycle mid first) inner mid half_faced) (all : RelabelsEach moved inner half_faced new) (now : IsLinked new)
+    (first : Half) (rest : List Half) (more : HasStringsMore whole parted (first ∷ rest)) (moved : List Half) (old mid new : HalfRows)
+    (has_mid : (g : Half) → has mid g ≡ has old g) (origins_mid : (g : Half) → origin_of mid g ≡ origin_of old g)
+    (faces_mid : (g : Half) → face mid g ≡ (if holds (cycle mid first) g then inner else if is_of (strings_of (first ∷ rest)) g then outer else face old g))
+    (local : IsLocal parted mid) (all : RelabelsEach moved inner mid new) (now : IsLinked new)
     (along : AreAlong old (first ∷ rest) (sides_of_chain chain)) (first_side : side_by old first ≡ (start_of chain, next_of chain))
     (last_side : side_by old (last_of first rest) ≡ (last_but_one chain, end_of chain)) (ends : AllByRecursion (HasHalves old) parted.strings) (of : AreOfRings parted old moved inner others)
     (fits : FitsTable whole old) where
-  origins_mid : (g : Half) → origin_of mid g ≡ origin_of old g
-  origins_mid g = halves.origin g ∙ lone.origin g
-
-  origins : (g : Half) → origin_of new g ≡ origin_of mid g
-  origins g = all.origin g ∙ labels.origin g
-
   ends_mid : AllByRecursion (HasHalves mid) parted.strings
-  ends_mid = ends-same old mid origins_mid (λ g. halves.has g ∙ lone.has g) parted.strings ends
+  ends_mid = ends-same old mid origins_mid has_mid parted.strings ends
 
-  two_mid : (h : Half) → IsShown parted h → origin_of mid h ≢ origin_of mid (twin h)
-  two_mid h shown = half-two (bare parted mid) ends_mid (two-ends parted parts) h shown
+  pub two-mid : (h : Half) → IsShown parted h → origin_of mid h ≢ origin_of mid (twin h)
+  two-mid h shown = half-two (bare parted mid) ends_mid (two-ends parted parts) h shown
+
+  pub along-mid : AreAlong mid (first ∷ rest) (sides_of_chain chain)
+  along-mid = along-same old mid origins_mid (first ∷ rest) (sides_of_chain chain) along
 
   faces : (g : Half) → face new g ≡ (if on_cycles mid moved g then inner else if holds (cycle mid first) g then inner else if is_of (strings_of (first ∷ rest)) g then outer else face old g)
-  faces g =
-      let again : on_cycles half_faced moved g ≡ on_cycles mid moved g = λ i. list_any (λ h. holds (cycle-same mid half_faced labels.strings labels.next i h) g) moved in
-      let was : face mid g ≡ (if is_of (strings_of (first ∷ rest)) g then outer else face old g) =
-      halves.face g ∙ lone.face g ∙ ap (λ (t : Bool). if t then outer else face old g) (cycles-of_loose old linked (first ∷ rest) within loose g) in
-      all.face g ∙ (λ i. if again i then inner else (labels.face g ∙ ap (λ (f : Face). if holds (cycle mid first) g then inner else f) was) i)
+  faces g = all.face g ∙ ap (λ (f : Face). if on_cycles mid moved g then inner else f) (faces_mid g)
 
   local_new : IsLocal parted new
-  local_new = local-kept parted mid new (λ g shown. all.has g ∙ labels.has g) (λ g shown. all.next g ∙ labels.next g) (λ g shown. origins g) now local
+  local_new = local-kept parted mid new (λ g shown. all.has g) (λ g shown. all.next g) (λ g shown. all.origin g) now local
 
   pub fits-across : FitsTable parted new
   fits-across = record {
     local = local_new;
-    ends = ends-same mid new origins (λ g. all.has g ∙ labels.has g) parted.strings ends_mid;
+    ends = ends-same mid new all.origin all.has parted.strings ends_mid;
     faces =
-        labelled-faces parted parts new local_new (λ h shown same. two_mid h shown (sym (origins h) ∙ same ∙ origins (twin h)))
+        labelled-faces parted parts new local_new (λ h shown same. two-mid h shown (sym (all.origin h) ∙ same ∙ all.origin (twin h)))
         (λ b there g on.
-        chain-labelled whole parted outer inner chain fc lc one left right others it rings parts long first rest more old mid fits local two_mid origins_mid
-        (along-same old mid origins_mid (first ∷ rest) (sides_of_chain chain) along) (side-same old mid origins_mid first ∙ first_side) (side-same old mid origins_mid (last_of first rest) ∙ last_side)
-        moved (of-same old mid origins_mid parted moved inner others of) (face new) faces b there g (on-same new mid (λ h. sym (origins h)) parted b g on));
+        chain-labelled whole parted outer inner chain fc lc one left right others it rings parts long first rest more old mid fits local two-mid origins_mid along-mid
+        (side-same old mid origins_mid first ∙ first_side) (side-same old mid origins_mid (last_of first rest) ∙ last_side)
+        moved (of-same old mid origins_mid parted moved inner others of) (face new) faces b there g (on-same new mid (λ h. sym (all.origin h)) parted b g on));
   }

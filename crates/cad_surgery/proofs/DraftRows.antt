@@ -1,6 +1,6 @@
 -- An edit of rows alone, on the parts of a map on half-edges.
-use Rattle.std.proofs.Common.{◌≡◌, ◌≢◌, ℕ, List, [], ◌∷◌, ◌++◌, true, false, not, ◌==◌, map, find, filter, refl, sym, ap, ◌∙◌, subst, Option, Some, None}
-use Rattle.std.specs.Prelude.{Result, Ok, Err, OnOk, OnErr, option_map, IsTrue}
+use Rattle.std.proofs.Common.{◌≡◌, ◌≢◌, ℕ, List, [], ◌∷◌, ◌++◌, not, ◌==◌, map, find, filter, refl, sym, ap, ◌∙◌, subst, Option, Some, None}
+use Rattle.std.specs.Prelude.{Result, Ok, Err, IfOk, OnOk, OnErr, option_map, IsTrue}
 use Rattle.cad_rows.specs.declared.edits.Edit.{Edit}
 use Rattle.cad_rows.specs.declared.edits.Edit.TheVariants.{AddSource, AddPoint, DropPoint, Split, Join, Divide, Merge, Move, Attach, Detach, Rename, Enclose}
 use Rattle.cad_rows.specs.declared.names.Item.{Item}
@@ -12,19 +12,18 @@ use Rattle.cad_rows.specs.declared.rows.PointRow.{PointRow}
 use Rattle.cad_rows.specs.declared.rows.StringRow.{StringRow}
 use Rattle.cad_rows.specs.declared.rows.ParcelRow.{ParcelRow}
 use Rattle.cad_map.specs.declared.boundary.Boundary.{Boundary}
-use Rattle.cad_map.specs.Changes.{change_point, change_parcel, change_string, change_sources, with_point, with_string, with_parcel}
+use Rattle.cad_map.specs.Changes.{change_point, change_parcel, change_string, change_sources}
 use Rattle.cad_map.specs.Effects.{after}
 use Rattle.cad_map.specs.Map.{Map, point_of, parcel_of, string_of}
-use Rattle.cad_map.specs.Refusals.{unknown, taken, is_there, named, given, is_attached, not_attached, sources_at, when}
+use Rattle.cad_map.specs.Refusals.{unknown, taken, is_there, named, given, is_attached, not_attached, when}
 use Rattle.cad_map.specs.Valid.{EachPair}
 use Rattle.cad_map.proofs.CallerLemmas.{map-with_row, map-with_row-same, found-number}
-use Rattle.cad_surgery.specs.Parts.{Parts, FitTogether, rows_of, map_of, kept_at}
-use Rattle.cad_surgery.specs.Proper.{IsProper}
+use Rattle.cad_surgery.specs.Parts.{Parts, FitTogether, rows_of, map_of}
 use Rattle.cad_surgery.specs.Record.{edit_of, Holds}
 use Rattle.cad_surgery.specs.declared.record.SmallRecord.{SmallRecord}
 use Rattle.cad_surgery.specs.declared.record.SmallRecord.TheVariants as record_of
 use Rattle.cad_surgery.specs.RowEdits.{is_of_rows, without_rings, ends_of, HasSameEnds, with_rows, KeepsBeside}
-use Rattle.cad_surgery.proofs.RowsKept.{same-rings, rows-fit, rows-proper}
+use Rattle.cad_surgery.proofs.RowsKept.{same-rings, rows-proper}
 
 -- ---- What an edit of rows leaves
 
@@ -167,19 +166,27 @@ not_attached-rows m (Detach i s) = ap (λ b. when (not b) told.NotAttached) (att
 not_attached-rows m (Rename p label) = refl
 not_attached-rows m (Enclose face points strings parcel label source) = refl
 
-pub holds-rows : (m : Map) (r : SmallRecord) → Holds r (without_rings m) → Holds r m
-holds-rows m (record_of.AddSource row) h = tt
-holds-rows m (record_of.AddPoint p at) h = tt
-holds-rows m (record_of.DropPoint row place) h = h
-holds-rows m (record_of.Split row place p at first second) h = h
-holds-rows m (record_of.Join row place first i second j string) h =
-    record { point = h.point; strings = h.strings; first_there = h.first_there; second_there = h.second_there }
-holds-rows m (record_of.Move p from to) h = h
-holds-rows m (record_of.Attach i s) h = tt
-holds-rows m (record_of.Detach (item.Point n) s place) h = h
-holds-rows m (record_of.Detach (item.String n) s place) h = h
-holds-rows m (record_of.Detach (item.Parcel n) s place) h = h
-holds-rows m (record_of.Rename p from to) h = h
+holds-rows : (m : Map) (r : SmallRecord) → IsTrue (is_of_rows (edit_of r)) → Holds r (without_rings m) → Holds r m
+holds-rows m (record_of.AddSource row) alone h = tt
+holds-rows m (record_of.AddPoint p at) alone h = tt
+holds-rows m (record_of.DropPoint row place) alone h = h
+holds-rows m (record_of.Split row place p at first second) alone h = cc
+holds-rows m (record_of.Join row place first i second j string) alone h = cc
+holds-rows m (record_of.Divide face chain strings parcel label source start end moved) alone h = cc
+holds-rows m (record_of.MergeAlong kept row place chain strings start end moved) alone h = cc
+holds-rows m (record_of.MergeIsland kept row place points strings moved) alone h = cc
+holds-rows m (record_of.Enclose face points strings parcel label source moved) alone h = cc
+holds-rows m (record_of.Move p from to) alone h = h
+holds-rows m (record_of.Attach i s) alone h = tt
+holds-rows m (record_of.Detach (item.Point n) s place) alone h = h
+holds-rows m (record_of.Detach (item.String n) s place) alone h = h
+holds-rows m (record_of.Detach (item.Parcel n) s place) alone h = h
+holds-rows m (record_of.Rename p from to) alone h = h
+
+-- so what the record of an edit of rows says of them it says of the map
+pub held-rows : {E : Type 0} (m : Map) (e : Edit) → IsTrue (is_of_rows e) → (o : Result SmallRecord E) → IfOk o (λ r. edit_of r ≡ e) → IfOk o (λ r. Holds r (without_rings m)) → IfOk o (λ r. Holds r m)
+held-rows m e alone (Ok r) is holds = holds-rows m r (subst (λ (f : Edit). IsTrue (is_of_rows f)) (sym is) alone) holds
+held-rows m e alone (Err x) is holds = tt
 
 -- ---- The parts
 

@@ -1,19 +1,21 @@
 -- Rows, a table with one half kept of each ring, and stars of a map, as parts that fit together.
-use Rattle.std.proofs.Common.{◌≡◌, refl, sym, ap, subst, []}
-use Rattle.cad_map.specs.Map.{Map}
+use Rattle.std.proofs.Common.{◌≡◌, refl, sym, ap, subst, ◌∙◌}
+use Rattle.cad_map.specs.Map.{Map, has_string}
 use Rattle.cad_map.specs.Rings.{HasWholeRings}
 use Rattle.cell_grid.specs.Grid.{Grid}
 use Rattle.half_table.specs.declared.half.Half.{Half}
-use Rattle.half_table.specs.Rows.{Table}
+use Rattle.half_table.specs.Rows.{Table, has}
 use Rattle.key_lists.specs.Held.{Held}
 use Rattle.cad_surgery.specs.declared.map_rows.MapRows.{MapRows}
 use Rattle.cad_surgery.specs.declared.stars.Spoke.{Spoke}
 use Rattle.cad_surgery.specs.Rows.{map_in}
-use Rattle.cad_surgery.specs.Parts.{Parts, FitTogether, map_of}
+use Rattle.cad_surgery.specs.Parts.{Parts, FitTogether, map_of, kept_at}
+use Rattle.cad_surgery.specs.Proper.{IsProper}
 use Rattle.cad_surgery.specs.Fits.{FitRings}
 use Rattle.cad_surgery.specs.Building.{parts_of}
 use Rattle.cad_surgery.specs.Splitting.{FitMap}
 use Rattle.cad_surgery.proofs.FromHalves.{fit-together, map-is}
+use Rattle.cad_surgery.proofs.ProperParts.{proper}
 use Rattle.cad_surgery.proofs.ToHalves.{fits}
 use Rattle.cad_surgery.proofs.WholeStrings.{strings-once}
 
@@ -42,6 +44,13 @@ module _ (rows : MapRows) (table : Table) (held : Held Half) (stars : Held Spoke
     fit-map =
         subst (λ (q : Map). map_of (parts_of q table held stars grid) ≡ m) (sym fit.rows_are)
         (map-is (parts_of m table held stars grid) m.boundaries whole rings)
+
+    -- and are proper for it, where the table has no other strings
+    pub fit-proper : ((h : Half) → has table.rows h ≡ has_string m h.string)
+        → IsProper (map_of parts) table.rows (kept_at parts)
+    fit-proper alone =
+        proper parts fit-parts (subst HasWholeRings (sym fit-map) whole)
+        (λ h. alone h ∙ ap (λ (q : Map). has_string q h.string) (sym fit-map))
 
   -- and parts that stand for a map with whole rings are its
   pub parts-fit : FitTogether parts → HasWholeRings (map_of parts) → FitMap (map_of parts) rows table.rows held stars

@@ -1,5 +1,5 @@
 -- What is listed of an edit beside the map before it, where the edit is tried.
-use Rattle.std.proofs.Common.{◌≡◌, ℕ, ◌<◌, ◌≤◌, inl, refl, sym, ap, subst, ◌∙◌, List, [], ◌∷◌, Bool, true, false, Option, None, Some, is_some, to_z, of_z, to_z-of_z, ℤ, FitsSigned, w64, arith}
+use Rattle.std.proofs.Common.{◌≡◌, ℕ, inl, refl, sym, ap, subst, ◌∙◌, [], ◌∷◌, true, false, Option, None, Some, to_z, of_z, to_z-of_z, ℤ, FitsSigned, w64, arith}
 use Rattle.std.proofs.lemmas.Int.{ints}
 use Rattle.std.proofs.lemmas.List.Sorted.{IsPermutation-refl}
 use Rattle.std.specs.Borrow.{Bor}
@@ -7,13 +7,13 @@ use Rattle.std.specs.Option.{option_copied}
 use Rattle.std.specs.Prelude.{IsSome, IfOk, Result, Ok, Err, nat_lt}
 use Rattle.geo_exact.specs.Position.{Position, InRange, OnTheMap}
 use Rattle.cad_rows.specs.declared.edits.Edit.{Edit}
-use Rattle.cad_rows.specs.declared.edits.Edit.TheVariants.{AddPoint, DropPoint, Split, Join, Divide, Move, Enclose}
+use Rattle.cad_rows.specs.declared.edits.Edit.TheVariants.{AddPoint, DropPoint, Split, Join, Move}
 use Rattle.cad_rows.specs.declared.names.Name.TheVariants as name
 use Rattle.cad_rows.specs.declared.rows.PointRow.{PointRow}
 use Rattle.cad_rows.specs.declared.rows.StringRow.{StringRow}
 use Rattle.cad_map.specs.Changes.{by_number}
 use Rattle.cad_map.specs.Map.{Map, point_of, string_of, position_of, far_end}
-use Rattle.cad_map.proofs.CallerLemmas.{allowed, there-one, position-in_range, found-number}
+use Rattle.cad_map.proofs.CallerLemmas.{allowed, there-one, position-in_range}
 use Rattle.cad_laws.specs.Tried.{IsTried}
 use Rattle.cell_grid.specs.Together.{Listed}
 use Rattle.cad_surgery.specs.GridEdits.{gone_by, come_by}
@@ -37,7 +37,7 @@ beside m e tried = record { tried = tried; is = inl refl }
 abbrev pub nothing : Listed
 nothing = record { strings = []; points = [] }
 
-quiet : (of l : Listed) → of ≡ nothing → l ≡ nothing → AreEntries of l
+pub quiet : (of l : Listed) → of ≡ nothing → l ≡ nothing → AreEntries of l
 quiet of l none is = subst (λ (k : Listed). AreEntries k l) (sym none) (subst (AreEntries nothing) (sym is) (record { strings = IsPermutation-refl []; points = IsPermutation-refl [] }))
 
 pub quiet-gone : (m : Map) (e d : Edit) (l : Listed) → l ≡ nothing → gone_by m d ≡ nothing → e ≡ d → AreEntries (gone_by m e) l

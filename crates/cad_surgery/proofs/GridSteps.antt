@@ -1,5 +1,5 @@
 -- The steps of an edit beside the grid.
-use Rattle.std.proofs.Common.{◌≡◌, ap, subst, sym, ◌∙◌, Option, Some, None, refl, ◌⊎◌}
+use Rattle.std.proofs.Common.{◌≡◌, ℕ, ap, subst, sym, ◌∙◌, Option, Some, None, refl, ◌⊎◌, arith}
 use Rattle.std.specs.Prelude.{option_map}
 use Rattle.geo_exact.specs.Position.{Position}
 use Rattle.cad_rows.specs.declared.rows.PointRow.{PointRow}
@@ -15,7 +15,9 @@ use Rattle.cad_surgery.specs.GridEdits.{gone_by, come_by}
 use Rattle.cad_surgery.specs.GridLists.{AreEntries, IsBeside}
 use Rattle.cad_surgery.specs.Parts.{Parts, map_of, kept_at}
 use Rattle.cad_surgery.specs.Proper.{IsProper}
-use Rattle.cad_surgery.specs.Record.{edit_of, Holds, IsMadeOf}
+use Rattle.half_table.specs.Rows.{Table}
+use Rattle.cad_surgery.specs.Work.{TakesWork}
+use Rattle.cad_surgery.specs.Record.{edit_of, Holds, IsMadeOf, Belongs}
 use Rattle.cad_surgery.specs.declared.record.SmallRecord.{SmallRecord}
 use Rattle.cad_surgery.proofs.Played.{listed}
 
@@ -36,17 +38,30 @@ module _ (old new : Parts) (beside : new ≡ record old { grid = new.grid }) whe
     grid = subst (IsGridOf new.grid) (sym (same-map ∙ is)) grid;
   }
 
+-- the work on a table beside steps that leave it
+pub idle : (old new : Parts) (most : ℕ) → new.table ≡ old.table → TakesWork old.table new.table most
+idle old new most is = subst (λ (t : Table). TakesWork old.table t most) (sym is) (record { rises = omega arith; few = omega arith })
+
+pub worked : (a b c d : Parts) (most more : ℕ) → b.table ≡ a.table → d.table ≡ c.table → most ≡ more → TakesWork b.table c.table most → TakesWork a.table d.table more
+worked a b c d most more first last is takes =
+    subst (λ (t : Table). TakesWork t d.table more) first
+    (subst (λ (t : Table). TakesWork b.table t more) (sym last) (subst (λ (n : ℕ). TakesWork b.table c.table n) is takes))
+
+-- a record that leads to a map is of its edit as it is made
+pub made-by : (r : SmallRecord) (before after : Map) → Belongs r before after → IsMadeOf r before
+made-by r before after belongs = record { valid = belongs.valid; allowed = belongs.leads.allowed; holds = belongs.holds }
+
 -- what a record's edit is tried on, and what it exchanges
 pub tried-of : (r : SmallRecord) (b : Map) → IsMadeOf r b → GivesInRange (edit_of r) → IsTried b (edit_of r)
 tried-of r b made given = record { valid = made.valid; given = given; allowed = made.allowed }
 
 pub exchange-of : (m b : Map) (r : SmallRecord) (gone come : Listed) (made : IsMadeOf r b) (given : GivesInRange (edit_of r)) → ((m ≡ b) ⊎ (m ≡ after b (edit_of r)))
     → ((b : Map) → IsBeside m b (edit_of r) → Holds r b → AreEntries (gone_by b (edit_of r)) gone)
-    → ((b : Map) → IsBeside m b (edit_of r) → AreEntries (come_by b (edit_of r)) come) → IsExchange b gone come (after b (edit_of r))
+    → ((b : Map) → IsBeside m b (edit_of r) → Holds r b → AreEntries (come_by b (edit_of r)) come) → IsExchange b gone come (after b (edit_of r))
 exchange-of m b r gone come made given is goes comes =
     let tried = tried-of r b made given in
     let beside : IsBeside m b (edit_of r) = record { tried = tried; is = is } in
-    listed b (edit_of r) tried gone come (goes b beside made.holds) (comes b beside)
+    listed b (edit_of r) tried gone come (goes b beside made.holds) (comes b beside made.holds)
 
 -- the row of a point that lay at a position
 pub record IsRowAt (o : Option PointRow) (at : Position) : Type 0 where

@@ -15,7 +15,7 @@ use Rattle.cad_map.specs.Boundaries.{face_place}
 use Rattle.half_table.specs.Rows.{HalfRows, has, face}
 use Rattle.half_paths.specs.Path.{AreIn}
 use Rattle.key_lists.specs.Held.{Held, items_at, capacity_at, HasRoomAt}
-use Rattle.cad_surgery.specs.Handing.{is_placed, HandsOver}
+use Rattle.cad_surgery.specs.Handing.{is_placed, HandsOver, KeepsBoth}
 
 -- so far: what has gone, and the first halves that are left have another face
 pub record IsHanding (rows : HalfRows) (from to : ℕ) (old now : Held Half) (place step : ℕ) : Type 0 where
@@ -143,6 +143,9 @@ placed-no rows n h k is differ = by (is_placed rows n h) refl
     by true same = absurd (differ (is ∙ eqb-true (face_place (face rows h)) n same))
     by false other = other
 
+pub placed-is : (rows : HalfRows) (n : ℕ) (h : Half) → is_placed rows n h ≡ true → face_place (face rows h) ≡ n
+placed-is rows n h same = eqb-true (face_place (face rows h)) n same
+
 -- ---- A list that is emptied
 
 pub nothing-left : {X : Type 0} (xs : List X) → length xs ≤ 0 → xs ≡ []
@@ -166,6 +169,23 @@ in-handed rows face_rows from to old new hands all too =
     (in-parts rows (items_at old to) hands.gone too (All-from_each (λ h. has rows h ≡ true) hands.gone (λ h among.
     All-at_each (λ h. has rows h ≡ true) (items_at old from) h all
     (Contains-permutation (hands.gone ++ items_at new from) (items_at old from) h (IsPermutation-sym (items_at old from) (hands.gone ++ items_at new from) hands.split) (Contains-append_left hands.gone (items_at new from) h among)))))
+
+-- those that are left were there
+pub left-handed : (rows face_rows : HalfRows) (from to : ℕ) (old new : Held Half) → HandsOver face_rows from to old new → AreIn rows (items_at old from) → AreIn rows (items_at new from)
+left-handed rows face_rows from to old new hands all = All-from_each (λ h. has rows h ≡ true) (items_at new from) (λ h among.
+    All-at_each (λ h. has rows h ≡ true) (items_at old from) h all
+    (Contains-permutation (hands.gone ++ items_at new from) (items_at old from) h (IsPermutation-sym (items_at old from) (hands.gone ++ items_at new from) hands.split) (Contains-append_right hands.gone (items_at new from) h among)))
+
+-- where one half comes, for the one face or the other
+pub both-in : (rows : HalfRows) (inner outer : ℕ) (own other : Half) (old new : Held Half) → KeepsBoth inner outer own other old new → AreIn rows (items_at old outer) → has rows other ≡ true → AreIn rows (items_at new outer)
+both-in rows inner outer own other old new both all there = by (items_at old inner) refl
+  where
+    by : (xs : List Half) → items_at old inner ≡ xs → AreIn rows (items_at new outer)
+    by [] is = subst (AreIn rows) (sym (both.none is).1) all
+    by (x ∷ xs) is = subst (AreIn rows) (sym (both.some (λ e. some-not x xs (sym is ∙ e))).1) (in-parts rows (items_at old outer) (other ∷ []) all (there, tt))
+      where
+        some-not : (x : Half) (xs : List Half) → (x ∷ xs) ≡ [] → ⊥
+        some-not x xs e = cc
 
 -- halves that pass over are as many as before, together
 pub count-handed : (rows : HalfRows) (from to : ℕ) (old new : Held Half) → HandsOver rows from to old new

@@ -1,18 +1,16 @@
 -- The faces of halves where an island comes, and where it goes.
-use Rattle.std.proofs.Common.{◌≡◌, ◌≢◌, ◌⊎◌, ℕ, Bool, true, false, List, [], ◌∷◌, map, refl, sym, ap, ◌∙◌, subst, inl, inr, true≢false, if◌then◌else◌, ◌≤◌, ◌||◌, length, arith}
+use Rattle.std.proofs.Common.{◌≡◌, ◌≢◌, ◌⊎◌, Bool, true, false, List, [], ◌∷◌, map, refl, sym, ap, ◌∙◌, subst, inl, inr, true≢false, if◌then◌else◌, ◌≤◌, ◌||◌, length}
 use Rattle.std.specs.List.{AllByRecursion, Contains}
-use Rattle.std.specs.Prelude.{IsPermutation, flat_map}
-use Rattle.std.proofs.lemmas.List.Sums.{sum_by-cons}
-use Rattle.std.proofs.lemmas.List.Sorted.{Contains-permutation, IsPermutation-sym, IsPermutation-trans, IsPermutation-middle, sum_by-IsPermutation}
+use Rattle.std.proofs.lemmas.List.Sorted.{Contains-permutation, IsPermutation-sym, IsPermutation-trans, IsPermutation-middle}
 use Rattle.cad_rows.specs.declared.names.Face.{Face}
-use Rattle.cad_rings.specs.Cycle.{Ring, Side, is_side, sides_along, sides_of, opposite}
+use Rattle.cad_rings.specs.Cycle.{Ring, Side, sides_of, opposite}
 use Rattle.cad_rings.specs.Surgery.{both_ways}
 use Rattle.cad_map.specs.declared.boundary.Boundary.{Boundary}
-use Rattle.cad_map.specs.Boundaries.{is_face, bounding, sides_in}
+use Rattle.cad_map.specs.Boundaries.{is_face, bounding}
 use Rattle.cad_map.specs.Map.{Map, all_sides}
 use Rattle.cad_map.specs.Merger.{handed_over}
 use Rattle.cad_map.specs.Rings.{HasWholeRings}
-use Rattle.cad_map.proofs.CallerLemmas.{Contains-cases, Contains-first, Contains-later, Contains-map, Contains-flat_map, map-Contains, is_face-same, is_face-refl, in_both_ways, All-at_each, All-from_each, once-from_pairs, times, times-flat_map, count-some, is_side-refl}
+use Rattle.cad_map.proofs.CallerLemmas.{Contains-cases, Contains-first, Contains-later, Contains-map, Contains-flat_map, map-Contains, is_face-same, is_face-refl, in_both_ways, All-at_each, All-from_each}
 use Rattle.cad_surgery.proofs.KeptEach.{is_boundary, boundary-same, boundary-self}
 use Rattle.half_table.specs.declared.half.Half.{Half}
 use Rattle.half_table.specs.Half.{twin}
@@ -20,13 +18,13 @@ use Rattle.half_table.specs.Cycle.{holds}
 use Rattle.half_table.specs.Rows.{HalfRows, origin_of, face, cycle}
 use Rattle.cad_laws.specs.Local.{IsShown, side_by, IsLocal}
 use Rattle.cad_surgery.specs.Parts.{HasHalves}
-use Rattle.cad_surgery.specs.Fits.{HaveFaces}
-use Rattle.cad_surgery.specs.Labels.{IsOnRing, IsLabelled}
+use Rattle.cad_surgery.specs.Labels.{IsOnRing}
 use Rattle.cad_surgery.specs.Paths.{AreAlong, HasStringsMore}
 use Rattle.cad_surgery.specs.Relabelled.{on_cycles}
 use Rattle.cad_surgery.specs.Islands.{FitsTable, AreOfRings, IsIslandOf}
-use Rattle.cad_surgery.proofs.RingCycles.{side-half, ring-has_side, one-on, face-on, some-on, ring-held, held-ring, each-held, held-each, labelled-faces}
-use Rattle.cad_surgery.proofs.IslandTable.{more-old, more-new, off-island}
+use Rattle.cad_surgery.proofs.RingCycles.{side-half, one-on, face-on, some-on, ring-held, held-ring, each-held, held-each}
+use Rattle.cad_surgery.proofs.RingsOnce.{stands-once}
+use Rattle.cad_surgery.proofs.IslandTable.{more-old, off-island}
 
 -- the other ring with its face in the first map
 pub handed-stays : (outer inner : Face) (b : Boundary) → is_face inner b.face ≡ false → handed_over outer inner b ≡ b
@@ -174,35 +172,12 @@ module _ (whole parted : Map) (outer inner : Face) (ring : Ring) (left right : B
 
 module _ (whole parted : Map) (outer inner : Face) (ring : Ring) (left right : Boundary) (others : List Boundary)
     (it : IsIslandOf whole parted outer inner ring left right others) (parts : HasWholeRings parted) where
-  sides : Boundary → List Side
-  sides b = sides_of b.ring
-
-  -- a ring that stands twice would have its sides twice
-  stands-once : (b : Boundary) (rest : List Boundary) → IsPermutation parted.boundaries (b ∷ rest) → Contains rest b → ⊥
-  unfolding sides
-  stands-once b rest same again =
-      let long = All-at_each (λ b. 3 ≤ length b.ring) parted.boundaries b parts.v5.three (Contains-permutation (b ∷ rest) parted.boundaries b (IsPermutation-sym parted.boundaries (b ∷ rest) same) (Contains-first b rest)) in
-      let s = first-side b.ring long in
-      let few = once-from_pairs (all_sides parted) parts.once s.0 in
-      let whole_count = times-flat_map s.0 sides parted.boundaries in
-      let moved = sum_by-IsPermutation (λ c. times s.0 (sides c)) parted.boundaries (b ∷ rest) same in
-      let split = sum_by-cons (λ c. times s.0 (sides c)) b rest in
-      let here = count-some (is_side s.0) (sides b) s.0 s.1 (is_side-refl s.0) in
-      let rest_count = times-flat_map s.0 sides rest in
-      let there = count-some (is_side s.0) (flat_map sides rest) s.0 (Contains-flat_map sides rest b s.0 again s.1) (is_side-refl s.0) in
-      omega (arith, few, whole_count, moved, split, here, rest_count, there)
-    where
-      first-side : (r : Ring) → 3 ≤ length r → (s : Side) × Contains (sides_of r) s
-      first-side [] long = absurd (omega (arith, long))
-      first-side (a ∷ []) long = absurd (omega (arith, long))
-      first-side (a ∷ b ∷ points) long = ((a, b), Contains-first (a, b) (sides_along b points a))
-
   not-left : (c : Boundary) → Contains others c → left ≢ c
-  not-left c among same = stands-once left (right ∷ others) it.were (subst (Contains (right ∷ others)) (sym same) (Contains-later right others c among))
+  not-left c among same = stands-once parted parts left (right ∷ others) it.were (subst (Contains (right ∷ others)) (sym same) (Contains-later right others c among))
 
   not-right : (c : Boundary) → Contains others c → right ≢ c
   not-right c among same =
-      stands-once right (left ∷ others)
+      stands-once parted parts right (left ∷ others)
       (IsPermutation-trans parted.boundaries (left ∷ right ∷ others) (right ∷ left ∷ others) it.were (IsPermutation-middle (left ∷ []) right others))
       (subst (Contains (left ∷ others)) (sym same) (Contains-later left others c among))
 

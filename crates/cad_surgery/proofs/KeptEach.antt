@@ -1,11 +1,11 @@
 -- One half kept of each ring, face by face.
-use Rattle.std.proofs.Common.{◌≡◌, ◌≢◌, ℕ, suc, Bool, true, false, not, ◌&&◌, List, [], ◌∷◌, ◌++◌, map, find, filter, refl, sym, ap, ◌∙◌, subst, Option, Some, None, true≢false, ◌==◌, arith}
+use Rattle.std.proofs.Common.{◌≡◌, ◌≢◌, ◌⊎◌, inl, inr, ℕ, suc, Bool, true, false, not, ◌&&◌, List, [], ◌∷◌, ◌++◌, map, find, filter, refl, sym, ap, ◌∙◌, subst, Option, Some, None, true≢false, ◌==◌, arith}
 use Rattle.std.specs.Prelude.{IsPermutation, flat_map, unwrap_or, is_some}
 use Rattle.std.specs.List.{AllByRecursion, Contains}
 use Rattle.std.specs.Str.{bytes_eq}
 use Rattle.std.proofs.lemmas.List.{map-append}
 use Rattle.std.proofs.lemmas.Slice.Eq.{bytes_eq-Decides}
-use Rattle.std.proofs.lemmas.List.Sorted.{Contains-permutation, IsPermutation-sym}
+use Rattle.std.proofs.lemmas.List.Sorted.{Contains-permutation, IsPermutation-refl, IsPermutation-sym, IsPermutation-trans, IsPermutation-cons, IsPermutation-middle}
 use Rattle.cad_rows.specs.declared.names.Face.{Face}
 use Rattle.cad_rows.specs.declared.names.Face.TheVariants.{Outside, Parcel}
 use Rattle.cad_rows.specs.declared.rows.ParcelRow.{ParcelRow}
@@ -15,7 +15,7 @@ use Rattle.cad_map.specs.Boundaries.{bounding, is_face, face_place}
 use Rattle.cad_map.specs.Map.{Map, faces, has_face, all_sides}
 use Rattle.cad_map.specs.Rings.{HasWholeRings}
 use Rattle.cad_map.specs.Valid.{EachPair}
-use Rattle.cad_map.proofs.CallerLemmas.{Contains-first, Contains-later, Contains-map, Contains-in_part, Contains-flat_map, All-at_each, All-from_each, map-Contains, find-Contains, Contains-has_side, has_side-Contains, is_face-same, is_face-refl, is_face-place, once-from_pairs}
+use Rattle.cad_map.proofs.CallerLemmas.{Contains-first, Contains-later, Contains-cases, Contains-map, Contains-in_part, Contains-flat_map, All-at_each, All-from_each, map-Contains, find-Contains, Contains-has_side, has_side-Contains, is_face-same, is_face-refl, is_face-place, once-from_pairs}
 use Rattle.std.proofs.lemmas.Cmp.{nat_eq_equiv}
 use Rattle.half_table.specs.declared.half.Half.{Half}
 use Rattle.half_table.specs.Rows.{HalfRows}
@@ -52,6 +52,13 @@ boundary-self b = λ i. is_face-refl b.face i && (bytes_eq-Decides b.ring b.ring
 pub place-same : (f g : Face) → face_place f ≡ face_place g → f ≡ g
 place-same f g e = is_face-same f g (is_face-place f g ∙ ap (λ (n : ℕ). n == face_place g) e ∙ nat_eq_equiv.refl (face_place g))
 
+pub cases_face : (f g : Face) → (f ≡ g) ⊎ (f ≢ g)
+cases_face f g = by (is_face f g) refl
+  where
+    by : (t : Bool) → is_face f g ≡ t → (f ≡ g) ⊎ (f ≢ g)
+    by true is = inl (is_face-same f g is)
+    by false is = inr (λ e. true≢false (sym (is_face-refl f) ∙ ap (is_face f) e ∙ is))
+
 -- no face of a map stands twice
 pub faces-once : (m : Map) → HasWholeRings m → EachPair (λ a b. a ≢ b) (faces m)
 faces-once m whole = (outside m.parcels, parcels m.parcels whole.v1.parcels.distinct)
@@ -85,6 +92,29 @@ module _ (m : Map) (whole : HasWholeRings m) (rows : HalfRows) where
 pub map-cong : {X Y : Type 0} (f g : X → Y) (xs : List X) → ((x : X) → Contains xs x → f x ≡ g x) → map f xs ≡ map g xs
 map-cong f g [] same = refl
 map-cong f g (x ∷ xs) same = λ i. same x (Contains-first x xs) i ∷ map-cong f g xs (λ y there. same y (Contains-later x xs y there)) i
+
+-- a half with this ring, and the halves beside it
+pub pick : (f : Half → Boundary) (b : Boundary) (xs : List Half) → Contains (map f xs) b → (x : Half) × (rest : List Half) × IsPermutation xs (x ∷ rest) × (f x ≡ b)
+pick f b [] there = let low = there.1 in absurd (omega (arith, low))
+pick f b (x ∷ xs) there = elim (Contains-cases (f x) (map f xs) b there) [
+  | inl is ↦ (x, xs, IsPermutation-refl (x ∷ xs), is)
+  | inr later ↦
+      let it = pick f b xs later in
+      (it.0, x ∷ it.1, IsPermutation-trans (x ∷ xs) (x ∷ it.0 ∷ it.1) (it.0 ∷ x ∷ it.1) (IsPermutation-cons x xs (it.0 ∷ it.1) it.2) (IsPermutation-middle (x ∷ []) it.0 it.1), it.3)
+]
+
+-- where each half under a face is on a ring of that face, there are none under what is no face
+pub none-kept : (m : Map) (whole : HasWholeRings m) (rows : HalfRows) (held : Held Half)
+    → ((f : Face) (h : Half) → Contains (items_at held (face_place f)) h → (b : Boundary) × Contains m.boundaries b × IsOnRing m rows b h × (b.face ≡ f))
+    → (f : Face) → has_face m f ≡ false → items_at held (face_place f) ≡ []
+none-kept m whole rows held on f nay = by (items_at held (face_place f)) refl
+  where
+    by : (xs : List Half) → items_at held (face_place f) ≡ xs → items_at held (face_place f) ≡ []
+    by [] is = is
+    by (x ∷ xs) is =
+        let at = on f x (subst (λ (l : List Half). Contains l x) (sym is) (Contains-first x xs)) in
+        let there = All-at_each (λ b. has_face m b.face ≡ true) m.boundaries at.0 whole.v1.faces_of_rings at.1 in
+        absurd (true≢false (sym there ∙ ap (has_face m) at.3 ∙ nay))
 
 -- ---- The two ways to say it
 

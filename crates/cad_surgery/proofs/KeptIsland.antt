@@ -1,20 +1,18 @@
 -- The kept halves where an island comes, and where it goes.
-use Rattle.std.proofs.Common.{◌≡◌, ◌≢◌, ◌⊎◌, ℕ, ◌+◌, ◌≤◌, ◌||◌, Bool, true, false, not, List, [], ◌∷◌, ◌++◌, map, filter, find, length, refl, sym, ap, ◌∙◌, subst, inl, inr, Option, Some, None, true≢false, arith, if◌then◌else◌}
+use Rattle.std.proofs.Common.{◌≡◌, ◌≢◌, ◌⊎◌, ℕ, ◌+◌, ◌≤◌, ◌||◌, Bool, true, false, not, List, [], ◌∷◌, ◌++◌, map, filter, length, refl, sym, ap, ◌∙◌, subst, inl, inr, Option, true≢false, arith, if◌then◌else◌}
 use Rattle.std.specs.Prelude.{IsPermutation, flat_map, unwrap_or}
 use Rattle.std.specs.List.{AllByRecursion, Contains}
-use Rattle.std.specs.Str.{bytes_eq}
 use Rattle.std.proofs.lemmas.List.{map-append, append_assoc}
-use Rattle.std.proofs.lemmas.Slice.Eq.{bytes_eq-Decides}
 use Rattle.std.proofs.lemmas.List.Elements.{Contains-append_right, Contains-append_left, Contains-append_cases}
-use Rattle.std.proofs.lemmas.List.Sorted.{IsPermutation-refl, IsPermutation-sym, IsPermutation-trans, IsPermutation-cons, IsPermutation-map, IsPermutation-append, IsPermutation-append_left, IsPermutation-append_right, IsPermutation-append_comm, Contains-permutation, length_permutation}
+use Rattle.std.proofs.lemmas.List.Sorted.{IsPermutation-sym, IsPermutation-trans, IsPermutation-cons, IsPermutation-map, IsPermutation-append, IsPermutation-append_left, IsPermutation-append_right, IsPermutation-append_comm, Contains-permutation, length_permutation}
 use Rattle.cad_rows.specs.declared.names.Face.{Face}
-use Rattle.cad_rings.specs.Cycle.{Ring, Side, sides_of, sides_along}
+use Rattle.cad_rings.specs.Cycle.{Ring, Side, sides_of}
 use Rattle.cad_map.specs.declared.boundary.Boundary.{Boundary}
 use Rattle.cad_map.specs.Boundaries.{is_face, bounding, face_place}
-use Rattle.cad_map.specs.Map.{Map, faces, has_face, all_sides}
+use Rattle.cad_map.specs.Map.{Map, faces, has_face}
 use Rattle.cad_map.specs.Merger.{handed_over}
 use Rattle.cad_map.specs.Rings.{HasWholeRings}
-use Rattle.cad_map.proofs.CallerLemmas.{Contains-first, Contains-later, Contains-cases, Contains-map, Contains-in_part, Contains-flat_map, All-at_each, All-from_each, map-Contains, is_face-same, is_face-refl, filter-Contains, find-Contains, front_exchanged, once-from_pairs}
+use Rattle.cad_map.proofs.CallerLemmas.{Contains-first, Contains-later, Contains-cases, Contains-map, Contains-in_part, All-at_each, map-Contains, is_face-same, is_face-refl, filter-Contains, front_exchanged}
 use Rattle.half_table.specs.declared.half.Half.{Half}
 use Rattle.half_table.specs.Half.{twin}
 use Rattle.half_table.specs.Rows.{HalfRows, origin_of, face}
@@ -26,20 +24,18 @@ use Rattle.cad_surgery.specs.Paths.{HasStringsMore}
 use Rattle.cad_surgery.proofs.RingCycles.{face-on}
 use Rattle.cad_surgery.proofs.IslandTable.{more-old}
 use Rattle.cad_surgery.proofs.IslandFits.{side-same}
-use Rattle.cad_laws.specs.Local.{IsShown, side_by}
+use Rattle.cad_laws.specs.Local.{side_by}
 use Rattle.cad_surgery.specs.Labels.{IsOnRing}
 use Rattle.cad_surgery.specs.Islands.{IsIslandOf, FitsTable}
 use Rattle.cad_surgery.specs.Handing.{is_placed, HandsOver, home_of, halves_kept, KeepsEach, HaveTwoFaces}
 use Rattle.std.specs.Prelude.{◌==◌}
 use Rattle.std.proofs.lemmas.Bool.{eqb-true}
 use Rattle.std.proofs.lemmas.Cmp.{nat_eq_equiv}
-use Rattle.cad_surgery.proofs.ToHalves.{one_part}
-use Rattle.cad_surgery.proofs.StarHalves.{find-some}
-use Rattle.cad_surgery.proofs.CycleRings.{map-map}
-use Rattle.cad_surgery.proofs.Permuted.{rest-permuted, one-out}
-use Rattle.cad_surgery.proofs.KeptEach.{is_boundary, boundary-same, boundary-self, place-same, faces-once, home-is, map-cong}
+use Rattle.cad_surgery.proofs.Permuted.{rest-permuted, one-out, turned}
+use Rattle.cad_surgery.proofs.KeptEach.{is_boundary, boundary-same, boundary-self, place-same, cases_face, faces-once, home-is, none-kept}
 use Rattle.cad_surgery.proofs.Handed.{placed-yes, placed-no}
-use Rattle.cad_surgery.proofs.IslandFaces.{handed-stays, handed-ring}
+use Rattle.cad_surgery.proofs.HomesHanded.{handed-face, inner-never, homes-back, homes-handed}
+use Rattle.cad_surgery.proofs.IslandFaces.{handed-stays, handed-ring, other-there}
 
 -- ---- Lists
 
@@ -100,63 +96,13 @@ module _ (whole parted : Map) (outer inner : Face) (two : HaveTwoFaces whole par
 
 -- ---- The rings of both maps
 
--- a ring of three points has a side
-first-side : (r : Ring) → 3 ≤ length r → (s : Side) × Contains (sides_of r) s
-first-side [] long = absurd (omega (arith, long))
-first-side (a ∷ []) long = absurd (omega (arith, long))
-first-side (a ∷ b ∷ points) long = ((a, b), Contains-first (a, b) (sides_along b points a))
-
 module _ (whole parted : Map) (outer inner : Face) (ring : Ring) (left right : Boundary) (others : List Boundary)
     (it : IsIslandOf whole parted outer inner ring left right others) (rings : HasWholeRings whole) (parts : HasWholeRings parted) where
-  -- the other ring with the same points
-  abbrev back : Boundary → Boundary
-  back b = unwrap_or (find (λ c. bytes_eq c.ring b.ring) others) b
-
   abbrev handed : Boundary → Boundary
   handed = handed_over outer inner
 
   other_there : (c : Boundary) → Contains others c → Contains parted.boundaries c
   other_there c among = Contains-permutation (left ∷ right ∷ others) parted.boundaries c (IsPermutation-sym parted.boundaries (left ∷ right ∷ others) it.were) (Contains-later left (right ∷ others) c (Contains-later right others c among))
-
-  pub back-handed : (c : Boundary) → Contains others c → back (handed c) ≡ c
-  back-handed c among = by (find (λ b. bytes_eq b.ring (handed c).ring) others) refl
-    where
-      by : (o : Option Boundary) → find (λ b. bytes_eq b.ring (handed c).ring) others ≡ o → back (handed c) ≡ c
-      by None none = absurd (find-some (λ b. bytes_eq b.ring (handed c).ring) others c among ((bytes_eq-Decides c.ring (handed c).ring).1 (sym (handed-ring outer inner c))) none)
-      by (Some b) is =
-          let found = find-Contains (λ b. bytes_eq b.ring (handed c).ring) others b is in
-          let same : b.ring ≡ c.ring = (bytes_eq-Decides b.ring (handed c).ring).0 found.1 ∙ handed-ring outer inner c in
-          let long = All-at_each (λ b. 3 ≤ length b.ring) parted.boundaries c parts.v5.three (other_there c among) in
-          let side = first-side c.ring long in
-          ap (λ (o : Option Boundary). unwrap_or o (handed c)) is
-          ∙ one_part (λ (b : Boundary). sides_of b.ring) side.0 parted.boundaries b c (once-from_pairs (all_sides parted) parts.once side.0) (other_there b found.0) (other_there c among)
-          (subst (λ (r : Ring). Contains (sides_of r) side.0) (sym same) side.1) side.1
-
-  -- halves whose rings in the one map are the others, handed over, have the others as rings in the other map
-  pub homes-back : (old new : HalfRows) (halves : List Half) → ((h : Half) → Contains halves h → (c : Boundary) × Contains others c × (home_of parted new h ≡ c) × (home_of whole old h ≡ handed c))
-      → IsPermutation (map (home_of whole old) halves) whole.boundaries → IsPermutation (map (home_of parted new) halves) others
-  homes-back old new halves each all =
-      let one = IsPermutation-trans (map (home_of whole old) halves) whole.boundaries (map handed others) all (IsPermutation-sym (map handed others) whole.boundaries it.are) in
-      let both = IsPermutation-map back (map (home_of whole old) halves) (map handed others) one in
-      let first : map back (map (home_of whole old) halves) ≡ map (home_of parted new) halves =
-      map-map back (home_of whole old) halves
-      ∙ map-cong (λ h. back (home_of whole old h)) (home_of parted new) halves (λ h there. let at = each h there in ap back at.3 ∙ back-handed at.0 at.1 ∙ sym at.2) in
-      let second : map back (map handed others) ≡ others = map-map back handed others ∙ map-cong (λ c. back (handed c)) (λ c. c) others back-handed ∙ map-same others in
-      subst (λ (l : List Boundary). IsPermutation l others) first (subst (IsPermutation (map back (map (home_of whole old) halves))) second both)
-    where
-      map-same : (bs : List Boundary) → map (λ c. c) bs ≡ bs
-      map-same [] = refl
-      map-same (b ∷ bs) = ap (λ (l : List Boundary). b ∷ l) (map-same bs)
-
-  -- and the other way
-  pub homes-handed : (old new : HalfRows) (halves : List Half) → ((h : Half) → Contains halves h → (c : Boundary) × Contains others c × (home_of parted old h ≡ c) × (home_of whole new h ≡ handed c))
-      → IsPermutation (map (home_of parted old) halves) others → IsPermutation (map (home_of whole new) halves) whole.boundaries
-  homes-handed old new halves each all =
-      let both = IsPermutation-map handed (map (home_of parted old) halves) others all in
-      let first : map handed (map (home_of parted old) halves) ≡ map (home_of whole new) halves =
-      map-map handed (home_of parted old) halves
-      ∙ map-cong (λ h. handed (home_of parted old h)) (home_of whole new) halves (λ h there. let at = each h there in ap handed at.2 ∙ sym at.3) in
-      IsPermutation-trans (map (home_of whole new) halves) (map handed others) whole.boundaries (subst (λ (l : List Boundary). IsPermutation l (map handed others)) first both) it.are
 
   -- ---- It comes
 
@@ -192,7 +138,7 @@ module _ (whole parted : Map) (outer inner : Face) (ring : Ring) (left right : B
         by false other = ap (λ (b : Boundary). b.face) (sym (handed-stays outer inner c other)) ∙ is
 
     on-now : (f : Face) (h : Half) → Contains (items_at now (face_place f)) h → (b : Boundary) × Contains parted.boundaries b × IsOnRing parted new b h × (b.face ≡ f)
-    on-now f h among = elim (which-face inner f) [
+    on-now f h among = elim (cases_face inner f) [
       | inl same ↦
           elim (Contains-append_cases (items_at mid (face_place inner)) (first ∷ []) h (subst (λ (l : List Half). Contains l h) at_inner (subst (λ (g : Face). Contains (items_at now (face_place g)) h) (sym same) among))) [
             | inl given ↦
@@ -205,7 +151,7 @@ module _ (whole parted : Map) (outer inner : Face) (ring : Ring) (left right : B
               | inr nay ↦ let low = nay.1 in absurd (omega (arith, low))
             ]
           ]
-      | inr away ↦ elim (which-face outer f) [
+      | inr away ↦ elim (cases_face outer f) [
         | inl same ↦
             elim (Contains-append_cases (items_at mid (face_place outer)) (twin first ∷ []) h (subst (λ (l : List Half). Contains l h) at_outer (subst (λ (g : Face). Contains (items_at now (face_place g)) h) (sym same) among))) [
               | inl stayed ↦
@@ -225,13 +171,6 @@ module _ (whole parted : Map) (outer inner : Face) (ring : Ring) (left right : B
       ]
     ]
       where
-        which-face : (g f : Face) → (g ≡ f) ⊎ (g ≢ f)
-        which-face g f = by (is_face g f) refl
-          where
-            by : (t : Bool) → is_face g f ≡ t → (g ≡ f) ⊎ (g ≢ f)
-            by true is = inl (is_face-same g f is)
-            by false is = inr (λ e. true≢false (sym (is_face-refl g) ∙ ap (is_face g) e ∙ is))
-
         handed-inner : (c : Boundary) → c.face ≡ inner → (handed c).face ≡ outer
         handed-inner c is = ap (λ (t : Bool). (if t then bounding outer c.ring else c).face) (ap (is_face inner) is ∙ is_face-refl inner)
 
@@ -266,11 +205,12 @@ module _ (whole parted : Map) (outer inner : Face) (ring : Ring) (left right : B
 
         -- the homes of the old ones
         old_homes : IsPermutation (map (home_of parted new) (halves_kept whole held)) others
-        old_homes = homes-back old new (halves_kept whole held) (λ h among.
+        old_homes = homes-back parted parts outer inner others other_there whole old new (halves_kept whole held) (λ h among.
             let part = Contains-in_part (λ f. items_at held (face_place f)) (faces whole) h among in
             let at = keeps.on part.0 h part.2 in
             let c = homes h at.0 at.1 at.2 in
-            (c.0, c.1, home-is parted parts new c.0 (other_there c.0 c.1) h c.2, home-is whole rings old at.0 at.1 h at.2 ∙ c.3)) keeps.all
+            (c.0, c.1, home-is parted parts new c.0 (other_there c.0 c.1) h c.2, home-is whole rings old at.0 at.1 h at.2 ∙ c.3))
+            (IsPermutation-trans (map (home_of whole old) (halves_kept whole held)) whole.boundaries (map handed others) keeps.all (IsPermutation-sym (map handed others) whole.boundaries it.are))
 
         all_homes : IsPermutation (map (home_of parted new) (halves_kept parted now)) parted.boundaries
         all_homes =
@@ -285,14 +225,7 @@ module _ (whole parted : Map) (outer inner : Face) (ring : Ring) (left right : B
 
         -- under what is no face none is kept
         none_now : (f : Face) → has_face parted f ≡ false → items_at now (face_place f) ≡ []
-        none_now f nay = by (items_at now (face_place f)) refl
-          where
-            by : (xs : List Half) → items_at now (face_place f) ≡ xs → items_at now (face_place f) ≡ []
-            by [] is = is
-            by (x ∷ xs) is =
-                let at = on-now f x (subst (λ (l : List Half). Contains l x) (sym is) (Contains-first x xs)) in
-                let there = All-at_each (λ b. has_face parted b.face ≡ true) parted.boundaries at.0 parts.v1.faces_of_rings at.1 in
-                absurd (true≢false (sym there ∙ ap (has_face parted) at.3 ∙ nay))
+        none_now f nay = none-kept parted parts new now on-now f nay
 
 -- ---- Lists under keys
 
@@ -363,23 +296,6 @@ module _ (whole parted : Map) (outer inner : Face) (ring : Ring) (left right : B
   faces_apart : face_place outer ≢ face_place inner
   faces_apart same = it.differ (place-same outer inner same)
 
-  handed-face : (b : Boundary) → (b.face ≡ inner → (handed_over outer inner b).face ≡ outer) × (b.face ≢ inner → handed_over outer inner b ≡ b)
-  handed-face b = (
-    (λ is. ap (λ (t : Bool). (if t then bounding outer b.ring else b).face) (ap (is_face inner) is ∙ is_face-refl inner)),
-    (λ differ. by differ (is_face inner b.face) refl),
-  )
-    where
-      by : b.face ≢ inner → (t : Bool) → is_face inner b.face ≡ t → handed_over outer inner b ≡ b
-      by differ true is = absurd (differ (sym (is_face-same inner b.face is)))
-      by differ false is = handed-stays outer inner b is
-
-  inner-never : (b : Boundary) → (handed_over outer inner b).face ≢ inner
-  inner-never b is = by (is_face inner b.face) refl
-    where
-      by : (t : Bool) → is_face inner b.face ≡ t → ⊥
-      by true same = it.differ (sym ((handed-face b).0 (sym (is_face-same inner b.face same))) ∙ is)
-      by false other = true≢false (sym (is_face-refl inner) ∙ ap (is_face inner) (sym is ∙ ap (λ (x : Boundary). x.face) (handed-stays outer inner b other)) ∙ other)
-
   -- whether a half's ring is the island's is told by its face
   told-island : (h : Half) (b : Boundary) → Contains parted.boundaries b → IsOnRing parted old b h → is_placed new (face_place inner) h ≡ of-island b
   told-island h b there on = by (of-island b) refl
@@ -389,7 +305,7 @@ module _ (whole parted : Map) (outer inner : Face) (ring : Ring) (left right : B
       by false is =
           placed-no new (face_place inner) h (face_place (handed_over outer inner b).face)
           (ap face_place (sym (faces_now h b there on ∙ ap (λ (t : Bool). if t then inner else (handed_over outer inner b).face) is)))
-          (λ same. inner-never b (place-same (handed_over outer inner b).face inner same)) ∙ sym is
+          (λ same. inner-never outer inner it.differ b (place-same (handed_over outer inner b).face inner same)) ∙ sym is
 
   -- a kept half, with its ring in the second map
   abbrev pub AtHome : Half → Type 0
@@ -411,7 +327,7 @@ module _ (whole parted : Map) (outer inner : Face) (ring : Ring) (left right : B
       by : (b : (b : Boundary) × Contains parted.boundaries b × IsOnRing parted old b h × (b.face ≡ inner)) → (t : Bool) → of-island b.0 ≡ t → of-island b.0 ≡ true
       by b true is = is
       by b false is =
-          let out = faces_now h b.0 b.1 b.2 ∙ ap (λ (t : Bool). if t then inner else (handed_over outer inner b.0).face) is ∙ (handed-face b.0).0 b.3 in
+          let out = faces_now h b.0 b.1 b.2 ∙ ap (λ (t : Bool). if t then inner else (handed_over outer inner b.0).face) is ∙ (handed-face outer inner b.0).0 b.3 in
           absurd (true≢false (sym (placed-yes new (face_place outer) h (face_place outer) (ap face_place (sym out)) refl) ∙ All-at_each (λ h. is_placed new (face_place outer) h ≡ false) I h gives.stays among))
 
   -- a half under the outer face, before the island's is taken
@@ -496,15 +412,6 @@ module _ (whole parted : Map) (outer inner : Face) (ring : Ring) (left right : B
       or-last true is = refl
       or-last false is = is
 
-      turned : (us bs cs ds : List Half) → IsPermutation ((us ++ bs) ++ (cs ++ ds)) (bs ++ ((cs ++ us) ++ ds))
-      turned us bs cs ds =
-          let one : IsPermutation ((us ++ bs) ++ (cs ++ ds)) ((bs ++ us) ++ (cs ++ ds)) = IsPermutation-append_left (cs ++ ds) (us ++ bs) (bs ++ us) (IsPermutation-append_comm us bs) in
-          let two : (bs ++ us) ++ (cs ++ ds) ≡ bs ++ (us ++ (cs ++ ds)) = append_assoc bs us (cs ++ ds) in
-          let three : IsPermutation (bs ++ (us ++ (cs ++ ds))) (bs ++ (cs ++ (us ++ ds))) = IsPermutation-append_right bs (us ++ (cs ++ ds)) (cs ++ (us ++ ds)) (front_exchanged us cs ds) in
-          let four : bs ++ (cs ++ (us ++ ds)) ≡ bs ++ ((cs ++ us) ++ ds) = ap (λ (l : List Half). bs ++ l) (sym (append_assoc cs us ds)) in
-          IsPermutation-trans ((us ++ bs) ++ (cs ++ ds)) ((bs ++ us) ++ (cs ++ ds)) (bs ++ ((cs ++ us) ++ ds)) one
-          (subst (λ (l : List Half). IsPermutation l (bs ++ ((cs ++ us) ++ ds))) (sym two) (subst (IsPermutation (bs ++ (us ++ (cs ++ ds)))) four three))
-
   -- a half that stays is on one of the other rings
   on-others : (h : Half) → of-island (hp h) ≡ false → AtHome h → (c : Boundary) × Contains others c × IsOnRing parted old c h × (hp h ≡ c)
   on-others h away b =
@@ -534,9 +441,9 @@ module _ (whole parted : Map) (outer inner : Face) (ring : Ring) (left right : B
   now-other n away far = at_others n far ∙ takes.others n away far ∙ gives.others n far away
 
   on-whole : (f : Face) (h : Half) → Contains (items_at now (face_place f)) h → (b : Boundary) × Contains whole.boundaries b × IsOnRing whole new b h × (b.face ≡ f)
-  on-whole f h among = elim (which inner f) [
+  on-whole f h among = elim (cases_face inner f) [
     | inl same ↦ let low = (subst (λ (l : List Half). Contains l h) at_inner (subst (λ (g : Face). Contains (items_at now (face_place g)) h) (sym same) among)).1 in absurd (omega (arith, low))
-    | inr away ↦ elim (which outer f) [
+    | inr away ↦ elim (cases_face outer f) [
       | inl same ↦
           let here = subst (λ (l : List Half). Contains l h) now-outer (subst (λ (g : Face). Contains (items_at now (face_place g)) h) (sym same) among) in
           let b = under-outer h (outer-of h (Contains-append_right takes.gone O h here)) in
@@ -546,8 +453,8 @@ module _ (whole parted : Map) (outer inner : Face) (ring : Ring) (left right : B
             handed_there c.0 c.1,
             home h c.0 c.1 c.2,
             (elim b.3 [
-              | inl e ↦ let o : c.0.face ≡ outer = ap (λ (x : Boundary). x.face) (sym is) ∙ e in ap (λ (x : Boundary). x.face) ((handed-face c.0).1 (λ k. it.differ (sym o ∙ k))) ∙ o
-              | inr e ↦ (handed-face c.0).0 (ap (λ (x : Boundary). x.face) (sym is) ∙ e)
+              | inl e ↦ let o : c.0.face ≡ outer = ap (λ (x : Boundary). x.face) (sym is) ∙ e in ap (λ (x : Boundary). x.face) ((handed-face outer inner c.0).1 (λ k. it.differ (sym o ∙ k))) ∙ o
+              | inr e ↦ (handed-face outer inner c.0).0 (ap (λ (x : Boundary). x.face) (sym is) ∙ e)
             ]) ∙ same,
           )
       | inr far ↦
@@ -557,17 +464,10 @@ module _ (whole parted : Map) (outer inner : Face) (ring : Ring) (left right : B
           let c = on-others h nay (b.0, b.1, b.2) in
           let is : b.0 ≡ c.0 = sym (home-is parted parts old b.0 b.1 h b.2) ∙ c.3 in
           let f_is : c.0.face ≡ f = ap (λ (x : Boundary). x.face) (sym is) ∙ b.3 in
-          (handed_over outer inner c.0, handed_there c.0 c.1, home h c.0 c.1 c.2, ap (λ (x : Boundary). x.face) ((handed-face c.0).1 (λ k. away (sym k ∙ f_is))) ∙ f_is)
+          (handed_over outer inner c.0, handed_there c.0 c.1, home h c.0 c.1 c.2, ap (λ (x : Boundary). x.face) ((handed-face outer inner c.0).1 (λ k. away (sym k ∙ f_is))) ∙ f_is)
     ]
   ]
     where
-      which : (g f : Face) → (g ≡ f) ⊎ (g ≢ f)
-      which g f = by (is_face g f) refl
-        where
-          by : (t : Bool) → is_face g f ≡ t → (g ≡ f) ⊎ (g ≢ f)
-          by true is = inl (is_face-same g f is)
-          by false is = inr (λ e. true≢false (sym (is_face-refl g) ∙ ap (is_face g) e ∙ is))
-
       handed_there : (c : Boundary) → Contains others c → Contains whole.boundaries (handed_over outer inner c)
       handed_there c among = Contains-permutation (map (handed_over outer inner) others) whole.boundaries (handed_over outer inner c) it.are (Contains-map (handed_over outer inner) others c among)
 
@@ -584,18 +484,11 @@ module _ (whole parted : Map) (outer inner : Face) (ring : Ring) (left right : B
           let same : S ≡ R = others-same whole parted outer inner two rings parts held now (λ n away far. now-other n away far) in
           let total : IsPermutation (halves_kept whole now) (O ++ R) =
           subst (λ (l : List Half). IsPermutation (halves_kept whole now) l) (λ i. now-outer i ++ same i) (halves-whole whole parted outer inner two rings parts now) in
-          let homes = homes-handed whole parted outer inner ring left right others it rings parts old new (O ++ R) (λ h among.
+          let homes = homes-handed parted parts outer inner others (other-there whole parted outer inner ring left right others it) whole old new (O ++ R) (λ h among.
           let c = stays-home h among in
           (c.0, c.1, c.3, home-is whole rings new (handed_over outer inner c.0) (Contains-permutation (map (handed_over outer inner) others) whole.boundaries (handed_over outer inner c.0) it.are (Contains-map (handed_over outer inner) others c.0 c.1)) h (home h c.0 c.1 c.2))) kept-others in
           IsPermutation-trans (map (home_of whole new) (halves_kept whole now)) (map (home_of whole new) (O ++ R)) whole.boundaries
-          (IsPermutation-map (home_of whole new) (halves_kept whole now) (O ++ R) total) homes
+          (IsPermutation-map (home_of whole new) (halves_kept whole now) (O ++ R) total) (IsPermutation-trans (map (home_of whole new) (O ++ R)) (map (handed_over outer inner) others) whole.boundaries homes it.are)
 
       none_now : (f : Face) → has_face whole f ≡ false → items_at now (face_place f) ≡ []
-      none_now f nay = by (items_at now (face_place f)) refl
-        where
-          by : (xs : List Half) → items_at now (face_place f) ≡ xs → items_at now (face_place f) ≡ []
-          by [] is = is
-          by (x ∷ xs) is =
-              let at = on-whole f x (subst (λ (l : List Half). Contains l x) (sym is) (Contains-first x xs)) in
-              let there = All-at_each (λ b. has_face whole b.face ≡ true) whole.boundaries at.0 rings.v1.faces_of_rings at.1 in
-              absurd (true≢false (sym there ∙ ap (has_face whole) at.3 ∙ nay))
+      none_now f nay = none-kept whole rings new now on-whole f nay

@@ -20,4 +20,7 @@ pub mod JoinBetween
 pub mod JoinMade
 pub mod JoinUndone
 pub mod Lengths
+pub mod BothMaps
+pub mod Begun
 pub mod SplitBegun
+pub mod JoinBegun

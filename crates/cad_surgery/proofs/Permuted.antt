@@ -2,10 +2,21 @@
 use Rattle.std.proofs.Common.{◌≡◌, ◌≢◌, ◌⊎◌, ℕ, suc, ◌+◌, ◌≤◌, Bool, true, false, not, List, [], ◌∷◌, ◌++◌, filter, refl, sym, ap, ◌∙◌, subst, inl, inr, arith, true≢false, cond}
 use Rattle.std.specs.Prelude.{IsPermutation, count_by, flat_map}
 use Rattle.std.specs.List.{AllByRecursion, Contains}
+use Rattle.std.proofs.lemmas.List.{append_assoc}
 use Rattle.std.proofs.lemmas.List.Sums.{sum_by-append}
-use Rattle.std.proofs.lemmas.List.Sorted.{IsPermutation-refl, IsPermutation-cons, IsPermutation-sym, IsPermutation-trans, IsPermutation-middle, IsPermutation-append_right, sum_by-IsPermutation}
+use Rattle.std.proofs.lemmas.List.Sorted.{IsPermutation-refl, IsPermutation-cons, IsPermutation-sym, IsPermutation-trans, IsPermutation-middle, IsPermutation-append_left, IsPermutation-append_right, IsPermutation-append_comm, sum_by-IsPermutation}
 use Rattle.cad_map.specs.Valid.{EachPair}
 use Rattle.cad_map.proofs.CallerLemmas.{Contains-cases, Contains-first, Contains-later, count-yes, count-no, front_exchanged}
+
+-- the first and the second part exchanged, and the first put behind the third
+pub turned : {X : Type 0} (us bs cs ds : List X) → IsPermutation ((us ++ bs) ++ (cs ++ ds)) (bs ++ ((cs ++ us) ++ ds))
+turned {X} us bs cs ds =
+    let one : IsPermutation ((us ++ bs) ++ (cs ++ ds)) ((bs ++ us) ++ (cs ++ ds)) = IsPermutation-append_left (cs ++ ds) (us ++ bs) (bs ++ us) (IsPermutation-append_comm us bs) in
+    let two : (bs ++ us) ++ (cs ++ ds) ≡ bs ++ (us ++ (cs ++ ds)) = append_assoc bs us (cs ++ ds) in
+    let three : IsPermutation (bs ++ (us ++ (cs ++ ds))) (bs ++ (cs ++ (us ++ ds))) = IsPermutation-append_right bs (us ++ (cs ++ ds)) (cs ++ (us ++ ds)) (front_exchanged us cs ds) in
+    let four : bs ++ (cs ++ (us ++ ds)) ≡ bs ++ ((cs ++ us) ++ ds) = ap (λ (l : List X). bs ++ l) (sym (append_assoc cs us ds)) in
+    IsPermutation-trans ((us ++ bs) ++ (cs ++ ds)) ((bs ++ us) ++ (cs ++ ds)) (bs ++ ((cs ++ us) ++ ds)) one
+    (subst (λ (l : List X). IsPermutation l (bs ++ ((cs ++ us) ++ ds))) (sym two) (subst (IsPermutation (bs ++ (us ++ (cs ++ ds)))) four three))
 
 module _ {X : Type 0} (eq : X → X → Bool) (same : (x y : X) → eq x y ≡ true → x ≡ y) (self : (x : X) → eq x x ≡ true) where
   -- how often it stands there
@@ -44,6 +55,14 @@ module _ {X : Type 0} (eq : X → X → Bool) (same : (x y : X) → eq x y ≡ t
       fewer : (zs : List X) (z : X) (t : Bool) → eq z x ≡ t → often z (x ∷ xs) ≡ often z (x ∷ zs) → often z xs ≡ often z zs
       fewer zs z true is more = let a = count-yes (eq z) x xs is in let b = count-yes (eq z) x zs is in omega (arith, more, a, b)
       fewer zs z false is more = let a = count-no (eq z) x xs is in let b = count-no (eq z) x zs is in omega (arith, more, a, b)
+
+  -- without the first of both
+  pub tail-permuted : (x : X) (xs ys : List X) → IsPermutation (x ∷ xs) (x ∷ ys) → IsPermutation xs ys
+  tail-permuted x xs ys whole = from-often xs ys (λ z. by z (eq z x) refl (often-permuted z (x ∷ xs) (x ∷ ys) whole))
+    where
+      by : (z : X) (t : Bool) → eq z x ≡ t → often z (x ∷ xs) ≡ often z (x ∷ ys) → often z xs ≡ often z ys
+      by z true is all = let a = count-yes (eq z) x xs is in let b = count-yes (eq z) x ys is in omega (arith, all, a, b)
+      by z false is all = let a = count-no (eq z) x xs is in let b = count-no (eq z) x ys is in omega (arith, all, a, b)
 
   -- ---- Two parts that a test tells apart
 

@@ -1,12 +1,7 @@
 -- An edit that is played on a map on half-edges.
-use Rattle.std.proofs.Common.{◌≡◌, ◌≢◌, ◌≤◌, ◌+◌, ◌*◌, ℕ, List, [], ◌∷◌, map, refl, sym, ap, ◌∙◌, subst, Some, None, Option, nat_eq, ◌==◌, slice_get, length, arith}
-use Rattle.std.specs.Prelude.{IsTrue, Result, Ok, Err, OnOk, OnErr, option_map, unwrap_or}
+use Rattle.std.proofs.Common.{◌≡◌, [], refl, sym, ap, ◌∙◌, subst, None}
+use Rattle.std.specs.Prelude.{IsTrue, Result, Ok, Err, IsOk, OnOk}
 use Rattle.cad_rows.specs.declared.edits.Edit.{Edit}
-use Rattle.cad_rows.specs.declared.edits.Edit.TheVariants as edit
-use Rattle.cad_rows.specs.declared.names.Item.TheVariants as item
-use Rattle.cad_rows.specs.declared.rows.PointRow.{PointRow}
-use Rattle.cad_rows.specs.declared.rows.StringRow.{StringRow}
-use Rattle.cad_map.specs.Costs.{weight_bound, work_bound}
 use Rattle.cad_map.specs.Effects.{after}
 use Rattle.cad_map.specs.Map.{Map}
 use Rattle.cad_map.specs.Refusals.{first_refusal}
@@ -14,7 +9,6 @@ use Rattle.cad_map.specs.Touched.{IsTouched}
 use Rattle.cad_map.specs.Valid.{IsValid, CanBeTested}
 use Rattle.cad_map.proofs.CallerLemmas.{kept, valid-from_kept}
 use Rattle.cell_grid.specs.Together.{Listed}
-use Rattle.cell_grid.specs.Grid.{Grid}
 use Rattle.cad_laws.specs.Touching.{touching, touched_by}
 use Rattle.cad_laws.specs.Tried.{IsTried}
 use Rattle.cad_laws.proofs.CallerLemmas.{touched-after}
@@ -24,7 +18,7 @@ use Rattle.cad_surgery.specs.GridEdits.{gone_by, come_by}
 use Rattle.cad_surgery.specs.GridLists.{AreEntries}
 use Rattle.cad_surgery.specs.Record.{edit_of, Holds, IsPlaced, IsMadeOf}
 use Rattle.cad_surgery.specs.declared.record.SmallRecord.{SmallRecord}
-use Rattle.cad_surgery.specs.declared.record.SmallRecord.TheVariants.{AddSource, AddPoint, DropPoint, Split, Join, Move, Attach, Detach, Rename}
+use Rattle.cad_surgery.specs.declared.record.SmallRecord.TheVariants.{AddSource, AddPoint, DropPoint, Split, Join, Divide, MergeAlong, MergeIsland, Move, Attach, Detach, Rename, Enclose}
 use Rattle.cad_surgery.specs.RowEdits.{is_of_rows}
 use Rattle.cad_surgery.proofs.EditExchanges.{exchanged}
 use Rattle.cad_surgery.proofs.GridLists.{exchange-listed}
@@ -36,6 +30,10 @@ untouched m (AddPoint p at) alone off = absurd (off tt)
 untouched m (DropPoint row place) alone off = refl
 untouched m (Split row place p at first second) alone off = cc
 untouched m (Join row place first i second j string) alone off = cc
+untouched m (Divide face chain strings parcel label source start end moved) alone off = cc
+untouched m (MergeAlong kept row place chain strings start end moved) alone off = cc
+untouched m (MergeIsland kept row place points strings moved) alone off = cc
+untouched m (Enclose face points strings parcel label source moved) alone off = cc
 untouched m (Move p from to) alone off = absurd (off tt)
 untouched m (Attach i s) alone off = refl
 untouched m (Detach i s place) alone off = refl
@@ -61,3 +59,8 @@ module _ (m : Map) (e : Edit) (tried : IsTried m e) where
   -- what it takes out of the grid and puts in
   pub listed : (gone come : Listed) → AreEntries (gone_by m e) gone → AreEntries (come_by m e) come → IsExchange m gone come (after m e)
   listed gone come goes comes = exchange-listed m (after m e) (gone_by m e) (come_by m e) gone come (exchanged m e tried) goes comes
+
+-- what holds of a call that succeeds, where it does
+pub sure-ok : {T E X : Type 0} (o : Result T E) → IsOk o → OnOk o X → X
+sure-ok (Ok t) sure held = held
+sure-ok (Err e) sure held = cc

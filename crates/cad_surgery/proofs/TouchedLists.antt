@@ -1,26 +1,31 @@
 -- What is listed of an edit's touch.
-use Rattle.std.proofs.Common.{◌≡◌, ◌⊎◌, inl, inr, ℕ, List, [], ◌∷◌, ◌++◌, Bool, true, false, nat_eq, ◌==◌, map, refl, sym, ap, ◌∙◌, subst, Option, Some, None, true≢false, filter, ℤ, arith}
-use Rattle.std.specs.Prelude.{IsTrue, ◌||◌, IsPermutation, is_some, IfNone}
-use Rattle.std.specs.List.{AllByRecursion, Contains, list_any}
+use Rattle.std.proofs.Common.{◌≡◌, ◌≤◌, ◌+◌, ◌⊎◌, inl, inr, ℕ, List, [], ◌∷◌, Bool, true, false, nat_eq, ◌==◌, map, refl, sym, ap, ◌∙◌, subst, Option, Some, None, true≢false, filter, length, ℤ, arith}
+use Rattle.std.specs.Prelude.{IsTrue, ◌||◌, is_some, IfNone, flat_map, option_map, unwrap_or}
+use Rattle.std.specs.List.{Contains, list_any}
 use Rattle.std.proofs.lemmas.Bool.{eqb-true, eq-eqb}
 use Rattle.std.proofs.lemmas.Option.{same_Some}
-use Rattle.std.proofs.lemmas.List.Sorted.{Contains-permutation}
+use Rattle.std.proofs.lemmas.List.{length-take-le}
+use Rattle.std.proofs.lemmas.List.Sorted.{IsPermutation-sym, Contains-permutation}
 use Rattle.cad_rows.specs.declared.edits.Edit.{Edit}
-use Rattle.cad_rows.specs.declared.edits.Edit.TheVariants.{AddSource, AddPoint, DropPoint, Split, Join, Divide, Merge, Move, Attach, Detach, Rename, Enclose}
+use Rattle.cad_rows.specs.declared.edits.Edit.TheVariants.{AddPoint, Split, Join, Merge, Move}
 use Rattle.cad_rows.specs.declared.names.Face.{Face}
 use Rattle.cad_rows.specs.declared.rows.StringRow.{StringRow}
-use Rattle.cad_rings.specs.Cycle.{Ring, Side, sides_of, sides_along, opposite, has_side}
+use Rattle.cad_rings.specs.Cycle.{Ring, Side, sides_of, sides_along, opposite, turned}
+use Rattle.cad_rings.specs.Surgery.{chain_from, sides_of_chain}
+use Rattle.cad_rings.proofs.CallerLemmas.{sides_of-least_rotation}
 use Rattle.cad_map.specs.declared.boundary.Boundary.{Boundary}
+use Rattle.cad_map.specs.Boundaries.{is_face, canonical_form, canonical_order}
 use Rattle.cad_map.specs.Effects.{after}
-use Rattle.cad_map.specs.Map.{Map, string_of, strings_at, side_of, is_end, has_point, has_face, face_at, left_face, right_face}
-use Rattle.cad_map.specs.Touched.{Touched, IsTouched, PointStands, StringStands, FaceStands}
+use Rattle.cad_map.specs.Map.{Map, string_of, strings_at, side_of, is_end, rings_at, all_sides}
+use Rattle.cad_map.specs.Merger.{ChainInRings, shared_chains, shared_sides}
+use Rattle.cad_map.specs.Touched.{Touched, IsTouched, StringStands, neighbours}
 use Rattle.cad_map.specs.Valid.{IsValid}
-use Rattle.cad_map.specs.Views.{HasFaces, HasNoFaces}
-use Rattle.cad_map.proofs.CallerLemmas.{All-follows, Contains-cases, Contains-first, Contains-later, Contains-filter, Contains-flat_map, Contains-map, filter-Contains, map-Contains, faces-told, some-faces, find-Contains, of_string, one_ring, Contains-has_side, has_side-Contains}
-use Rattle.cad_laws.specs.Touching.{touching, touched_by, faces_where, goes_along, passes}
+use Rattle.cad_map.specs.Views.{HasFaces, HasNoFaces, HasSide, IsNoSide}
+use Rattle.cad_map.proofs.CallerLemmas.{All-follows, Contains-cases, Contains-first, Contains-later, Contains-filter, Contains-flat_map, Contains-map, filter-Contains, map-Contains, faces-told, some-faces, find-Contains, of_string, one_ring, Contains-has_side, has_side-Contains, Contains-in_part, list_any-Contains, beside, IsPermutation-canonical_order, is_face-refl, along-passed, IsFound, found}
+use Rattle.cad_laws.specs.Faces.{IsMergedIn}
+use Rattle.cad_laws.specs.Touching.{touching, touched_by, touched_by_split, faces_where, goes_along, passes, points_of_shared_chain}
 use Rattle.cad_laws.specs.Tried.{IsTried}
-use Rattle.cad_laws.proofs.CallerLemmas.{touched-after}
-use Rattle.cad_surgery.specs.RowEdits.{is_of_rows}
+use Rattle.cad_laws.proofs.CallerLemmas.{touched-after, merged-faces}
 
 -- more may be named
 pub more-touched : (old new : Map) (t u : Touched) → IsTouched old new t → ((p : ℕ) → Contains t.points p → Contains u.points p)
@@ -99,7 +104,24 @@ module _ (m : Map) (valid : IsValid m) where
         | inr has ↦ inr (same_Some right b.face (sym faces.1 ∙ one_ring m valid (opposite (side_of s)) b among (has_side-Contains (opposite (side_of s)) (sides_of b.ring) has)))
       ]
 
--- what is named of an edit of rows: its point, the point's strings, and the faces round it
+-- each point of a chain is an end of one of its sides
+chain-end : (chain : List ℕ) (q : ℕ) → 2 ≤ length chain → Contains chain q → (s : Side) × Contains (sides_of_chain chain) s × ((s.0 ≡ q) ⊎ (s.1 ≡ q))
+chain-end [] q long h = absurd (omega (arith, long))
+chain-end (a ∷ []) q long h = absurd (omega (arith, long))
+chain-end (a ∷ b ∷ []) q long h =
+    elim (Contains-cases a (b ∷ []) q h) [
+      | inl same ↦ ((a, b), Contains-first (a, b) [], inl same)
+      | inr later ↦ elim (Contains-cases b [] q later) [ inl same ↦ ((a, b), Contains-first (a, b) [], inr same) | inr none ↦ let low = none.1 in absurd (omega arith) ]
+    ]
+chain-end (a ∷ b ∷ c ∷ rest) q long h =
+    elim (Contains-cases a (b ∷ c ∷ rest) q h) [
+      | inl same ↦ ((a, b), Contains-first (a, b) (sides_of_chain (b ∷ c ∷ rest)), inl same)
+      | inr later ↦
+          let more = chain-end (b ∷ c ∷ rest) q (omega arith) later in
+          (more.0, Contains-later (a, b) (sides_of_chain (b ∷ c ∷ rest)) more.0 more.1, more.2)
+    ]
+
+-- what is named of an edit
 module _ (m : Map) (u : Touched) where
   pub nothing-more : (e : Edit) → IsTried m e → touched_by m e ≡ touching [] [] [] → IsTouched m (after m e) u
   nothing-more e t none =
@@ -120,6 +142,13 @@ module _ (m : Map) (u : Touched) where
       one : (q : ℕ) → Contains (p ∷ []) q → Contains u.points q
       one q h = elim (Contains-cases p [] q h) [ inl same ↦ subst (Contains u.points) same there | inr later ↦ absurd (no q later) ]
 
+  -- the faces of the rings that pass a test
+  faces-all : (test : Ring → Bool) → ((b : Boundary) → Contains m.boundaries b → IsTrue (test b.ring) → Contains u.faces b.face) → (f : Face) → Contains (faces_where m test) f → Contains u.faces f
+  faces-all test each f h =
+      let b = map-Contains (λ (b : Boundary). b.face) (filter (λ (b : Boundary). test b.ring) m.boundaries) f h in
+      let in_map = filter-Contains (λ (b : Boundary). test b.ring) m.boundaries b.0 b.1 in
+      subst (Contains u.faces) b.2 (each b.0 in_map.0 in_map.1)
+
   pub move-more : (p : ℕ) (x y : ℤ) → IsTried m (Move p x y) → Contains u.points p
       → ((s : StringRow) → Contains (strings_at m p) s → Contains u.strings s.number)
       → ((b : Boundary) → Contains m.boundaries b → IsTrue (passes p b.ring) → Contains u.faces b.face) → IsTouched m (after m (Move p x y)) u
@@ -127,28 +156,86 @@ module _ (m : Map) (u : Touched) where
       more-touched m (after m (Move p x y)) (touched_by m (Move p x y)) u (touched-after m (Move p x y) t.valid t.given t.allowed)
       one
       (λ n h. let s = map-Contains (λ (s : StringRow). s.number) (strings_at m p) n h in subst (Contains u.strings) s.2 (strings s.0 s.1))
-      (λ f h.
-      let b = map-Contains (λ (b : Boundary). b.face) (filter (λ (b : Boundary). passes p b.ring) m.boundaries) f h in
-      let in_map = filter-Contains (λ (b : Boundary). passes p b.ring) m.boundaries b.0 b.1 in
-      subst (Contains u.faces) b.2 (faces b.0 in_map.0 in_map.1))
+      (faces-all (passes p) faces)
     where
       one : (q : ℕ) → Contains (p ∷ []) q → Contains u.points q
       one q h = elim (Contains-cases p [] q h) [ inl same ↦ subst (Contains u.points) same there | inr later ↦ let low = later.1 in absurd (omega arith) ]
 
--- an edit of rows that neither brings a point nor moves one touches nothing
-pub rest-nothing : (m : Map) (e : Edit) → IsTrue (is_of_rows e) → ((p : ℕ) (x y : ℤ) → e ≡ AddPoint p x y → ⊥) → ((p : ℕ) (x y : ℤ) → e ≡ Move p x y → ⊥) → touched_by m e ≡ touching [] [] []
-rest-nothing m (AddSource s text) alone no_point no_move = refl
-rest-nothing m (AddPoint p x y) alone no_point no_move = absurd (no_point p x y refl)
-rest-nothing m (DropPoint p) alone no_point no_move = refl
-rest-nothing m (Split s p x y one two) alone no_point no_move = cc
-rest-nothing m (Join p s) alone no_point no_move = cc
-rest-nothing m (Divide face chain strings parcel label source) alone no_point no_move = cc
-rest-nothing m (Merge k e) alone no_point no_move = cc
-rest-nothing m (Move p x y) alone no_point no_move = absurd (no_move p x y refl)
-rest-nothing m (Attach i s) alone no_point no_move = refl
-rest-nothing m (Detach i s) alone no_point no_move = refl
-rest-nothing m (Rename p label) alone no_point no_move = refl
-rest-nothing m (Enclose face points strings parcel label source) alone no_point no_move = cc
+  -- the ends of a string that is split, and the faces on both its sides
+  pub split-more : (s p : ℕ) (x y : ℤ) (first second : ℕ) (row : StringRow) → IsTried m (Split s p x y first second) → string_of m s ≡ Some row
+      → u.points ≡ p ∷ row.from ∷ row.to ∷ [] → u.strings ≡ first ∷ second ∷ []
+      → ((b : Boundary) → Contains m.boundaries b → IsTrue (goes_along row b.ring) → Contains u.faces b.face) → IsTouched m (after m (Split s p x y first second)) u
+  split-more s p x y first second row t found points strings faces =
+      let is : touched_by m (Split s p x y first second) ≡ touched_by_split m p first second row =
+      ap (λ (o : Option StringRow). unwrap_or (option_map (touched_by_split m p first second) o) (touching [] [] [])) found in
+      more-touched m (after m (Split s p x y first second)) (touched_by_split m p first second row) u
+      (subst (IsTouched m (after m (Split s p x y first second))) is (touched-after m (Split s p x y first second) t.valid t.given t.allowed))
+      (λ q h. subst (λ (l : List ℕ). Contains l q) (sym points) h) (λ n h. subst (λ (l : List ℕ). Contains l n) (sym strings) h)
+      (faces-all (goes_along row) faces)
+
+  -- the far ends of two strings that are joined, and the faces round the point
+  pub join-more : (p new : ℕ) → IsTried m (Join p new) → ((q : ℕ) → Contains (neighbours m p) q → Contains u.points q) → u.strings ≡ new ∷ []
+      → ((b : Boundary) → Contains m.boundaries b → IsTrue (passes p b.ring) → Contains u.faces b.face) → IsTouched m (after m (Join p new)) u
+  join-more p new t points strings faces =
+      more-touched m (after m (Join p new)) (touched_by m (Join p new)) u (touched-after m (Join p new) t.valid t.given t.allowed)
+      points (λ n h. subst (λ (l : List ℕ). Contains l n) (sym strings) h) (faces-all (passes p) faces)
+
+  -- just what is named
+  pub just-touched : (e : Edit) → IsTried m e → u ≡ touched_by m e → IsTouched m (after m e) u
+  just-touched e t is = subst (IsTouched m (after m e)) (sym is) (touched-after m e t.valid t.given t.allowed)
+
+  -- the ends of the sides that two faces share, which are the points of what they share
+  module _ (kept ended : Face) (t : IsTried m (Merge kept ended))
+      (ends : (s : Side) → HasSide m ended s → HasSide m kept (opposite s) → Contains u.points s.0 × Contains u.points s.1) where
+    both-ends : (s : Side) → HasSide m kept s → HasSide m ended (opposite s) → Contains u.points s.0 × Contains u.points s.1
+    both-ends s has other = let two = ends (opposite s) other has in (two.1, two.0)
+
+    chain-points : (x : ChainInRings) → IsFound m t.valid kept ended x → IsMergedIn x m (after m (Merge kept ended)) kept ended → (q : ℕ)
+        → Contains (points_of_shared_chain x) q → Contains u.points q
+    chain-points x (IsFound.by_round k e k_there e_there is) it q h =
+        let side = side-passing q k (list_any-Contains (λ (p : ℕ). p == q) k q h (eq-eqb q q refl)) in
+        (both-ends (q, side.0) (it.1.in_kept (q, side.0) side.1) (it.1.in_ended (q, side.0) side.1)).0
+    chain-points x (IsFound.by_chain k i e j k_there e_there is) it q h =
+        let n = length (shared_sides m kept ended) in
+        let passed = along-passed n (turned i k) (turned j e) is in
+        let some = passed.some in
+        let more = passed.more_in_kept in
+        let long = length-take-le (n + 1) (turned i k) (omega (arith, more)) in
+        let side = chain-end (chain_from i n k) q (omega (arith, long, some)) h in
+        let two = both-ends side.0 (it.1.in_kept side.0 side.1) (it.1.in_ended side.0 side.1) in
+        elim side.2 [ inl first ↦ subst (Contains u.points) first two.0 | inr last ↦ subst (Contains u.points) last two.1 ]
+
+    pub merge-more : Contains u.faces kept → IsTouched m (after m (Merge kept ended)) u
+    merge-more face =
+        more-touched m (after m (Merge kept ended)) (touched_by m (Merge kept ended)) u (touched-after m (Merge kept ended) t.valid t.given t.allowed)
+        (λ q h.
+        let x = Contains-in_part points_of_shared_chain (shared_chains m kept ended) q h in
+        chain-points x.0 (found m t.valid kept ended x.0 x.1) (merged-faces m kept ended x.0 t.valid t.allowed x.1) q x.2)
+        (λ n h. let low = h.1 in absurd (omega arith))
+        (λ f h. elim (Contains-cases kept [] f h) [ inl same ↦ subst (Contains u.faces) same face | inr later ↦ let low = later.1 in absurd (omega arith) ])
+
+-- ---- Rings as a view keeps them
+
+-- a side of a face is one of the rings that are kept of it
+pub kept-side : (m : Map) (bs : List Boundary) → canonical_order bs ≡ m.boundaries → (f : Face) (s : Side) → HasSide m f s → Contains (flat_map sides_of (rings_at f bs)) s
+kept-side m bs is f s has =
+    let k = beside f s m.boundaries (has_side-Contains s (flat_map sides_of (rings_at f m.boundaries)) has) in
+    let among = Contains-permutation (canonical_order bs) (map canonical_form bs) k.boundary
+    (IsPermutation-sym (map canonical_form bs) (canonical_order bs) (IsPermutation-canonical_order bs))
+    (subst (λ (l : List Boundary). Contains l k.boundary) (sym is) k.there) in
+    let b = map-Contains canonical_form bs k.boundary among in
+    let side = Contains-permutation (sides_of (canonical_form b.0).ring) (sides_of b.0.ring) s
+    (IsPermutation-sym (sides_of b.0.ring) (sides_of (canonical_form b.0).ring) (sides_of-least_rotation b.0.ring))
+    (subst (λ (c : Boundary). Contains (sides_of c.ring) s) (sym b.2) k.has) in
+    let face : f ≡ b.0.face = k.face ∙ sym (ap (λ (c : Boundary). c.face) b.2) in
+    let kept = Contains-filter (λ (c : Boundary). is_face f c.face) bs b.0 b.1 (subst (λ (g : Face). IsTrue (is_face f g)) face (is_face-refl f)) in
+    Contains-flat_map sides_of (rings_at f bs) b.0.ring s (Contains-map (λ (c : Boundary). c.ring) (filter (λ c. is_face f c.face) bs) b.0 kept) side
+
+-- where no ring has a side no face has it
+pub no-side : (m : Map) (f : Face) (s : Side) → IsNoSide m s → HasSide m f s → ⊥
+no-side m f s none has =
+    let k = beside f s m.boundaries (has_side-Contains s (flat_map sides_of (rings_at f m.boundaries)) has) in
+    true≢false (sym (Contains-has_side s (all_sides m) (Contains-flat_map (λ (b : Boundary). sides_of b.ring) m.boundaries k.boundary s k.there k.has)) ∙ none)
 
 -- the faces of a string are told
 pub faces-some : (m : Map) → IsValid m → (n : ℕ) → is_some (string_of m n) ≡ true → (o : Option (Face × Face)) → IfNone o (HasNoFaces m n) → is_some o ≡ true

@@ -1,5 +1,5 @@
 -- Halves that are kept of rings, by the faces that they have.
-use Rattle.std.specs.Prelude.{◌≡◌, ℕ, true, false, Bool, not, ◌==◌, List, [], ◌++◌, map, filter, find, unwrap_or, IsPermutation}
+use Rattle.std.specs.Prelude.{◌≡◌, ◌≢◌, ℕ, true, false, Bool, not, ◌==◌, List, [], ◌∷◌, ◌++◌, map, filter, find, unwrap_or, IsPermutation}
 use Rattle.std.specs.List.{AllByRecursion, Contains, flat_map}
 use Rattle.cad_rows.specs.declared.names.Face.{Face}
 use Rattle.cad_rows.specs.declared.names.Face.TheVariants.{Outside}
@@ -48,3 +48,18 @@ pub record HaveTwoFaces (whole parted : Map) (outer inner : Face) : Type 0 where
   pub rest : filter (λ f. not (is_face inner f)) (faces parted) ≡ faces whole
   pub inner_there : Contains (faces parted) inner
   pub outer_there : Contains (faces whole) outer
+
+-- ---- The ring that has no kept half
+
+-- the one half is under the inner place if none was, and else the other is under the outer place
+pub record KeepsBoth (inner outer : ℕ) (own other : Half) (old new : Held Half) : Type 0 where
+  pub none : items_at old inner ≡ [] → (items_at new inner ≡ own ∷ []) × (items_at new outer ≡ items_at old outer)
+  pub some : items_at old inner ≢ [] → (items_at new inner ≡ items_at old inner) × (items_at new outer ≡ items_at old outer ++ other ∷ [])
+  pub others : (n : ℕ) → ¬ (outer ≡ n) → ¬ (inner ≡ n) → items_at new n ≡ items_at old n
+
+-- those under the inner place are gone, and if there were any the half is under the outer place
+pub record KeepsOne (inner outer : ℕ) (half : Half) (old new : Held Half) : Type 0 where
+  pub gone : items_at new inner ≡ []
+  pub none : items_at old inner ≡ [] → items_at new outer ≡ items_at old outer
+  pub some : items_at old inner ≢ [] → items_at new outer ≡ items_at old outer ++ half ∷ []
+  pub others : (n : ℕ) → ¬ (outer ≡ n) → ¬ (inner ≡ n) → items_at new n ≡ items_at old n

@@ -1,5 +1,5 @@
 -- Two strings joined at a point, in place, and the join taken back.
-use Rattle.std.specs.Prelude.{◌≡◌, ℕ, Some, List, [], ◌∷◌, slice_get}
+use Rattle.std.specs.Prelude.{◌≡◌, ⊤, ℕ, Some, List, [], ◌∷◌, slice_get}
 use Rattle.cad_rows.specs.declared.edits.Edit.TheVariants.{Join}
 use Rattle.cad_rows.specs.declared.rows.StringRow.{StringRow}
 use Rattle.cad_map.specs.Changes.{by_number, joined_sources}
@@ -9,13 +9,16 @@ use Rattle.cad_map.specs.Table.{without_row}
 use Rattle.half_table.specs.declared.half.Half.{Half}
 use Rattle.half_table.specs.Half.{forward_of}
 use Rattle.half_table.specs.Rows.{HalfRows, next}
-use Rattle.half_paths.specs.Loose.{AreLoose}
+use Rattle.half_paths.specs.Loose.{AreNew, AreLoose}
 use Rattle.entry_list.specs.Slots.{HasSlot}
 use Rattle.key_lists.specs.Held.{Held, HasRoomAt}
 use Rattle.cad_laws.specs.Joining.{FarEndsAreApart}
 use Rattle.cad_laws.specs.Tried.{IsTried}
 use Rattle.cad_surgery.specs.declared.edits.join.JoinedRows.{JoinedRows}
+use Rattle.cad_surgery.specs.declared.edits.joining.Joining.{Joining}
 use Rattle.cad_surgery.specs.declared.map_rows.MapRows.{MapRows}
+use Rattle.cad_surgery.specs.declared.record.SmallRecord.{SmallRecord}
+use Rattle.cad_surgery.specs.declared.record.SmallRecord.TheVariants as change
 use Rattle.cad_surgery.specs.declared.stars.Spoke.{Spoke}
 use Rattle.cad_surgery.specs.Parts.{HasHalves}
 use Rattle.cad_surgery.specs.Passing.{path_at}
@@ -72,3 +75,65 @@ abbrev pub after_join : {point first second : ℕ} {row : StringRow} {rows : Map
     {table : HalfRows} {held : Held Half} {stars : Held Spoke}
     → CanJoin point first second row rows table held stars → Map
 after_join {point} {first} {second} {row} can = after can.map (Join point row.number)
+
+-- The join at a point of the map is tried, and it has been looked that the far ends aren't joined:
+-- the table hasn't the new string yet.
+pub record CanBeginJoin (point first second : ℕ) (row : StringRow) (rows : MapRows) (table : HalfRows)
+    (held : Held Half) (stars : Held Spoke) : Type 0 where
+  pub map : Map
+  pub one : StringRow
+  pub other : StringRow
+  pub tried : IsTried map (Join point row.number)
+  pub apart : FarEndsAreApart map (Join point row.number)
+  pub are : by_number (strings_at map point) ≡ one ∷ other ∷ []
+  pub first_is : one.number ≡ first
+  pub second_is : other.number ≡ second
+  pub row_is : row ≡ record {
+    number = row.number;
+    from = far_end one point;
+    to = far_end other point;
+    sources = joined_sources (one ∷ other ∷ []);
+  }
+  pub fits : FitMap map rows table held stars
+  pub new : AreNew table (row ∷ [])
+
+-- The map is that after a join which was tried, and the rows that it took are at hand, with their
+-- places: the table has their strings no more.
+pub record CanBeginUnjoin (joined : JoinedRows) (new_string : ℕ) (rows : MapRows) (table : HalfRows)
+    (held : Held Half) (stars : Held Spoke) : Type 0 where
+  pub map : Map
+  pub tried : IsTried map (Join joined.point.number new_string)
+  pub apart : FarEndsAreApart map (Join joined.point.number new_string)
+  pub are : by_number (strings_at map joined.point.number) ≡ joined.first ∷ joined.second ∷ []
+  pub point_at : slice_get map.points joined.point_place ≡ Some joined.point
+  pub first_at : slice_get map.strings joined.first_place ≡ Some joined.first
+  pub second_at : slice_get (without_row (λ r. r.number) joined.first.number map.strings) joined.second_place
+      ≡ Some joined.second
+  pub fits : FitMap (after map (Join joined.point.number new_string)) rows table held stars
+  pub new : AreNew table (joined.first ∷ joined.second ∷ [])
+
+-- ---- A join as it is asked for
+
+-- the string that comes in the place of two that meet at the point
+abbrev pub joining_row : (point string : ℕ) → (one other : StringRow) → StringRow
+joining_row point string one other = record {
+  number = string;
+  from = far_end one point;
+  to = far_end other point;
+  sources = joined_sources (one ∷ other ∷ []);
+}
+
+-- what the join of two strings is made of
+abbrev pub joining_of : (point string : ℕ) → (one other : StringRow) → Joining
+joining_of point string one other =
+    record { first = one.number; second = other.number; row = joining_row point string one other }
+
+-- its record
+abbrev pub join_record : JoinedRows → ℕ → SmallRecord
+join_record joined string =
+    change.Join joined.point joined.point_place joined.first joined.first_place joined.second joined.second_place string
+
+-- the record is of a join
+abbrev pub IsOfJoin : SmallRecord → Type 0
+IsOfJoin (change.Join row place first i second j string) = ⊤
+IsOfJoin _ = ⊥

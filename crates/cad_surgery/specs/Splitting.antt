@@ -1,6 +1,7 @@
 -- A split, made in place and taken back.
 use Rattle.std.specs.Prelude.{◌≡◌, ◌≢◌, ℕ, ℤ, ◌⊎◌, Some, List, [], ◌∷◌, IsPermutation, slice_get}
 use Rattle.std.specs.List.{Contains}
+use Rattle.cad_rows.specs.declared.edits.Edit.{Edit}
 use Rattle.cad_rows.specs.declared.edits.Edit.TheVariants.{Split}
 use Rattle.cad_rows.specs.declared.rows.PointRow.{PointRow}
 use Rattle.cad_rows.specs.declared.rows.StringRow.{StringRow}
@@ -13,7 +14,11 @@ use Rattle.entry_list.specs.Slots.{HasSlot}
 use Rattle.key_lists.specs.Held.{Held, items_at, HasRoomAt}
 use Rattle.half_table.specs.declared.half.Half.{Half}
 use Rattle.cad_laws.specs.Tried.{IsTried}
+use Rattle.cad_surgery.specs.declared.edits.try_split.Halving.{Halving}
+use Rattle.cad_surgery.specs.declared.edits.try_split.SplitRows.{SplitRows}
 use Rattle.cad_surgery.specs.declared.map_rows.MapRows.{MapRows}
+use Rattle.cad_surgery.specs.declared.record.SmallRecord.{SmallRecord}
+use Rattle.cad_surgery.specs.declared.record.SmallRecord.TheVariants as change
 use Rattle.cad_surgery.specs.declared.stars.Spoke.{Spoke}
 use Rattle.cad_surgery.specs.Rows.{map_in}
 use Rattle.cad_surgery.specs.Stars.{spokes_at}
@@ -115,3 +120,33 @@ pub record CanBeginSplit (string : ℕ) (point : PointRow) (first second : Strin
   pub second_is : second ≡ record { number = second.number; from = point.number; to = row.to; sources = row.sources }
   pub fits : FitMap map rows table held stars
   pub new : AreNew table (first ∷ second ∷ [])
+
+-- The map is that after a split which was tried, and the row of the string that was split, with its
+-- place, is at hand: the table doesn't have the string yet.
+pub record CanBeginUnsplit (row : StringRow) (place point first second : ℕ) (rows : MapRows)
+    (table : HalfRows) (held : Held Half) (stars : Held Spoke) : Type 0 where
+  pub map : Map
+  pub x : ℤ
+  pub y : ℤ
+  pub tried : IsTried map (Split row.number point x y first second)
+  pub at : slice_get map.strings place ≡ Some row
+  pub fits : FitMap (after map (Split row.number point x y first second)) rows table held stars
+  pub new : AreNew table (row ∷ [])
+
+-- ---- A split as it is asked for
+
+-- the edit that splits the string so
+abbrev pub split_by : ℕ → Halving → Edit
+split_by string h = Split string h.point h.position.x h.position.y h.first h.second
+
+-- its record
+abbrev pub split_record : StringRow → ℕ → Halving → SmallRecord
+split_record row place h = change.Split row place h.point h.position h.first h.second
+
+-- the rows that it brings
+abbrev pub split_rows : StringRow → Halving → SplitRows
+split_rows row h = record {
+  point = record { number = h.point; position = h.position; sources = [] };
+  first = record { number = h.first; from = row.from; to = h.point; sources = row.sources };
+  second = record { number = h.second; from = h.point; to = row.to; sources = row.sources };
+}

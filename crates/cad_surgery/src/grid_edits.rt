@@ -19,16 +19,16 @@ use cell_grid::Entries;
 use geo_exact::Pt;
 use std::alloc::Global;
 
-// The position with coordinates that are in range.
-fn at(x: i64, y: i64) -> Pt
+/// The position with coordinates that are in range.
+pub(crate) fn at(x: i64, y: i64) -> Pt
     requires { OnTheMap (record { x = x; y = y }) }
     ensures { result ≡ record { x = x; y = y } }
 {
     Pt::new(x, y).unwrap()
 }
 
-// A string's number and its ends.
-fn span_of(row: &StringRow) -> Span
+/// A string's number and its ends.
+pub(crate) fn span_of(row: &StringRow) -> Span
     ensures { result ≡ span_of_row row.now }
 {
     Span {

@@ -1,5 +1,5 @@
 //! What an edit takes out of a grid and puts into it, listed beside the map before it or after it.
-ghost use Rattle.std.specs.Prelude.{◌≡◌, ◌<◌, ◌≤◌, ◌+◌, ◌++◌, ◌∷◌, [], ℕ, List, Some, length, slice_get, map as each_of, IsPermutation, OnOk, IfOk};
+ghost use Rattle.std.specs.Prelude.{◌≡◌, ◌<◌, ◌≤◌, ◌+◌, ◌++◌, ◌∷◌, [], ℕ, List, Some, length, slice_get, map as each_of, IsPermutation, OnOk, IfOk, if◌then◌else◌};
 ghost use Rattle.geo_exact.specs.Position.{Position};
 ghost use Rattle.cad_rows.specs.declared.edits.Edit.TheVariants.{AddPoint, DropPoint, Split, Join, Divide, Merge, Move, Enclose};
 ghost use Rattle.cad_rows.specs.declared.names.Face.{Face};
@@ -13,12 +13,15 @@ ghost use Rattle.cad_laws.specs.Counts.{shared_strings};
 ghost use Rattle.cell_grid.specs.Grid.{entry_of};
 ghost use Rattle.cad_surgery.specs.Gridded.{string_entry, point_entry};
 ghost use Rattle.cad_surgery.specs.GridEdits.{gone_by, come_by};
+ghost use Rattle.cad_surgery.specs.HeldChains.{closed, rows_along};
 ghost use Rattle.cad_surgery.specs.GridLists.{span_of, AreEntries, IsBeside, position_by as position_by_of, span_entry, span_at};
 
+use crate::record::ChainString;
 use cad_map::{MapView, position};
 use cad_rows::{Memory, PointNo, StringNo};
 use cell_grid::Entries;
 use geo_exact::Pt;
+use half_table::Half;
 use std::alloc::Global;
 
 /// A string, and the points that it leads from and to.
@@ -215,4 +218,64 @@ pub(crate) fn strings_of_chain<M: MapView>(
         entries.add_string(strings[place], from, to)?;
     }
     Ok(entries)
+}
+
+// A half between two points, the first of them where it begins.
+fn span_between(half: &Half, from: PointNo, to: PointNo) -> Span
+    ensures { result ≡ record {
+      string = half.now.string;
+      from = if half.now.forward then from else to;
+      to = if half.now.forward then to else from;
+    } }
+{
+    if half.forward {
+        Span {
+            string: half.string,
+            from,
+            to,
+        }
+    } else {
+        Span {
+            string: half.string,
+            from: to,
+            to: from,
+        }
+    }
+}
+
+// Strings along a chain of points, or, where they are as many as the points, round it.
+fn spans_along(
+    alloc: Global,
+    strings: &[ChainString],
+    chain: &[PointNo],
+) -> Result<Vec<Span>, Memory>
+    requires { length strings.now ≤ length chain.now }
+    ensures { IfOk result (λ spans. spans.items
+        ≡ each_of span_of (rows_along strings.now (closed chain.now))) }
+{
+    let mut spans = Vec::new(alloc);
+    for place in 0..strings.len() {
+        let to = point_after(chain, place);
+        let span = span_between(&strings[place].half, chain[place], to);
+        spans.push(span)?;
+    }
+    Ok(spans)
+}
+
+/// Strings along a chain of points, or round it, that two faces share: what goes where they are
+/// merged.
+pub(crate) fn strings_between<M: MapView>(
+    alloc: Global,
+    map: &M,
+    strings: &[ChainString],
+    chain: &[PointNo],
+) -> Result<Entries, Memory>
+    requires { length strings.now ≤ length chain.now }
+    ensures { IfOk result (λ l. (b : Map) (kept ended : Face)
+        → IsBeside (M.map map.now) b (Merge kept ended)
+        → IsPermutation (rows_along strings.now (closed chain.now)) (shared_strings b kept ended)
+        → AreEntries (gone_by b (Merge kept ended)) l) }
+{
+    let spans = spans_along(alloc, strings, chain)?;
+    several_strings(alloc, map, spans.as_slice())
 }

@@ -8,7 +8,7 @@ ghost use Rattle.cad_map.specs.Refusals.{first_refusal as first_refusal_of};
 ghost use Rattle.cad_map.specs.Valid.{IsValid};
 ghost use Rattle.cad_surgery.specs.Parts.{map_of};
 ghost use Rattle.cad_surgery.specs.Record.{edit_of, Belongs, weight};
-ghost use Rattle.cad_surgery.specs.RowEdits.{is_of_rows};
+ghost use Rattle.cad_surgery.specs.InPlace.{is_in_place};
 ghost use Rattle.cad_surgery.specs.Work.{TakesWork};
 
 use crate::half_map::HalfMap;
@@ -19,12 +19,11 @@ use cad_rows::{Edit, Memory, Refusal};
 use half_table::Tally;
 
 impl<T: Tally> HalfMap<T> {
-    /// Makes an edit of rows alone, and gives its record: a source or a point that comes or goes, a
-    /// point that moves, a source that is attached or detached, a parcel that gets another label. A
-    /// refused one leaves the map as it was.
+    /// Makes an edit, and gives its record: any but a division and a merger. A refused
+    /// one leaves the map as it was.
     pub fn apply(&mut self, edit: &Edit) -> Result<SmallRecord, Refusal>
         requires valid { IsValid (map_of self.old) }
-        requires alone { IsTrue (is_of_rows edit.now) }
+        requires place { IsTrue (is_in_place edit.now) }
         // The outcome is that of the edit, both ways.
         ensures made { OnOk result (LeadsTo (map_of self.old) edit.now (map_of self.new)) }
         ensures refused { IfErr result (MayRefuse (map_of self.old) edit.now) }
@@ -45,11 +44,10 @@ impl<T: Tally> HalfMap<T> {
         play(&mut self.draft, edit)
     }
 
-    /// Goes from the map after an edit of rows alone to the map before it. Where memory runs out the
-    /// map stays.
+    /// Goes from the map after an edit to the map before it. Where memory runs out the map stays.
     pub fn back(&mut self, change: &SmallRecord) -> Result<(), Memory>
         requires made { (before : Map) × Belongs change.now before (map_of self.old) }
-        requires alone { IsTrue (is_of_rows (edit_of change.now)) }
+        requires place { IsTrue (is_in_place (edit_of change.now)) }
         ensures before { OnOk result ((before : Map) → Belongs change.now before (map_of self.old)
             → map_of self.new ≡ before) }
         ensures err { OnErr result (map_of self.new ≡ map_of self.old) }
@@ -60,11 +58,10 @@ impl<T: Tally> HalfMap<T> {
         play_back(&mut self.draft, change)
     }
 
-    /// Goes from the map before an edit of rows alone to the map after it. Where memory runs out the
-    /// map stays.
+    /// Goes from the map before an edit to the map after it. Where memory runs out the map stays.
     pub fn forward(&mut self, change: &SmallRecord) -> Result<(), Memory>
         requires made { (after : Map) × Belongs change.now (map_of self.old) after }
-        requires alone { IsTrue (is_of_rows (edit_of change.now)) }
+        requires place { IsTrue (is_in_place (edit_of change.now)) }
         ensures after { OnOk result ((after : Map) → Belongs change.now (map_of self.old) after
             → map_of self.new ≡ after) }
         ensures err { OnErr result (map_of self.new ≡ map_of self.old) }

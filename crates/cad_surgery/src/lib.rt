@@ -23,6 +23,8 @@ mod touched;
 
 pub use half_map::HalfMap;
 pub use laws::{
-    edits_exchange_entries, enclosures_bring_islands, halves_make_the_map, the_map_makes_halves,
+    divisions_bring_chains, edits_exchange_entries, enclosures_bring_islands, halves_make_the_map,
+    mergers_take_chains, the_map_makes_halves,
 };
-pub use record::{SmallRecord, weight};
+pub use record::{ChainString, SmallRecord, weight};
+pub use touched::touched_by;

@@ -1,6 +1,7 @@
 //! Edits tried on a map on half-edges: made, looked at, and taken back where they break a rule.
 ghost use Rattle.std.specs.Prelude.{◌≡◌, ◌↔◌, IsTrue, IfOk, IfErr, OnOk, OnErr};
 ghost use Rattle.cad_map.specs.Asked.{GivesInRange};
+ghost use Rattle.cad_map.specs.Costs.{work_bound};
 ghost use Rattle.cad_map.specs.Effects.{after};
 ghost use Rattle.cad_map.specs.Map.{Map};
 ghost use Rattle.cad_map.specs.Outcome.{MayRefuse};
@@ -11,15 +12,21 @@ ghost use Rattle.cad_valid.specs.Near.{HoldsMap, touched_of};
 ghost use Rattle.cad_surgery.specs.AtRest.{IsAtRest};
 ghost use Rattle.cad_surgery.specs.GridEdits.{gone_by, come_by};
 ghost use Rattle.cad_surgery.specs.GridLists.{AreEntries, IsBeside};
-ghost use Rattle.cad_surgery.specs.Parts.{map_of};
-ghost use Rattle.cad_surgery.specs.Record.{edit_of, Holds, IsMadeOf, IsPlaced};
+ghost use Rattle.cad_surgery.specs.InPlace.{is_in_place};
+ghost use Rattle.cad_surgery.specs.Parts.{map_of, kept_at};
+ghost use Rattle.cad_surgery.specs.Proper.{IsProper};
+ghost use Rattle.cad_surgery.specs.Record.{edit_of, Holds, Belongs, IsPlaced};
 ghost use Rattle.cad_surgery.specs.RowEdits.{is_of_rows, KeepsBeside};
+ghost use Rattle.cad_surgery.specs.Work.{TakesWork};
 
 use crate::draft::Draft;
-use crate::grid_edits::{coming, going};
+use crate::edits::try_enclose::{Enclosure, back_enclose, forward_enclose, try_enclose};
+use crate::edits::try_join::{back_join, forward_join, try_join};
+use crate::edits::try_split::{Halving, back_split, forward_split, try_split};
+use crate::grid_edits::{at, coming, going};
 use crate::grid_records::{what_comes, what_goes};
 use crate::record::SmallRecord;
-use crate::touched::touched_by_rows;
+use crate::touched::touched_by;
 use cad_rows::{Edit, Memory, Refusal};
 use cad_valid::{Touched, first_broken_near};
 use cell_grid::Entries;
@@ -68,6 +75,64 @@ fn try_rows<T: Tally>(
     Ok(change)
 }
 
+// Makes an edit, and takes it back where it breaks a rule. The grid holds the strings and points of
+// the map after it.
+fn try_edit<T: Tally>(
+    draft: &mut Draft<T>,
+    edit: &Edit,
+    touched: &Touched,
+) -> Result<SmallRecord, Refusal>
+    requires place { IsTrue (is_in_place edit.now) }
+    requires tried { IsTried (map_of draft.old) edit.now }
+    requires held { HoldsMap draft.old.grid (after (map_of draft.old) edit.now) }
+    requires touched { IsTouched (map_of draft.old) (after (map_of draft.old) edit.now)
+        (touched_of touched.now) }
+    requires proper { IsProper (map_of draft.old) draft.old.table.rows (kept_at draft.old) }
+    ensures made { OnOk result (map_of draft.new ≡ after (map_of draft.old) edit.now) }
+    ensures valid { OnOk result (IsValid (map_of draft.new)) }
+    ensures edit { IfOk result (λ r. edit_of r ≡ edit.now) }
+    ensures holds { IfOk result (λ r. Holds r (map_of draft.old)) }
+    ensures refused { IfErr result (MayRefuse (map_of draft.old) edit.now) }
+    ensures err { OnErr result (map_of draft.new ≡ map_of draft.old) }
+    ensures grid { draft.new.grid ≡ draft.old.grid }
+    ensures proper { IsProper (map_of draft.new) draft.new.table.rows (kept_at draft.new) }
+    ensures work { TakesWork draft.old.table draft.new.table
+        (work_bound (map_of draft.old) (after (map_of draft.old) edit.now)) }
+{
+    match edit {
+        Edit::Split {
+            string,
+            point,
+            x,
+            y,
+            first,
+            second,
+        } => {
+            let position = at(*x, *y);
+            let halving = Halving {
+                point: *point,
+                position,
+                first: *first,
+                second: *second,
+            };
+            try_split(draft, *string, &halving, touched)
+        }
+        Edit::Join { point, string } => try_join(draft, *point, *string, touched),
+        Edit::Enclose {
+            face,
+            points,
+            strings,
+            parcel,
+            label,
+            source,
+        } => try_enclose(
+            draft, *face, points, strings, *parcel, label, *source, touched,
+        ),
+        Edit::Divide { .. } | Edit::Merge { .. } => unreachable!(),
+        _ => try_rows(draft, edit, touched),
+    }
+}
+
 // What goes out of the grid by an edit, and what comes in.
 #[derive(Drop)]
 struct Exchange {
@@ -83,7 +148,7 @@ struct Plan {
 }
 
 fn plan_of<T: Tally>(draft: &Draft<T>, edit: &Edit) -> Result<Plan, Memory>
-    requires alone { IsTrue (is_of_rows edit.now) }
+    requires place { IsTrue (is_in_place edit.now) }
     requires tried { IsTried (map_of draft.now) edit.now }
     ensures gone { IfOk result
         (λ p. AreEntries (gone_by (map_of draft.now) edit.now) p.exchange.gone) }
@@ -93,12 +158,12 @@ fn plan_of<T: Tally>(draft: &Draft<T>, edit: &Edit) -> Result<Plan, Memory>
         (after (map_of draft.now) edit.now) (touched_of p.touched)) }
 {
     let exchange = exchange_by(draft, edit)?;
-    let touched = touched_by_rows(draft.rows.points.allocator(), draft, edit)?;
+    let touched = touched_by(draft.rows.points.allocator(), draft, edit)?;
     Ok(Plan { exchange, touched })
 }
 
 fn exchange_by<T: Tally>(draft: &Draft<T>, edit: &Edit) -> Result<Exchange, Memory>
-    requires alone { IsTrue (is_of_rows edit.now) }
+    requires place { IsTrue (is_in_place edit.now) }
     requires tried { IsTried (map_of draft.now) edit.now }
     ensures gone { IfOk result (λ x. AreEntries (gone_by (map_of draft.now) edit.now) x.gone) }
     ensures come { IfOk result (λ x. AreEntries (come_by (map_of draft.now) edit.now) x.come) }
@@ -112,7 +177,7 @@ fn exchange_by<T: Tally>(draft: &Draft<T>, edit: &Edit) -> Result<Exchange, Memo
 /// Makes an edit that nothing speaks against at once, and gives its record. Where memory runs out,
 /// or it breaks a rule, the map stays.
 pub(crate) fn play<T: Tally>(draft: &mut Draft<T>, edit: &Edit) -> Result<SmallRecord, Refusal>
-    requires alone { IsTrue (is_of_rows edit.now) }
+    requires place { IsTrue (is_in_place edit.now) }
     requires tried { IsTried (map_of draft.old) edit.now }
     requires rest { IsAtRest draft.old }
     ensures made { OnOk result (map_of draft.new ≡ after (map_of draft.old) edit.now) }
@@ -122,7 +187,8 @@ pub(crate) fn play<T: Tally>(draft: &mut Draft<T>, edit: &Edit) -> Result<SmallR
     ensures refused { IfErr result (MayRefuse (map_of draft.old) edit.now) }
     ensures err { OnErr result (map_of draft.new ≡ map_of draft.old) }
     ensures rest { IsAtRest draft.new }
-    ensures table { draft.new.table ≡ draft.old.table }
+    ensures work { TakesWork draft.old.table draft.new.table
+        (work_bound (map_of draft.old) (after (map_of draft.old) edit.now)) }
 {
     let Ok(plan) = plan_of(draft, edit) else {
         return Err(Refusal::Memory);
@@ -130,7 +196,7 @@ pub(crate) fn play<T: Tally>(draft: &mut Draft<T>, edit: &Edit) -> Result<SmallR
     let Ok(()) = draft.enter(&plan.exchange.come) else {
         return Err(Refusal::Memory);
     };
-    match try_rows(draft, edit, &plan.touched) {
+    match try_edit(draft, edit, &plan.touched) {
         Ok(change) => {
             draft.withdraw(&plan.exchange.gone);
             Ok(change)
@@ -142,12 +208,127 @@ pub(crate) fn play<T: Tally>(draft: &mut Draft<T>, edit: &Edit) -> Result<SmallR
     }
 }
 
+// Takes an edit back. The grid stays.
+fn back_edit<T: Tally>(draft: &mut Draft<T>, change: &SmallRecord) -> Result<(), Memory>
+    requires place { IsTrue (is_in_place (edit_of change.now)) }
+    requires given { GivesInRange (edit_of change.now) }
+    requires made { (m : Map) × Belongs change.now m (map_of draft.old) }
+    requires proper { IsProper (map_of draft.old) draft.old.table.rows (kept_at draft.old) }
+    ensures before { OnOk result ((m : Map) → Belongs change.now m (map_of draft.old)
+        → map_of draft.new ≡ m) }
+    ensures err { OnErr result (map_of draft.new ≡ map_of draft.old) }
+    ensures grid { draft.new.grid ≡ draft.old.grid }
+    ensures proper { IsProper (map_of draft.new) draft.new.table.rows (kept_at draft.new) }
+    ensures work { (m : Map) → Belongs change.now m (map_of draft.old)
+        → TakesWork draft.old.table draft.new.table (work_bound m (map_of draft.old)) }
+{
+    match change {
+        SmallRecord::Split {
+            row,
+            place,
+            point,
+            position,
+            first,
+            second,
+        } => {
+            let halving = Halving {
+                point: *point,
+                position: *position,
+                first: *first,
+                second: *second,
+            };
+            back_split(draft, row, *place, &halving)
+        }
+        SmallRecord::Join { .. } => back_join(draft, change),
+        SmallRecord::Enclose {
+            face,
+            points,
+            strings,
+            parcel,
+            label,
+            source,
+            moved,
+        } => {
+            let enclosure = Enclosure {
+                face: *face,
+                points: points.as_slice(),
+                strings: strings.as_slice(),
+                parcel: *parcel,
+                label,
+                source: *source,
+            };
+            back_enclose(draft, &enclosure, moved.as_slice())
+        }
+        SmallRecord::Divide { .. }
+        | SmallRecord::MergeAlong { .. }
+        | SmallRecord::MergeIsland { .. } => unreachable!(),
+        _ => draft.unmake_rows(change),
+    }
+}
+
+// Makes an edit again. The grid stays.
+fn forward_edit<T: Tally>(draft: &mut Draft<T>, change: &SmallRecord) -> Result<(), Memory>
+    requires place { IsTrue (is_in_place (edit_of change.now)) }
+    requires given { GivesInRange (edit_of change.now) }
+    requires made { (n : Map) × Belongs change.now (map_of draft.old) n }
+    requires proper { IsProper (map_of draft.old) draft.old.table.rows (kept_at draft.old) }
+    ensures after { OnOk result (map_of draft.new ≡ after (map_of draft.old) (edit_of change.now)) }
+    ensures err { OnErr result (map_of draft.new ≡ map_of draft.old) }
+    ensures grid { draft.new.grid ≡ draft.old.grid }
+    ensures proper { IsProper (map_of draft.new) draft.new.table.rows (kept_at draft.new) }
+    ensures work { TakesWork draft.old.table draft.new.table
+        (work_bound (map_of draft.old) (after (map_of draft.old) (edit_of change.now))) }
+{
+    match change {
+        SmallRecord::Split {
+            row,
+            point,
+            position,
+            first,
+            second,
+            ..
+        } => {
+            let halving = Halving {
+                point: *point,
+                position: *position,
+                first: *first,
+                second: *second,
+            };
+            forward_split(draft, row.number, &halving)
+        }
+        SmallRecord::Join { row, string, .. } => forward_join(draft, row.number, *string),
+        SmallRecord::Enclose {
+            face,
+            points,
+            strings,
+            parcel,
+            label,
+            source,
+            ..
+        } => {
+            let enclosure = Enclosure {
+                face: *face,
+                points: points.as_slice(),
+                strings: strings.as_slice(),
+                parcel: *parcel,
+                label,
+                source: *source,
+            };
+            forward_enclose(draft, &enclosure)
+        }
+        SmallRecord::Divide { .. }
+        | SmallRecord::MergeAlong { .. }
+        | SmallRecord::MergeIsland { .. } => unreachable!(),
+        _ => draft.remake_rows(change),
+    }
+}
+
 fn exchange_of<T: Tally>(draft: &Draft<T>, change: &SmallRecord) -> Result<Exchange, Memory>
-    requires { IsTrue (is_of_rows (edit_of change.now)) }
+    requires { (b : Map) × IsBeside (map_of draft.now) b (edit_of change.now) × Holds change.now b }
     ensures gone { IfOk result (λ x. (b : Map) → IsBeside (map_of draft.now) b (edit_of change.now)
         → Holds change.now b → AreEntries (gone_by b (edit_of change.now)) x.gone) }
     ensures come { IfOk result (λ x. (b : Map) → IsBeside (map_of draft.now) b (edit_of change.now)
-        → AreEntries (come_by b (edit_of change.now)) x.come) }
+        → Holds change.now b → AreEntries (come_by b (edit_of change.now)) x.come) }
 {
     let alloc = draft.rows.points.allocator();
     let gone = what_goes(alloc, draft, change)?;
@@ -157,20 +338,20 @@ fn exchange_of<T: Tally>(draft: &Draft<T>, change: &SmallRecord) -> Result<Excha
 
 /// Goes from the map after an edit to the map before it. Where memory runs out the map stays.
 pub(crate) fn play_back<T: Tally>(draft: &mut Draft<T>, change: &SmallRecord) -> Result<(), Memory>
-    requires alone { IsTrue (is_of_rows (edit_of change.now)) }
+    requires place { IsTrue (is_in_place (edit_of change.now)) }
     requires given { GivesInRange (edit_of change.now) }
-    requires made { (m : Map) × IsMadeOf change.now m
-        × (map_of draft.old ≡ after m (edit_of change.now)) }
+    requires made { (m : Map) × Belongs change.now m (map_of draft.old) }
     requires rest { IsAtRest draft.old }
-    ensures before { OnOk result ((m : Map) → IsMadeOf change.now m
-        → map_of draft.old ≡ after m (edit_of change.now) → map_of draft.new ≡ m) }
+    ensures before { OnOk result ((m : Map) → Belongs change.now m (map_of draft.old)
+        → map_of draft.new ≡ m) }
     ensures err { OnErr result (map_of draft.new ≡ map_of draft.old) }
     ensures rest { IsAtRest draft.new }
-    ensures table { draft.new.table ≡ draft.old.table }
+    ensures work { (m : Map) → Belongs change.now m (map_of draft.old)
+        → TakesWork draft.old.table draft.new.table (work_bound m (map_of draft.old)) }
 {
     let exchange = exchange_of(draft, change)?;
     draft.enter(&exchange.gone)?;
-    match draft.unmake_rows(change) {
+    match back_edit(draft, change) {
         Ok(()) => {
             draft.withdraw(&exchange.come);
             Ok(())
@@ -184,18 +365,19 @@ pub(crate) fn play_back<T: Tally>(draft: &mut Draft<T>, change: &SmallRecord) ->
 
 /// Goes from the map before an edit to the map after it. Where memory runs out the map stays.
 pub(crate) fn play_again<T: Tally>(draft: &mut Draft<T>, change: &SmallRecord) -> Result<(), Memory>
-    requires alone { IsTrue (is_of_rows (edit_of change.now)) }
+    requires place { IsTrue (is_in_place (edit_of change.now)) }
     requires given { GivesInRange (edit_of change.now) }
-    requires made { IsMadeOf change.now (map_of draft.old) }
+    requires made { (n : Map) × Belongs change.now (map_of draft.old) n }
     requires rest { IsAtRest draft.old }
     ensures after { OnOk result (map_of draft.new ≡ after (map_of draft.old) (edit_of change.now)) }
     ensures err { OnErr result (map_of draft.new ≡ map_of draft.old) }
     ensures rest { IsAtRest draft.new }
-    ensures table { draft.new.table ≡ draft.old.table }
+    ensures work { TakesWork draft.old.table draft.new.table
+        (work_bound (map_of draft.old) (after (map_of draft.old) (edit_of change.now))) }
 {
     let exchange = exchange_of(draft, change)?;
     draft.enter(&exchange.come)?;
-    match draft.remake_rows(change) {
+    match forward_edit(draft, change) {
         Ok(()) => {
             draft.withdraw(&exchange.gone);
             Ok(())

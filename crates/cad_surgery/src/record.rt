@@ -1,12 +1,26 @@
 //! The record of an edit: what it added, replaced or took away, and no more.
-ghost use Rattle.std.specs.Prelude.{◌≡◌, ◌<◌, ◌^◌, length};
+ghost use Rattle.std.specs.Prelude.{◌≡◌, ◌≤◌, ◌-◌, ◌<◌, ◌^◌, length};
+ghost use Rattle.std.specs.List.{AllByRecursion};
+ghost use Rattle.cad_rows.specs.Limits.{IsNumber};
 ghost use Rattle.cad_map.specs.Asked.{GivesInRange};
-ghost use Rattle.cad_surgery.specs.Record.{edit_of, weight as weight_of};
+ghost use Rattle.cad_surgery.specs.Record.{edit_of, chain_weight, weight as weight_of};
 
 use cad_rows::{
-    Item, Label, Numbers, ParcelNo, PointNo, PointRow, SourceNo, SourceRow, StringNo, StringRow,
+    Face, Item, Label, Numbers, ParcelNo, ParcelRow, PointNo, PointRow, SourceNo, SourceRow,
+    StringNo, StringRow,
 };
 use geo_exact::Pt;
+use half_table::Half;
+
+/// A string that went with a chain: its half that leads along the chain, its place among the
+/// strings when those before it in the chain are out, and its sources. Its ends are those of the
+/// chain's side.
+#[derive(Debug, Drop)]
+pub struct ChainString {
+    pub half: Half,
+    pub place: usize,
+    pub sources: Numbers<SourceNo>,
+}
 
 /// What an edit added, replaced or took away, by which it is taken back and made again on any store
 /// that stands for the map. A place is that of a row, or of a source, in the list that it left.
@@ -48,6 +62,44 @@ pub enum SmallRecord {
         second_place: usize,
         string: StringNo,
     },
+    /// The chain that came across a face, with its strings and the parcel to its left. The two
+    /// halves follow the chain's two ends: the first of them the chain back, the second the chain.
+    /// Each ring that passed to the parcel is named by one half.
+    Divide {
+        face: Face,
+        chain: Numbers<PointNo>,
+        strings: Numbers<StringNo>,
+        parcel: ParcelNo,
+        label: Label,
+        source: SourceNo,
+        start: Half,
+        end: Half,
+        moved: Vec<Half>,
+    },
+    /// The parcel that ended and its place, and the chain that went, as the ended parcel's ring led
+    /// along it, with its strings. The two halves followed the chain's two ends: the first of them
+    /// the chain back, the second the chain. Each ring that passed to the kept face is named by one
+    /// half.
+    MergeAlong {
+        kept: Face,
+        row: ParcelRow,
+        place: usize,
+        chain: Numbers<PointNo>,
+        strings: Vec<ChainString>,
+        start: Half,
+        end: Half,
+        moved: Vec<Half>,
+    },
+    /// The parcel that ended and its place, and its whole outline that went, as its ring led round
+    /// these points, with its strings. Each ring that passed to the kept face is named by one half.
+    MergeIsland {
+        kept: Face,
+        row: ParcelRow,
+        place: usize,
+        points: Numbers<PointNo>,
+        strings: Vec<ChainString>,
+        moved: Vec<Half>,
+    },
     /// A point that lies elsewhere: where it lay, and where it lies.
     Move {
         point: PointNo,
@@ -71,19 +123,41 @@ pub enum SmallRecord {
         from: Label,
         to: Label,
     },
+    /// The island that came into a face, with its strings and the parcel inside it. Each ring that
+    /// passed to the parcel is named by one half.
+    Enclose {
+        face: Face,
+        points: Numbers<PointNo>,
+        strings: Numbers<StringNo>,
+        parcel: ParcelNo,
+        label: Label,
+        source: SourceNo,
+        moved: Vec<Half>,
+    },
 }
 
 // How many sources are attached to a row.
-fn count(sources: &Numbers<SourceNo>) -> u64
+fn count(sources: &Numbers<SourceNo>) -> u128
     ensures count { result ≡ length sources.now }
     ensures few { result < 2 ^ 62 }
 {
-    sources.as_slice().len() as u64
+    sources.as_slice().len() as u128
 }
 
-/// How much a record holds: 1, and each point, string, parcel, source, ring and place in its fields.
-/// A position counts with its point, and a text with its row.
-pub fn weight(change: &SmallRecord) -> u64
+// How much the strings of a chain hold: each of them itself, its place and its sources.
+fn held_by(strings: &[ChainString]) -> u128
+    ensures held { result ≡ chain_weight strings.now }
+    ensures few { result < 2 ^ 127 }
+{
+    let mut total: u128 = 0;
+    for string in strings {
+        total += 2 + count(&string.sources);
+    }
+    total
+}
+
+// How much a record holds, in full.
+fn holdings(change: &SmallRecord) -> u128
     ensures { result ≡ weight_of change.now }
 {
     match change {
@@ -101,6 +175,61 @@ pub fn weight(change: &SmallRecord) -> u64
             second,
             ..
         } => 12 + count(&row.sources) + count(&first.sources) + count(&second.sources),
+        SmallRecord::Divide {
+            chain,
+            strings,
+            moved,
+            ..
+        } => 6 + chain.len() as u128 + strings.len() as u128 + moved.len() as u128,
+        SmallRecord::MergeAlong {
+            row,
+            chain,
+            strings,
+            moved,
+            ..
+        } => {
+            6 + count(&row.sources)
+                + chain.len() as u128
+                + held_by(strings.as_slice())
+                + moved.len() as u128
+        }
+        SmallRecord::MergeIsland {
+            row,
+            points,
+            strings,
+            moved,
+            ..
+        } => {
+            4 + count(&row.sources)
+                + points.len() as u128
+                + held_by(strings.as_slice())
+                + moved.len() as u128
+        }
+        SmallRecord::Enclose {
+            points,
+            strings,
+            moved,
+            ..
+        } => 4 + points.len() as u128 + strings.len() as u128 + moved.len() as u128,
+    }
+}
+
+/// How much a record holds: 1, and each point, string, parcel, source, ring and place in its fields.
+/// A position counts with its point, and a text with its row. What is more than a `u64` can hold is
+/// told as the greatest `u64`; no record of a map's edit comes near it.
+pub fn weight(change: &SmallRecord) -> u64
+    ensures exact { weight_of change.now < 2 ^ 64 → result ≡ weight_of change.now }
+    ensures most { 2 ^ 64 ≤ weight_of change.now → result ≡ 2 ^ 64 - 1 }
+{
+    u64::try_from(holdings(change)).unwrap_or(u64::MAX)
+}
+
+// The numbers of strings are in range, by their type.
+fn are_strings_in_range(strings: &[StringNo])
+    ensures { AllByRecursion IsNumber strings.now }
+{
+    for string in strings {
+        let _ = string.get();
     }
 }
 
@@ -132,7 +261,25 @@ pub(crate) fn are_in_range(change: &SmallRecord)
         SmallRecord::Rename { to, .. } => {
             let _ = to.as_str();
         }
+        SmallRecord::Divide {
+            strings,
+            parcel,
+            label,
+            ..
+        }
+        | SmallRecord::Enclose {
+            strings,
+            parcel,
+            label,
+            ..
+        } => {
+            are_strings_in_range(strings.as_slice());
+            let _ = parcel.get();
+            let _ = label.as_str();
+        }
         SmallRecord::DropPoint { .. }
+        | SmallRecord::MergeAlong { .. }
+        | SmallRecord::MergeIsland { .. }
         | SmallRecord::Move { .. }
         | SmallRecord::Attach { .. }
         | SmallRecord::Detach { .. } => {}

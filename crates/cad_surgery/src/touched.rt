@@ -1,20 +1,23 @@
 //! What an edit touches, listed on the map before it.
-ghost use Rattle.std.specs.Prelude.{◌≡◌, [], IsTrue, IsSome, Some, IfOk, OnOk};
+ghost use Rattle.std.specs.Prelude.{◌≡◌, ◌<◌, ◌∷◌, [], ℕ, length, IsTrue, IsSome, Some, IfOk, OnOk};
 ghost use Rattle.std.specs.List.{Contains};
+ghost use Rattle.cad_rings.specs.Cycle.{Side, opposite, sides_of};
 ghost use Rattle.cad_rows.specs.declared.names.Face.{Face as FaceOf};
+ghost use Rattle.cad_rows.specs.declared.names.Face.TheVariants as face_of;
 ghost use Rattle.cad_rows.specs.declared.rows.StringRow.{StringRow as StringOf};
 ghost use Rattle.cad_map.specs.declared.boundary.Boundary.{Boundary as BoundaryOf};
 ghost use Rattle.cad_map.specs.Effects.{after};
-ghost use Rattle.cad_map.specs.Map.{string_of, strings_at};
-ghost use Rattle.cad_map.specs.Touched.{IsTouched};
+ghost use Rattle.cad_map.specs.Map.{rings_at, string_of, strings_at};
+ghost use Rattle.cad_map.specs.Rings.{HasWholeRings, ring_at};
+ghost use Rattle.cad_map.specs.Touched.{IsTouched, neighbours};
 ghost use Rattle.cad_map.specs.Valid.{IsValid};
+ghost use Rattle.cad_map.specs.Views.{HasSide};
 ghost use Rattle.cad_laws.specs.Touching.{goes_along, passes, touching};
 ghost use Rattle.cad_laws.specs.Tried.{IsTried};
 ghost use Rattle.cad_valid.specs.Near.{touched_of};
-ghost use Rattle.cad_surgery.specs.RowEdits.{is_of_rows};
 
-use cad_map::MapView;
-use cad_rows::{Edit, Face, Memory, PointNo, StringNo};
+use cad_map::{MapView, Walk, far_end, is_face, ring_count};
+use cad_rows::{Edit, Face, Memory, ParcelNo, PointNo, StringNo};
 use cad_valid::Touched;
 use std::alloc::Global;
 
@@ -115,20 +118,232 @@ fn around<M: MapView>(alloc: Global, map: &M, point: PointNo) -> Result<Touched,
     })
 }
 
-/// What an edit of rows alone touches.
-pub(crate) fn touched_by_rows<M: MapView>(
+// A string that is split: the point and the string's ends, its halves, and the faces on both sides.
+fn beside<M: MapView>(
     alloc: Global,
     map: &M,
-    edit: &Edit,
+    string: StringNo,
+    point: PointNo,
+    first: StringNo,
+    second: StringNo,
 ) -> Result<Touched, Memory>
-    requires alone { IsTrue (is_of_rows edit.now) }
-    requires tried { IsTried (M.map map.now) edit.now }
+    requires valid { IsValid (M.map map.now) }
+    requires there { IsSome (string_of (M.map map.now) string) }
+    ensures points { IfOk result (λ t. (s : StringOf) → string_of (M.map map.now) string ≡ Some s
+        → t.points.items ≡ point ∷ s.from ∷ s.to ∷ []) }
+    ensures strings { IfOk result (λ t. t.strings.items ≡ first ∷ second ∷ []) }
+    ensures faces { IfOk result (λ t. (s : StringOf) (b : BoundaryOf)
+        → string_of (M.map map.now) string ≡ Some s → Contains (M.map map.now).boundaries b
+        → IsTrue (goes_along s b.ring) → Contains t.faces.items b.face) }
+{
+    let row = map.string(string).unwrap();
+    let mut points = Vec::new(alloc);
+    points.push(point)?;
+    points.push(row.from)?;
+    points.push(row.to)?;
+    let mut strings = Vec::new(alloc);
+    strings.push(first)?;
+    strings.push(second)?;
+    let mut faces = Vec::new(alloc);
+    add_faces(&mut faces, map, string)?;
+    Ok(Touched {
+        points,
+        strings,
+        faces,
+    })
+}
+
+// The points at the other ends of a point's strings.
+fn far_ends<M: MapView>(alloc: Global, map: &M, point: PointNo) -> Result<Vec<PointNo>, Memory>
+    ensures { IfOk result (λ points. (p : ℕ) → Contains (neighbours (M.map map.now) point) p
+        → Contains points.items p) }
+{
+    let mut points = Vec::new(alloc);
+    for place in 0..map.degree(point) {
+        let row = map.string_with(point, place).unwrap();
+        points.push(far_end(row, point))?;
+    }
+    Ok(points)
+}
+
+// Two strings that are joined at a point: their far ends, the new string, and the faces round the
+// point.
+fn across<M: MapView>(
+    alloc: Global,
+    map: &M,
+    point: PointNo,
+    string: StringNo,
+) -> Result<Touched, Memory>
+    requires { IsValid (M.map map.now) }
+    ensures points { IfOk result (λ t. (p : ℕ) → Contains (neighbours (M.map map.now) point) p
+        → Contains t.points.items p) }
+    ensures strings { IfOk result (λ t. t.strings.items ≡ string ∷ []) }
+    ensures faces { IfOk result (λ t. (b : BoundaryOf) → Contains (M.map map.now).boundaries b
+        → IsTrue (passes point b.ring) → Contains t.faces.items b.face) }
+{
+    let points = far_ends(alloc, map, point)?;
+    let mut strings = Vec::new(alloc);
+    strings.push(string)?;
+    let faces = faces_at(alloc, map, point)?;
+    Ok(Touched {
+        points,
+        strings,
+        faces,
+    })
+}
+
+// Strings along points, between two faces.
+fn along(
+    alloc: Global,
+    points: &[PointNo],
+    strings: &[StringNo],
+    face: Face,
+    parcel: ParcelNo,
+) -> Result<Touched, Memory>
+    ensures { IfOk result (λ t. touched_of t
+        ≡ touching points.now strings.now (face ∷ face_of.Parcel parcel ∷ [])) }
+{
+    let mut faces = Vec::new(alloc);
+    faces.push(face)?;
+    faces.push(Face::Parcel(parcel))?;
+    Ok(Touched {
+        points: Vec::from_slice(alloc, points)?,
+        strings: Vec::from_slice(alloc, strings)?,
+        faces,
+    })
+}
+
+// Whether a face has the opposite of a side.
+fn is_behind<M: MapView>(map: &M, face: &Face, from: PointNo, to: PointNo) -> bool
+    requires { HasWholeRings (M.map map.now) }
+    ensures { HasSide (M.map map.now) face.now (opposite (from, to)) → IsTrue result }
+{
+    match map.face_of(to, from) {
+        Some(other) => is_face(face, &other),
+        None => false,
+    }
+}
+
+// Adds the ends of a side, where it is wanted.
+fn add_both_if(
+    points: &mut Vec<PointNo>,
+    from: PointNo,
+    to: PointNo,
+    is_wanted: bool,
+) -> Result<(), Memory>
+    ensures keeps { OnOk result
+        ((p : ℕ) → Contains points.old.items p → Contains points.new.items p) }
+    ensures both { OnOk result (IsTrue is_wanted
+        → Contains points.new.items from × Contains points.new.items to) }
+{
+    if is_wanted {
+        points.push(from)?;
+        points.push(to)?;
+    }
+    Ok(())
+}
+
+// Adds the ends of those sides of one of a face's rings that another face has on their other side.
+fn add_ends<M: MapView>(
+    points: &mut Vec<PointNo>,
+    map: &M,
+    face: &Face,
+    place: usize,
+    other: &Face,
+) -> Result<(), Memory>
+    requires whole { HasWholeRings (M.map map.now) }
+    requires there { place < length (rings_at face.now (M.rings map.now)) }
+    ensures keeps { OnOk result
+        ((p : ℕ) → Contains points.old.items p → Contains points.new.items p) }
+    ensures ends { OnOk result ((s : Side)
+        → Contains (sides_of (ring_at (M.rings map.now) face.now place)) s
+        → HasSide (M.map map.now) other.now (opposite s)
+        → Contains points.new.items s.0 × Contains points.new.items s.1) }
+{
+    for (from, to) in Walk::of_ring(map, face, place) {
+        let is_shared = is_behind(map, other, from, to);
+        add_both_if(points, from, to, is_shared)?;
+    }
+    Ok(())
+}
+
+// The ends of the sides that one face has with another on their other side.
+fn shared_ends<M: MapView>(
+    alloc: Global,
+    map: &M,
+    face: &Face,
+    other: &Face,
+) -> Result<Vec<PointNo>, Memory>
+    requires { HasWholeRings (M.map map.now) }
+    ensures { IfOk result (λ points. (s : Side) → HasSide (M.map map.now) face.now s
+        → HasSide (M.map map.now) other.now (opposite s)
+        → Contains points.items s.0 × Contains points.items s.1) }
+{
+    let mut points = Vec::new(alloc);
+    for place in 0..ring_count(map, face) {
+        add_ends(&mut points, map, face, place, other)?;
+    }
+    Ok(points)
+}
+
+// Two faces that are merged: the points of what they share, and the face that is kept.
+fn between<M: MapView>(alloc: Global, map: &M, kept: &Face, ended: &Face) -> Result<Touched, Memory>
+    requires { HasWholeRings (M.map map.now) }
+    ensures points { IfOk result (λ t. (s : Side) → HasSide (M.map map.now) ended.now s
+        → HasSide (M.map map.now) kept.now (opposite s)
+        → Contains t.points.items s.0 × Contains t.points.items s.1) }
+    ensures face { IfOk result (λ t. Contains t.faces.items kept.now) }
+{
+    let points = shared_ends(alloc, map, ended, kept)?;
+    let mut faces = Vec::new(alloc);
+    faces.push(*kept)?;
+    Ok(Touched {
+        points,
+        strings: Vec::new(alloc),
+        faces,
+    })
+}
+
+/// What an edit touches: the points, strings and faces of which it has to be looked after it
+/// whether they keep the rules. It takes time by the strings at the edit's points, and for a merger
+/// by the sides of the parcel that ends.
+///
+/// Condition: the map is valid, and nothing speaks against the edit at once.
+pub fn touched_by<M: MapView>(alloc: Global, map: &M, edit: &Edit) -> Result<Touched, Memory>
+    requires { IsTried (M.map map.now) edit.now }
     ensures { IfOk result
         (λ t. IsTouched (M.map map.now) (after (M.map map.now) edit.now) (touched_of t)) }
 {
     match edit {
         Edit::AddPoint { point, .. } => lone(alloc, *point),
+        Edit::Split {
+            string,
+            point,
+            first,
+            second,
+            ..
+        } => beside(alloc, map, *string, *point, *first, *second),
+        Edit::Join { point, string } => across(alloc, map, *point, *string),
+        Edit::Divide {
+            face,
+            chain,
+            strings,
+            parcel,
+            ..
+        } => along(alloc, chain.as_slice(), strings.as_slice(), *face, *parcel),
+        Edit::Merge { kept, ended } => between(alloc, map, kept, ended),
         Edit::Move { point, .. } => around(alloc, map, *point),
-        _ => Ok(nothing(alloc)),
+        Edit::Enclose {
+            face,
+            points,
+            strings,
+            parcel,
+            ..
+        } => along(alloc, points.as_slice(), strings.as_slice(), *face, *parcel),
+        Edit::AddSource { .. }
+        | Edit::DropPoint { .. }
+        | Edit::Attach { .. }
+        | Edit::Detach { .. }
+        | Edit::Rename { .. } => Ok(nothing(alloc)),
     }
 }

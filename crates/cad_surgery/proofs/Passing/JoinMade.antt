@@ -11,12 +11,13 @@ use Rattle.cad_map.specs.Changes.{join, by_number}
 use Rattle.cad_map.specs.Effects.{after}
 use Rattle.cad_map.specs.Map.{Map, point_of, string_of, is_end, far_end, strings_at}
 use Rattle.cad_map.specs.Table.{without_row}
-use Rattle.cad_map.proofs.CallerLemmas.{Contains-cases, Contains-first, Contains-later, Contains-filter, row-found, ends, allowed, there-one}
+use Rattle.cad_map.proofs.CallerLemmas.{Contains-cases, Contains-first, Contains-later, Contains-filter, row-found, ends, allowed, there-one, All-at_each, find-Contains}
 use Rattle.half_table.specs.declared.half.Half.{Half}
-use Rattle.half_table.specs.Rows.{HalfRows}
+use Rattle.half_table.specs.Half.{forward_of, backward_of}
+use Rattle.half_table.specs.Rows.{HalfRows, has, origin_of}
 use Rattle.cad_laws.specs.Joining.{FarEndsAreApart}
 use Rattle.cad_laws.specs.Tried.{IsTried}
-use Rattle.key_lists.specs.Held.{Held}
+use Rattle.key_lists.specs.Held.{Held, HasRoomAt}
 use Rattle.cad_surgery.specs.declared.edits.passing.Passing.{Passing}
 use Rattle.cad_surgery.specs.declared.map_rows.MapRows.{MapRows}
 use Rattle.cad_surgery.specs.declared.stars.Spoke.{Spoke}
@@ -169,7 +170,7 @@ module _ (p first second : ℕ) (row : StringRow) (rows : MapRows) (table : Half
       ap (λ (q : Map). is_some (point_of q p)) can.fits.rows_are
       ∙ made.join-point_there m p row.number s t can.tried can.are can.apart
 
-  pub join-meet : CanMeet row s t stars
+  abbrev pub join-meet : CanMeet row s t stars
   join-meet =
       let a-p = between.a-p m (after_join can) p (far_end s p) (far_end t p) (path_at p s t row.number) it in
       let b-p = between.b-p m (after_join can) p (far_end s p) (far_end t p) (path_at p s t row.number) it in
@@ -204,6 +205,13 @@ module _ (p first second : ℕ) (row : StringRow) (rows : MapRows) (table : Half
       (subst (λ (w : StringRow). IsPermutation (after_join can).strings (w ∷ rest)) (sym can.row_is)
       (made.join-after m p row.number s t can.tried can.are can.apart)) now
 
+  -- and the room at the point
+  pub join-room : (one other : StringRow) → one ≡ s → other ≡ t → (new : Held Spoke)
+      → ((k : CanMeet row one other stars) → HasRoomAt new k.point 2) → HasRoomAt new p 2
+  join-room one other one_is other_is new each =
+      subst (λ (w : StringRow × StringRow). ((k : CanMeet row w.0 w.1 stars) → HasRoomAt new k.point 2) → HasRoomAt new p 2)
+      (λ i. (sym one_is i, sym other_is i)) (λ k. k join-meet) each
+
   others-are : ((after_join can).sources ≡ m.sources) × ((after_join can).parcels ≡ m.parcels)
       × ((after_join can).retired ≡ m.retired) × ((after_join can).points ≡ without_row (λ (r : PointRow). r.number) p m.points)
   unfolding after
@@ -236,3 +244,17 @@ module _ (p first second : ℕ) (row : StringRow) (rows : MapRows) (table : Half
         retired = sym others-are.2 i;
         boundaries = [];
       })
+
+  -- a string that was there is whole in the table still
+  pub join-whole : (n : ℕ) (r : StringRow) → string_of (map_in rows) n ≡ Some r → (new : HalfRows)
+      → ((h : Half) → has new h ≡ has table h) → ((h : Half) → origin_of new h ≡ origin_of table h)
+      → HasHalves new r
+  join-whole n r found new stays begins =
+      let among = (find-Contains (λ (q : StringRow). q.number == n) m.strings r (sym (ap (λ (q : Map). string_of q n) can.fits.rows_are) ∙ found)).0 in
+      let e = All-at_each (HasHalves table) m.strings r can.fits.fits.ends among in
+      record {
+        there = stays (forward_of r.number) ∙ e.there;
+        back = stays (backward_of r.number) ∙ e.back;
+        from = begins (forward_of r.number) ∙ e.from;
+        to = begins (backward_of r.number) ∙ e.to;
+      }

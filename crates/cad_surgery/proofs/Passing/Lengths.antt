@@ -78,7 +78,7 @@ fewer test (x ∷ xs) = by (test x) refl (fewer test xs)
 
 -- ---- The cycle of a half is as long as its ring
 
-cycle-length : (m : Map) (rows : HalfRows) → HasWholeRings m → IsLocal m rows → (h : Half) → IsShown m h
+pub cycle-length : (m : Map) (rows : HalfRows) → HasWholeRings m → IsLocal m rows → (h : Half) → IsShown m h
     → (r : Boundary) → Contains m.boundaries r → Contains (sides_of r.ring) (side_by rows h)
     → length (cycle rows h) ≡ length r.ring
 cycle-length m rows whole local h shown r there has =

@@ -1,7 +1,8 @@
 -- A split of a map on half-edges that is made in place.
-use Rattle.std.proofs.Common.{◌≡◌, ◌≢◌, ℕ, ℤ, inl, inr, refl, sym, ap, subst, ◌∙◌, List, [], ◌∷◌, ◌++◌, append_assoc, Option, Some, None}
+use Rattle.std.proofs.Common.{◌≡◌, ◌≢◌, ℕ, inl, inr, sym, ap, subst, ◌∙◌, List, [], ◌∷◌, ◌++◌, append_assoc, Option, Some, None}
 use Rattle.std.specs.Prelude.{IsPermutation, option_map, unwrap_or}
 use Rattle.std.specs.List.{Contains}
+use Rattle.std.proofs.lemmas.Option.{same_Some}
 use Rattle.std.proofs.lemmas.List.Sorted.{IsPermutation-trans, IsPermutation-middle}
 use Rattle.cad_rows.specs.declared.edits.Edit.TheVariants.{Split}
 use Rattle.cad_rows.specs.declared.rows.PointRow.{PointRow}
@@ -12,16 +13,16 @@ use Rattle.cad_map.specs.Map.{Map, point_of, string_of}
 use Rattle.cad_map.specs.Table.{without_row}
 use Rattle.cad_map.proofs.CallerLemmas.{All-at_each, allowed, free-split}
 use Rattle.half_table.specs.declared.half.Half.{Half}
-use Rattle.half_table.specs.Rows.{HalfRows}
-use Rattle.cad_laws.specs.Tried.{IsTried}
-use Rattle.key_lists.specs.Held.{Held, HasRoomAt}
+use Rattle.half_table.specs.Half.{forward_of, backward_of}
+use Rattle.half_table.specs.Rows.{HalfRows, has, origin_of}
+use Rattle.key_lists.specs.Held.{Held}
 use Rattle.cad_surgery.specs.declared.edits.passing.Passing.{Passing}
 use Rattle.cad_surgery.specs.declared.map_rows.MapRows.{MapRows}
 use Rattle.cad_surgery.specs.declared.stars.Spoke.{Spoke}
 use Rattle.cad_surgery.specs.Rows.{map_in}
 use Rattle.cad_surgery.specs.Parts.{HasHalves}
 use Rattle.cad_surgery.specs.Passing.{HasBetween, FitTable, CanGoThrough, path_of}
-use Rattle.cad_surgery.specs.Splitting.{CanSplit, CanPart, FitMap, AreStarsOf, after_split}
+use Rattle.cad_surgery.specs.Splitting.{CanSplit, CanPart, AreStarsOf, after_split}
 use Rattle.cad_surgery.proofs.Passing.Between as between
 use Rattle.cad_surgery.proofs.Passing.SplitBetween as made
 use Rattle.cad_surgery.proofs.Passing.StarsChanged.{stars-permuted}
@@ -160,3 +161,17 @@ module _ (string : ℕ) (point : PointRow) (first second : StringRow) (rows : Ma
   } → new ≡ record (after_split can) { boundaries = [] }
   split-rows_are new is =
       is ∙ split-rows m string point first second row can.found number can.no_sources can.first_is can.second_is (map_in rows) can.fits.rows_are
+
+  -- the string that was split is whole in the table still
+  pub split-whole : (whole : StringRow) → string_of (map_in rows) string ≡ Some whole → (new : HalfRows)
+      → ((h : Half) → has new h ≡ has table h) → ((h : Half) → origin_of new h ≡ origin_of table h)
+      → HasHalves new whole
+  split-whole whole is new stays begins =
+      let same = same_Some row whole (sym split-found ∙ is) in
+      let e = All-at_each (HasHalves table) m.strings row can.fits.fits.ends there in
+      subst (HasHalves new) same (record {
+        there = stays (forward_of row.number) ∙ e.there;
+        back = stays (backward_of row.number) ∙ e.back;
+        from = begins (forward_of row.number) ∙ e.from;
+        to = begins (backward_of row.number) ∙ e.to;
+      })

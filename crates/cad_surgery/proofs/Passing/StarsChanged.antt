@@ -324,3 +324,17 @@ connects-elsewhere row a b q on not_a not_b = elim on [
   | inl w ↦ spokes-elsewhere q row (λ e. not_a (sym e ∙ w.0)) (λ e. not_b (sym e ∙ w.1))
   | inr w ↦ spokes-elsewhere q row (λ e. not_b (sym e ∙ w.0)) (λ e. not_a (sym e ∙ w.1))
 ]
+
+-- where two strings went from a point, and one came elsewhere, there is room for both again
+pub room-after_both : (other whole : StringRow) (mid bare new : Held Spoke) (a p : ℕ) → a ≢ p → Connects other a p
+    → TakesSpokes other mid bare → capacity_at bare p ≡ capacity_at mid p → HasRoomAt mid p 1
+    → AddsSpokes whole bare new → capacity_at new p ≡ capacity_at bare p → whole.from ≢ p → whole.to ≢ p
+    → HasRoomAt new p 2
+room-after_both other whole mid bare new a p apart on takes less room adds more from to =
+    let one = length-spokes_at other a p apart on in
+    let long = length_permutation (items_at mid p) (spokes_of p other ++ items_at bare p) (takes p) in
+    let parts = length-append (spokes_of p other) (items_at bare p) in
+    let none = ap (λ (l : List Spoke). length l) (spokes-elsewhere p whole from to) in
+    let now = ap (λ (l : List Spoke). length l) (adds p) in
+    let both = length-append (items_at bare p) (spokes_of p whole) in
+    omega (arith, one, long, parts, less, room, more, none, now, both)

@@ -70,6 +70,9 @@ pub(crate) fn bring_in<T: Tally>(
     ensures work { table.new.work ≡ ticked (length rest.now + 1 + (length (cycle table.new.rows first.now)
         + (length (cycle table.new.rows (twin first.now)) + cycles_length table.new.rows moved.now))) table.old.work }
     ensures capacity { (n : ℕ) → capacity_at kept.new n ≡ capacity_at kept.old n }
+    // Two halves more are kept of the rings of the two faces.
+    ensures count { length (items_at kept.new (face_place_of inner.now)) + length (items_at kept.new (face_place_of outer.now))
+        ≡ length (items_at kept.old (face_place_of inner.now)) + length (items_at kept.old (face_place_of outer.now)) + 2 }
 {
     bring_island(table, first, rest, outer, inner, moved);
     hand_over(table, kept, outer, inner);

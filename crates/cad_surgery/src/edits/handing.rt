@@ -1,10 +1,10 @@
 //! Kept halves of rings that pass from one face to another.
-ghost use Rattle.std.specs.Prelude.{◌≡◌, ◌≢◌, ◌++◌, ◌∷◌, [], ◌<◌, ◌≤◌, ℕ, length, swap_remove, slice_get, Some};
+ghost use Rattle.std.specs.Prelude.{◌≡◌, ◌≢◌, ◌++◌, ◌∷◌, [], ◌<◌, ◌≤◌, ◌+◌, ℕ, length, swap_remove, slice_get, Some};
 ghost use Rattle.cad_map.specs.Boundaries.{face_place as face_place_of};
 ghost use Rattle.half_table.specs.declared.half.Half.{Half as HalfOf};
 ghost use Rattle.half_paths.specs.Path.{AreIn};
 ghost use Rattle.key_lists.specs.Held.{items_at, capacity_at, HasRoomAt, KeepsOthers};
-ghost use Rattle.cad_surgery.specs.Handing.{HandsOver};
+ghost use Rattle.cad_surgery.specs.Handing.{HandsOver, KeepsBoth, KeepsOne};
 
 use crate::kept::face_place;
 use cad_rows::Face;
@@ -66,5 +66,49 @@ pub(crate) fn clear(kept: &mut KeyLists<Half>, key: u64)
     let count = kept.at(key).len();
     for gone in 0..count {
         kept.take(key, count - 1 - gone);
+    }
+}
+
+/// Keeps one half more, of the one of two rings that has none: the first half for the inner face, if
+/// none is kept for it, and else the second for the outer face. It takes no memory.
+pub(crate) fn keep_both(
+    kept: &mut KeyLists<Half>,
+    own: &Half,
+    other: &Half,
+    inner: &Face,
+    outer: &Face,
+)
+    requires differ { face_place_of outer.now ≢ face_place_of inner.now }
+    requires inner_room { HasRoomAt kept.old (face_place_of inner.now) 1 }
+    requires outer_room { HasRoomAt kept.old (face_place_of outer.now) 1 }
+    ensures both { KeepsBoth (face_place_of inner.now) (face_place_of outer.now) own.now other.now
+        kept.old kept.new }
+    ensures more { length (items_at kept.new (face_place_of inner.now))
+        + length (items_at kept.new (face_place_of outer.now))
+        ≡ length (items_at kept.old (face_place_of inner.now))
+        + length (items_at kept.old (face_place_of outer.now)) + 1 }
+    ensures capacity { (n : ℕ) → capacity_at kept.new n ≡ capacity_at kept.old n }
+{
+    let key = face_place(*inner);
+    if kept.at(key).is_empty() {
+        kept.put(key, *own);
+    } else {
+        kept.put(face_place(*outer), *other);
+    }
+}
+
+/// Takes out all halves that are kept for the inner face, and if there were any, keeps this one for
+/// the outer face. It takes no memory.
+pub(crate) fn keep_one(kept: &mut KeyLists<Half>, half: &Half, inner: &Face, outer: &Face)
+    requires differ { face_place_of outer.now ≢ face_place_of inner.now }
+    requires room { HasRoomAt kept.old (face_place_of outer.now) 1 }
+    ensures one { KeepsOne (face_place_of inner.now) (face_place_of outer.now) half.now kept.old
+        kept.new }
+    ensures capacity { (n : ℕ) → capacity_at kept.new n ≡ capacity_at kept.old n }
+{
+    let key = face_place(*inner);
+    if !kept.at(key).is_empty() {
+        clear(kept, key);
+        kept.put(face_place(*outer), *half);
     }
 }

@@ -8,7 +8,7 @@ ghost use Rattle.half_table.specs.Count.{ticked};
 ghost use Rattle.half_paths.specs.Path.{strings_of, AreIn, AreDifferent};
 ghost use Rattle.half_paths.specs.Loose.{numbers_of, is_of, AreNew, AreLoose, AddsStrings, DropsStrings};
 ghost use Rattle.cad_laws.specs.Local.{IsShown};
-ghost use Rattle.cad_surgery.specs.Parts.{map_of};
+ghost use Rattle.cad_surgery.specs.Parts.{map_of, FitTogether};
 ghost use Rattle.cad_surgery.specs.Shown.{KeepsShown};
 
 use crate::draft::Draft;
@@ -31,6 +31,7 @@ pub(crate) fn add_hidden<T: Tally>(
     requires different { IsDistinct nat_eq (numbers_of strings.now) }
     ensures map { map_of draft.new ≡ map_of draft.old }
     ensures parts { draft.new ≡ record draft.old { table = draft.new.table } }
+    ensures fit { FitTogether draft.new }
     ensures shown { KeepsShown (map_of draft.old) draft.old.table.rows draft.new.table.rows }
     ensures adds { OnOk result (AddsStrings strings.now draft.old.table.rows draft.new.table.rows) }
     ensures work { OnOk result (draft.new.table.work ≡ ticked (length strings.now) draft.old.table.work) }
@@ -50,6 +51,7 @@ pub(crate) fn drop_hidden<T: Tally>(draft: &mut Draft<T>, halves: &[Half])
     requires hidden { (h : HalfOf) → IsShown (map_of draft.old) h → is_of (strings_of halves.now) h ≡ false }
     ensures map { map_of draft.new ≡ map_of draft.old }
     ensures parts { draft.new ≡ record draft.old { table = draft.new.table } }
+    ensures fit { FitTogether draft.new }
     ensures shown { KeepsShown (map_of draft.old) draft.old.table.rows draft.new.table.rows }
     ensures drops { DropsStrings halves.now draft.old.table.rows draft.new.table.rows }
     ensures work { draft.new.table.work ≡ ticked (length halves.now) draft.old.table.work }

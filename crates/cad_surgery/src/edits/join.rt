@@ -3,12 +3,14 @@ ghost use Rattle.std.specs.Prelude.{◌≡◌, ◌≢◌, ◌≤◌, ◌+◌, �
 ghost use Rattle.half_table.specs.declared.half.Half.{Half as HalfOf};
 ghost use Rattle.half_table.specs.Count.{ticked};
 ghost use Rattle.half_table.specs.Half.{half_of, twin, forward_of, backward_of};
-ghost use Rattle.half_table.specs.Rows.{next, has, strings, cycle};
+ghost use Rattle.half_table.specs.Rows.{next, has, origin_of, strings, cycle};
 ghost use Rattle.half_paths.specs.Loose.{AreLoose};
 ghost use Rattle.entry_list.specs.Slots.{HasSlot};
+ghost use Rattle.key_lists.specs.Held.{HasRoomAt};
 ghost use Rattle.cad_map.specs.Map.{point_of, string_of};
 ghost use Rattle.cad_map.specs.Table.{without_row};
 ghost use Rattle.cad_surgery.specs.Joined.{CanJoin, CanUnjoin, after_join};
+ghost use Rattle.cad_surgery.specs.Parts.{HasHalves};
 ghost use Rattle.cad_surgery.specs.Passing.{path_at};
 ghost use Rattle.cad_surgery.specs.Rows.{map_in};
 ghost use Rattle.cad_surgery.specs.Splitting.{FitMap};
@@ -33,8 +35,8 @@ pub(crate) struct JoinedRows {
     pub(crate) second_place: usize,
 }
 
-// The half of a string that leads to the point where it ends.
-fn half_to(row: &StringRow, point: &PointNo) -> Half
+/// The half of a string that leads to the point where it ends.
+pub(crate) fn half_to(row: &StringRow, point: &PointNo) -> Half
     ensures { result ≡ half_of row.now.number (not (row.now.from == point.now)) }
 {
     Half {
@@ -43,8 +45,8 @@ fn half_to(row: &StringRow, point: &PointNo) -> Half
     }
 }
 
-// The half of a string that leads from the point where it ends.
-fn half_from(row: &StringRow, point: &PointNo) -> Half
+/// The half of a string that leads from the point where it ends.
+pub(crate) fn half_from(row: &StringRow, point: &PointNo) -> Half
     ensures { result ≡ half_of row.now.number (row.now.from == point.now) }
 {
     Half {
@@ -138,10 +140,14 @@ pub(crate) fn join<T: Tally>(
     ensures point_slot { HasSlot rows.new.points result.point.number }
     ensures first_slot { HasSlot rows.new.strings result.first.number }
     ensures second_slot { HasSlot rows.new.strings result.second.number }
+    ensures room { HasRoomAt stars.new point 2 }
+    ensures first_there { HasHalves table.new.rows result.first }
+    ensures second_there { HasHalves table.new.rows result.second }
     ensures loose { AreLoose (next table.new.rows)
         ((path_at point result.first result.second row.number).first
         ∷ (path_at point result.first result.second row.number).second ∷ []) }
     ensures has { (h : HalfOf) → has table.new.rows h ≡ has table.old.rows h }
+    ensures origin { (h : HalfOf) → origin_of table.new.rows h ≡ origin_of table.old.rows h }
     ensures strings { strings table.new.rows ≡ strings table.old.rows }
     ensures work { table.new.work ≡ ticked (length (cycle table.new.rows (forward_of row.number))
         + length (cycle table.new.rows (backward_of row.number)) + 5) table.old.work }
@@ -205,6 +211,7 @@ pub(crate) fn unjoin<T: Tally>(
         → FitMap can.map rows.new table.new.rows kept.new stars.new }
     ensures loose { AreLoose (next table.new.rows) (forward_of new ∷ []) }
     ensures has { (h : HalfOf) → has table.new.rows h ≡ has table.old.rows h }
+    ensures origin { (h : HalfOf) → origin_of table.new.rows h ≡ origin_of table.old.rows h }
     ensures strings { strings table.new.rows ≡ strings table.old.rows }
     ensures work { let path = path_at joined.point.number joined.first joined.second new in
         table.new.work ≡ ticked (length (cycle table.new.rows path.first)

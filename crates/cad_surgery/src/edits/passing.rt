@@ -2,7 +2,7 @@
 ghost use Rattle.std.specs.Prelude.{◌≡◌, ◌∷◌, [], ◌+◌, ◌≤◌, ℕ, length};
 ghost use Rattle.half_table.specs.declared.half.Half.{Half as HalfOf};
 ghost use Rattle.half_table.specs.Half.{twin};
-ghost use Rattle.half_table.specs.Rows.{next, has, strings, cycle};
+ghost use Rattle.half_table.specs.Rows.{next, has, origin_of, strings, cycle};
 ghost use Rattle.half_table.specs.Count.{ticked};
 ghost use Rattle.half_paths.specs.Loose.{AreLoose};
 ghost use Rattle.cad_surgery.specs.Passing.{FitTable, CanGoThrough, CanGoPast};
@@ -34,6 +34,7 @@ pub(crate) fn go_through<T: Tally>(
         → FitTable can.through table.new.rows kept.new }
     ensures loose { AreLoose (next table.new.rows) (passing.now.whole ∷ []) }
     ensures has { (h : HalfOf) → has table.new.rows h ≡ has table.old.rows h }
+    ensures origin { (h : HalfOf) → origin_of table.new.rows h ≡ origin_of table.old.rows h }
     ensures strings { strings table.new.rows ≡ strings table.old.rows }
     ensures work { table.new.work
         ≡ ticked (length (cycle table.new.rows passing.now.first)
@@ -66,6 +67,7 @@ pub(crate) fn go_past<T: Tally>(
         → FitTable can.past table.new.rows kept.new }
     ensures loose { AreLoose (next table.new.rows) (passing.now.first ∷ passing.now.second ∷ []) }
     ensures has { (h : HalfOf) → has table.new.rows h ≡ has table.old.rows h }
+    ensures origin { (h : HalfOf) → origin_of table.new.rows h ≡ origin_of table.old.rows h }
     ensures strings { strings table.new.rows ≡ strings table.old.rows }
     ensures work { table.new.work
         ≡ ticked (length (cycle table.new.rows passing.now.whole)

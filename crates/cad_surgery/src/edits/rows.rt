@@ -139,7 +139,12 @@ pub(crate) fn unmake(rows: &mut MapRows, change: &SmallRecord) -> Result<(), Mem
             let _ = rename(rows, *parcel, from.copy()?);
             Ok(())
         }
-        SmallRecord::Split { .. } | SmallRecord::Join { .. } => unreachable!(),
+        SmallRecord::Split { .. }
+        | SmallRecord::Join { .. }
+        | SmallRecord::Divide { .. }
+        | SmallRecord::MergeAlong { .. }
+        | SmallRecord::MergeIsland { .. }
+        | SmallRecord::Enclose { .. } => unreachable!(),
     }
 }
 
@@ -173,6 +178,11 @@ pub(crate) fn remake(rows: &mut MapRows, change: &SmallRecord) -> Result<(), Mem
             let _ = rename(rows, *parcel, to.copy()?);
             Ok(())
         }
-        SmallRecord::Split { .. } | SmallRecord::Join { .. } => unreachable!(),
+        SmallRecord::Split { .. }
+        | SmallRecord::Join { .. }
+        | SmallRecord::Divide { .. }
+        | SmallRecord::MergeAlong { .. }
+        | SmallRecord::MergeIsland { .. }
+        | SmallRecord::Enclose { .. } => unreachable!(),
     }
 }

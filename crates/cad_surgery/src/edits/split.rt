@@ -3,11 +3,12 @@ ghost use Rattle.std.specs.Prelude.{◌≡◌, ◌≢◌, ◌+◌, ◌++◌, ◌
 ghost use Rattle.half_table.specs.declared.half.Half.{Half as HalfOf};
 ghost use Rattle.half_table.specs.Count.{ticked};
 ghost use Rattle.half_table.specs.Half.{forward_of, backward_of};
-ghost use Rattle.half_table.specs.Rows.{next, has, strings, cycle};
+ghost use Rattle.half_table.specs.Rows.{next, has, origin_of, strings, cycle};
 ghost use Rattle.half_paths.specs.Loose.{AreLoose};
 ghost use Rattle.entry_list.specs.Slots.{HasSlot};
 ghost use Rattle.cad_map.specs.Map.{point_of, string_of};
 ghost use Rattle.cad_map.specs.Table.{without_row};
+ghost use Rattle.cad_surgery.specs.Parts.{HasHalves};
 ghost use Rattle.cad_surgery.specs.Passing.{path_of};
 ghost use Rattle.cad_surgery.specs.Rows.{map_in};
 ghost use Rattle.cad_surgery.specs.Splitting.{CanSplit, CanUnsplit, FitMap, after_split};
@@ -20,8 +21,8 @@ use cad_rows::{PointNo, PointRow, StringNo, StringRow};
 use half_table::{Half, HalfTable, Tally};
 use key_lists::KeyLists;
 
-// The half of a string from its first point to its second.
-fn forward(string: &StringNo) -> Half
+/// The half of a string from its first point to its second.
+pub(crate) fn forward(string: &StringNo) -> Half
     ensures { result ≡ forward_of string.now }
 {
     Half {
@@ -92,8 +93,10 @@ pub(crate) fn split<T: Tally>(
     ensures row { slice_get (map_in rows.old).strings result.0 ≡ Some result.1 }
     ensures found { string_of (map_in rows.old) string ≡ Some result.1 }
     ensures slot { HasSlot rows.new.strings result.1.number }
+    ensures there { HasHalves table.new.rows result.1 }
     ensures loose { AreLoose (next table.new.rows) (forward_of string ∷ []) }
     ensures has { (h : HalfOf) → has table.new.rows h ≡ has table.old.rows h }
+    ensures origin { (h : HalfOf) → origin_of table.new.rows h ≡ origin_of table.old.rows h }
     ensures strings { strings table.new.rows ≡ strings table.old.rows }
     ensures work { table.new.work ≡ ticked (length (cycle table.new.rows (forward_of first.number))
         + length (cycle table.new.rows (backward_of second.number)) + 5) table.old.work }
@@ -157,6 +160,7 @@ pub(crate) fn unsplit<T: Tally>(
         → FitMap can.map rows.new table.new.rows kept.new stars.new }
     ensures loose { AreLoose (next table.new.rows) (forward_of first ∷ forward_of second ∷ []) }
     ensures has { (h : HalfOf) → has table.new.rows h ≡ has table.old.rows h }
+    ensures origin { (h : HalfOf) → origin_of table.new.rows h ≡ origin_of table.old.rows h }
     ensures strings { strings table.new.rows ≡ strings table.old.rows }
     ensures work { table.new.work ≡ ticked (length (cycle table.new.rows (forward_of row.number))
         + length (cycle table.new.rows (backward_of row.number)) + 5) table.old.work }

@@ -120,7 +120,8 @@ pub(crate) fn part_spokes(
 }
 
 /// Takes the halves of two strings that meet at a point out of the stars, and puts those of one in
-/// between their other ends. It takes no memory, and time by the halves at the three points.
+/// between their other ends. There is room for both again. It takes no memory, and time by the halves
+/// at the three points.
 pub(crate) fn join_spokes(
     stars: &mut KeyLists<Spoke>,
     whole: &StringRow,
@@ -128,9 +129,11 @@ pub(crate) fn join_spokes(
     second: &StringRow,
 )
     requires { CanMeet whole.now first.now second.now stars.old }
-    ensures { (strings left : List StringRowOf) → AreStarsOf strings stars.old
+    ensures stars { (strings left : List StringRowOf) → AreStarsOf strings stars.old
         → IsPermutation strings (first.now ∷ second.now ∷ left)
         → AreStarsOf (whole.now ∷ left) stars.new }
+    ensures room { (can : CanMeet whole.now first.now second.now stars.old)
+        → HasRoomAt stars.new can.point 2 }
 {
     take_spokes(stars, first);
     take_spokes(stars, second);

@@ -1,4 +1,4 @@
-use Rattle.std.proofs.Common.{◌≡◌, ◌∙◌, ap, subst, sym, refl}
+use Rattle.std.proofs.Common.{◌∙◌, ap, subst, sym, refl}
 use Rattle.cad_map.specs.Effects.{after}
 use Rattle.cad_surgery.specs.Exchanged.{IsGridOfBoth}
 use Rattle.cad_surgery.specs.Parts.{map_of}
@@ -9,7 +9,8 @@ use Rattle.cad_map.specs.Touched.{IsTouched}
 use Rattle.cad_laws.specs.Tried.{IsTried}
 use Rattle.cad_valid.specs.Near.{HoldsMap, touched_of}
 use Rattle.cad_surgery.proofs.Played.{listed}
-use Rattle.cad_surgery.proofs.GridSteps.{same-map, same-proper, rests}
+use Rattle.cad_map.specs.Costs.{work_bound}
+use Rattle.cad_surgery.proofs.GridSteps.{same-map, same-proper, same-table, rests, idle, worked}
 use Rattle.cad_surgery.proofs.play.play.Goals as goal
 
 pub returns-in_default-clause-refused : goal.returns-in_default-clause-refused
@@ -31,8 +32,8 @@ returns-in_default-enter-clause-rest g c =
     rests c.args.draft.now c.enter.new.self c.enter.ensures.beside c.requires.rest.proper m refl
     (c.in_default-enter.ensures.err m c.requires.rest.grid)
 
-pub try_rows-requires-clause-held : goal.try_rows-requires-clause-held
-try_rows-requires-clause-held g c =
+pub try_edit-requires-clause-held : goal.try_edit-requires-clause-held
+try_edit-requires-clause-held g c =
     let m = map_of c.args.draft.now in
     let e = c.args.edit.now in
     let lists = c.in-Ok.plan.exchange in
@@ -41,13 +42,13 @@ try_rows-requires-clause-held g c =
     subst (λ n. HoldsMap c.enter.new.self.grid (after n e)) (sym (same-map c.args.draft.now c.enter.new.self c.enter.ensures.beside))
     (both-holds c.enter.new.self.grid m (after m e) both)
 
-pub try_rows-requires-clause-touched : goal.try_rows-requires-clause-touched
-try_rows-requires-clause-touched g c =
+pub try_edit-requires-clause-touched : goal.try_edit-requires-clause-touched
+try_edit-requires-clause-touched g c =
     subst (λ n. IsTouched n (after n c.args.edit.now) (touched_of c.in-Ok.plan.touched)) (sym (same-map c.args.draft.now c.enter.new.self c.enter.ensures.beside))
     c.in-Ok.ensures.touched
 
-pub try_rows-requires-clause-tried : goal.try_rows-requires-clause-tried
-try_rows-requires-clause-tried g c =
+pub try_edit-requires-clause-tried : goal.try_edit-requires-clause-tried
+try_edit-requires-clause-tried g c =
     subst (λ m. IsTried m c.args.edit.now) (sym (same-map c.args.draft.now c.enter.new.self c.enter.ensures.beside)) c.requires.tried
 
 pub withdraw-requires : goal.withdraw-requires
@@ -57,28 +58,28 @@ withdraw-requires g c =
     let lists = c.in-Ok.plan.exchange in
     let x = listed m e c.requires.tried lists.gone lists.come c.in-Ok.ensures.gone c.in-Ok.ensures.come in
     let both = c.in-Ok-enter.ensures.both m (after m e) lists.gone c.requires.rest.grid x in
-    (m, lists.come, after m e, subst (λ grid. IsGridOfBoth grid m (after m e)) (sym c.try_rows.ensures.beside.grid) both, x)
+    (m, lists.come, after m e, subst (λ grid. IsGridOfBoth grid m (after m e)) (sym c.try_edit.ensures.grid) both, x)
 
-pub returns-in-Ok-try_rows-clause-made : goal.returns-in-Ok-try_rows-clause-made
-returns-in-Ok-try_rows-clause-made g c =
-    same-map c.try_rows.new.draft c.withdraw.new.self c.withdraw.ensures.beside ∙ c.in-Ok-try_rows.ensures.made
+pub returns-in-Ok-try_edit-clause-made : goal.returns-in-Ok-try_edit-clause-made
+returns-in-Ok-try_edit-clause-made g c =
+    same-map c.try_edit.new.draft c.withdraw.new.self c.withdraw.ensures.beside ∙ c.in-Ok-try_edit.ensures.made
     ∙ ap (λ m. after m c.args.edit.now) (same-map c.args.draft.now c.enter.new.self c.enter.ensures.beside)
 
-pub returns-in-Ok-try_rows-clause-valid : goal.returns-in-Ok-try_rows-clause-valid
-returns-in-Ok-try_rows-clause-valid g c =
-    subst IsValid (sym (same-map c.try_rows.new.draft c.withdraw.new.self c.withdraw.ensures.beside)) c.in-Ok-try_rows.ensures.valid
+pub returns-in-Ok-try_edit-clause-valid : goal.returns-in-Ok-try_edit-clause-valid
+returns-in-Ok-try_edit-clause-valid g c =
+    subst IsValid (sym (same-map c.try_edit.new.draft c.withdraw.new.self c.withdraw.ensures.beside)) c.in-Ok-try_edit.ensures.valid
 
-pub returns-in-Ok-try_rows-clause-rest : goal.returns-in-Ok-try_rows-clause-rest
-returns-in-Ok-try_rows-clause-rest g c =
+pub returns-in-Ok-try_edit-clause-rest : goal.returns-in-Ok-try_edit-clause-rest
+returns-in-Ok-try_edit-clause-rest g c =
     let m = map_of c.args.draft.now in
     let e = c.args.edit.now in
     let lists = c.in-Ok.plan.exchange in
     let x = listed m e c.requires.tried lists.gone lists.come c.in-Ok.ensures.gone c.in-Ok.ensures.come in
     let both = c.in-Ok-enter.ensures.both m (after m e) lists.gone c.requires.rest.grid x in
-    rests c.try_rows.new.draft c.withdraw.new.self c.withdraw.ensures.beside
-    (c.try_rows.ensures.beside.proper (same-proper c.args.draft.now c.enter.new.self c.enter.ensures.beside c.requires.rest.proper))
-    (after m e) (c.in-Ok-try_rows.ensures.made ∙ ap (λ q. after q e) (same-map c.args.draft.now c.enter.new.self c.enter.ensures.beside))
-    (c.withdraw.ensures.left m (after m e) lists.come (subst (λ grid. IsGridOfBoth grid m (after m e)) (sym c.try_rows.ensures.beside.grid) both) x)
+    rests c.try_edit.new.draft c.withdraw.new.self c.withdraw.ensures.beside
+    c.try_edit.ensures.proper
+    (after m e) (c.in-Ok-try_edit.ensures.made ∙ ap (λ q. after q e) (same-map c.args.draft.now c.enter.new.self c.enter.ensures.beside))
+    (c.withdraw.ensures.left m (after m e) lists.come (subst (λ grid. IsGridOfBoth grid m (after m e)) (sym c.try_edit.ensures.grid) both) x)
 
 pub withdraw-requires-in-Err : goal.withdraw-requires-in-Err
 withdraw-requires-in-Err g c =
@@ -90,13 +91,13 @@ withdraw-requires-in-Err g c =
       after m e,
       lists.gone,
       m,
-      both-back c.try_rows.new.draft.grid m (after m e) (subst (λ grid. IsGridOfBoth grid m (after m e)) (sym c.try_rows.ensures.beside.grid) both),
+      both-back c.try_edit.new.draft.grid m (after m e) (subst (λ grid. IsGridOfBoth grid m (after m e)) (sym c.try_edit.ensures.grid) both),
       exchange-back m (after m e) lists.gone lists.come x,
     )
 
 pub returns-clause-err : goal.returns-clause-err
 returns-clause-err g c =
-    same-map c.try_rows.new.draft c.withdraw-in-Err.new.self c.withdraw-in-Err.ensures.beside ∙ c.in-Err.ensures.err
+    same-map c.try_edit.new.draft c.withdraw-in-Err.new.self c.withdraw-in-Err.ensures.beside ∙ c.in-Err.ensures.err
     ∙ same-map c.args.draft.now c.enter.new.self c.enter.ensures.beside
 
 pub returns-clause-rest : goal.returns-clause-rest
@@ -106,9 +107,32 @@ returns-clause-rest g c =
     let lists = c.in-Ok.plan.exchange in
     let x = listed m e c.requires.tried lists.gone lists.come c.in-Ok.ensures.gone c.in-Ok.ensures.come in
     let both = c.in-Ok-enter.ensures.both m (after m e) lists.gone c.requires.rest.grid x in
-    rests c.try_rows.new.draft c.withdraw-in-Err.new.self c.withdraw-in-Err.ensures.beside
-    (c.try_rows.ensures.beside.proper (same-proper c.args.draft.now c.enter.new.self c.enter.ensures.beside c.requires.rest.proper))
+    rests c.try_edit.new.draft c.withdraw-in-Err.new.self c.withdraw-in-Err.ensures.beside
+    c.try_edit.ensures.proper
     m (c.in-Err.ensures.err ∙ same-map c.args.draft.now c.enter.new.self c.enter.ensures.beside)
     (c.withdraw-in-Err.ensures.left (after m e) m lists.gone
-    (both-back c.try_rows.new.draft.grid m (after m e) (subst (λ grid. IsGridOfBoth grid m (after m e)) (sym c.try_rows.ensures.beside.grid) both))
+    (both-back c.try_edit.new.draft.grid m (after m e) (subst (λ grid. IsGridOfBoth grid m (after m e)) (sym c.try_edit.ensures.grid) both))
     (exchange-back m (after m e) lists.gone lists.come x))
+
+pub try_edit-requires-clause-proper : goal.try_edit-requires-clause-proper
+try_edit-requires-clause-proper g c = same-proper c.args.draft.now c.enter.new.self c.enter.ensures.beside c.requires.rest.proper
+
+pub returns-in_default-clause-work : goal.returns-in_default-clause-work
+returns-in_default-clause-work g c = idle c.args.draft.now c.args.draft.now _ refl
+
+pub returns-in_default-enter-clause-work : goal.returns-in_default-enter-clause-work
+returns-in_default-enter-clause-work g c = idle c.args.draft.now c.enter.new.self _ (same-table c.args.draft.now c.enter.new.self c.enter.ensures.beside)
+
+pub returns-in-Ok-try_edit-clause-work : goal.returns-in-Ok-try_edit-clause-work
+returns-in-Ok-try_edit-clause-work g c =
+    let same = same-map c.args.draft.now c.enter.new.self c.enter.ensures.beside in
+    worked c.args.draft.now c.enter.new.self c.try_edit.new.draft c.withdraw.new.self _ _
+    (same-table c.args.draft.now c.enter.new.self c.enter.ensures.beside) (same-table c.try_edit.new.draft c.withdraw.new.self c.withdraw.ensures.beside)
+    (λ i. work_bound (same i) (after (same i) c.args.edit.now)) c.try_edit.ensures.work
+
+pub returns-clause-work : goal.returns-clause-work
+returns-clause-work g c =
+    let same = same-map c.args.draft.now c.enter.new.self c.enter.ensures.beside in
+    worked c.args.draft.now c.enter.new.self c.try_edit.new.draft c.withdraw-in-Err.new.self _ _
+    (same-table c.args.draft.now c.enter.new.self c.enter.ensures.beside) (same-table c.try_edit.new.draft c.withdraw-in-Err.new.self c.withdraw-in-Err.ensures.beside)
+    (λ i. work_bound (same i) (after (same i) c.args.edit.now)) c.try_edit.ensures.work

@@ -1,4 +1,5 @@
-use Rattle.std.proofs.Common.{◌≡◌, ◌∙◌, subst, sym, true≢false}
+use Rattle.std.proofs.Common.{◌≡◌, ◌∙◌, ap, subst, sym, true≢false}
+use Rattle.std.proofs.lemmas.Result.{on_ok_weaker}
 use Rattle.cad_map.specs.Effects.{after}
 use Rattle.cad_map.specs.Outcome.{refused, out_of_memory, breaking}
 use Rattle.cad_map.specs.Touched.{IsTouched}
@@ -6,7 +7,8 @@ use Rattle.cad_valid.specs.Near.{HoldsMap, touched_of}
 use Rattle.cad_map.specs.Valid.{IsValid, CanBeTested, FirstBroken, KeepsAll}
 use Rattle.cad_map.proofs.CallerLemmas.{valid-from_kept}
 use Rattle.cad_surgery.specs.Parts.{map_of}
-use Rattle.cad_surgery.proofs.Played.{tested, valid-untouched}
+use Rattle.cad_surgery.specs.Record.{edit_of}
+use Rattle.cad_surgery.proofs.Played.{tested, valid-untouched, made-of, sure-ok}
 use Rattle.cad_surgery.proofs.play.try_rows.Goals as goal
 
 pub returns-in_default-clause-refused : goal.returns-in_default-clause-refused
@@ -44,3 +46,12 @@ returns-clause-valid g c =
     subst IsValid (sym c.in-Ok.ensures.made)
     (valid-from_kept (after (map_of c.args.draft.now) c.args.edit.now) (tested (map_of c.args.draft.now) c.args.edit.now c.requires.tried)
     (subst KeepsAll c.in-Ok.ensures.made c.in_default-first_broken_near.ensures.kept))
+
+pub returns-in-Some-clause-err : goal.returns-in-Some-clause-err
+returns-in-Some-clause-err g c =
+    let m = map_of c.args.draft.now in
+    let change = c.in-Ok.change in
+    let made = made-of m c.args.edit.now c.requires.tried change c.in-Ok.ensures.edit c.in-Ok.ensures.holds in
+    let is : map_of c.make_rows.new.self ≡ after m (edit_of change) = c.in-Ok.ensures.made ∙ ap (after m) (sym c.in-Ok.ensures.edit) in
+    sure-ok c.unmake_rows.result (c.unmake_rows.ensures.sure (c.is_placed.ensures.0 c.if-not-is_placed.false))
+    (on_ok_weaker c.unmake_rows.result (λ f. f m made is) c.unmake_rows.ensures.before)

@@ -1,14 +1,16 @@
-use Rattle.std.proofs.Common.{◌≡◌, ◌∙◌, ap, subst, sym}
+use Rattle.std.proofs.Common.{◌∙◌, ap, subst, sym}
+use Rattle.std.specs.Prelude.{IfOk}
 use Rattle.std.proofs.lemmas.Result.{on_ok_weaker}
 use Rattle.cad_map.specs.Effects.{after}
 use Rattle.cad_map.proofs.CallerLemmas.{allowed}
 use Rattle.cad_laws.specs.Tried.{IsTried}
 use Rattle.cad_surgery.specs.Building.{parts_of}
 use Rattle.cad_surgery.specs.Parts.{map_of}
+use Rattle.cad_surgery.specs.Record.{Holds}
 use Rattle.cad_surgery.specs.RowEdits.{KeepsBeside, with_rows}
 use Rattle.cad_surgery.specs.Rows.{map_in}
 use Rattle.cad_surgery.proofs.RowsKept.{rows-fit}
-use Rattle.cad_surgery.proofs.DraftRows.{unknown-rows, taken-rows, not_attached-rows, made-ends, made-map, beside-rows}
+use Rattle.cad_surgery.proofs.DraftRows.{unknown-rows, taken-rows, not_attached-rows, held-rows, made-ends, made-map, beside-rows}
 use Rattle.cad_surgery.proofs.draft.Draft.make_rows.Goals as goal
 
 pub make-requires-clause-range : goal.make-requires-clause-range
@@ -57,3 +59,10 @@ returns-clause-beside g c =
     let m = map_in c.make.new.rows in
     subst (λ q. KeepsBeside q (with_rows d m)) c.self.view_is
     (beside-rows d c.self.invariant m (made-ends d c.self.invariant c.args.edit.now c.requires.alone c.make.result m c.make.ensures.ok c.make.ensures.err))
+
+pub returns-clause-holds : goal.returns-clause-holds
+returns-clause-holds g c =
+    let in_parts = c.self.inside in
+    let d = parts_of (map_in in_parts.rows) in_parts.table in_parts.kept in_parts.stars in_parts.grid in
+    subst (λ q. IfOk c.make.result (λ r. Holds r (map_of q))) c.self.view_is
+    (held-rows (map_of d) c.args.edit.now c.requires.alone c.make.result c.make.ensures.edit c.make.ensures.holds)

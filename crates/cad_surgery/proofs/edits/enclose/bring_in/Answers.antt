@@ -1,4 +1,4 @@
-use Rattle.std.proofs.Common.{◌≡◌, ◌≢◌, ◌+◌, ◌∷◌, ◌++◌, [], ℕ, length, sym, ap, ◌∙◌, subst, arith}
+use Rattle.std.proofs.Common.{◌≡◌, ◌≢◌, ◌+◌, ◌∷◌, ◌++◌, [], ℕ, length, sym, ap, ◌∙◌, subst, length-append, arith}
 use Rattle.cad_map.specs.Boundaries.{face_place}
 use Rattle.cad_rings.specs.Cycle.{sides_of}
 use Rattle.half_table.specs.declared.half.Half.{Half}
@@ -7,6 +7,7 @@ use Rattle.key_lists.specs.Held.{items_at, capacity_at, HasRoomAt}
 use Rattle.cad_surgery.specs.Handing.{KeepsEach}
 use Rattle.cad_surgery.specs.Islands.{FitsTable}
 use Rattle.cad_surgery.proofs.RelabelledEach.{in-relabelled}
+use Rattle.cad_surgery.proofs.Handed.{count-handed}
 use Rattle.cad_surgery.proofs.IslandFits.{first-on, along-same}
 use Rattle.cad_surgery.proofs.KeptIsland.{items-of, capacity-of, room-handed, put-capacity, home-comes, island-kept}
 use Rattle.cad_surgery.proofs.edits.enclose.bring_in.Goals as goal
@@ -77,3 +78,26 @@ returns-clause-island g c = λ whole parted ring left right others rings parts i
           ∙ items-of c.face_place-inner_key.result n mid one c.put.ensures.others (λ e. far (sym is_inner ∙ e)))
           none on.0 on.1 (home-comes whole parted c.args.outer.now c.args.inner.now ring left right others it parts path more old new c.bring_island.ensures.origin fits_new),
     )
+
+pub returns-clause-count : goal.returns-clause-count
+returns-clause-count g c =
+    let outer : ℕ = face_place c.args.outer.now in
+    let inner : ℕ = face_place c.args.inner.now in
+    let old = c.args.kept.now in
+    let mid = c.hand_over.new.kept in
+    let one = c.put.new.self in
+    let now = c.put-2.new.self in
+    let is_inner = c.face_place-inner_key.ensures in
+    let is_outer = c.face_place-outer_key.ensures in
+    let far_inner : ¬ (c.face_place-outer_key.result ≡ inner) = λ e. c.requires.differ (sym is_outer ∙ e) in
+    let far_outer : ¬ (c.face_place-inner_key.result ≡ outer) = λ e. c.requires.differ (sym (sym is_inner ∙ e)) in
+    let at_inner : items_at now inner ≡ items_at mid inner ++ c.args.first.now ∷ [] =
+    items-of c.face_place-outer_key.result inner one now c.put-2.ensures.others far_inner
+    ∙ subst (λ (k : ℕ). items_at one k ≡ items_at mid k ++ c.args.first.now ∷ []) is_inner c.put.ensures.items in
+    let at_outer : items_at now outer ≡ items_at mid outer ++ c.twin-back.result ∷ [] =
+    subst (λ (k : ℕ). items_at now k ≡ items_at one k ++ c.twin-back.result ∷ []) is_outer c.put-2.ensures.items
+    ∙ (λ i. items-of c.face_place-inner_key.result outer mid one c.put.ensures.others far_outer i ++ c.twin-back.result ∷ []) in
+    let handed = count-handed c.bring_island.new.table.rows outer inner old mid c.hand_over.ensures.hands in
+    let inner_long = ap length at_inner ∙ length-append (items_at mid inner) (c.args.first.now ∷ []) in
+    let outer_long = ap length at_outer ∙ length-append (items_at mid outer) (c.twin-back.result ∷ []) in
+    omega (arith, handed, inner_long, outer_long)

@@ -31,3 +31,6 @@ returns-clause-map g c =
     (subst (λ (d : Parts). KeepsShown (map_of d) d.table.rows c.add_strings.new.table.rows) (sym c.draft.view_is) (returns-clause-shown g c))
     (subst (λ (d : Parts). HasWholeRings (map_of d)) (sym c.draft.view_is) c.requires.whole) c.draft.invariant
     ∙ ap map_of c.draft.view_is
+
+pub returns-clause-fit : goal.returns-clause-fit
+returns-clause-fit g c = invariant_of-draft g c

@@ -66,5 +66,26 @@ returns-clause-fits g c = λ can.
           c.go_past.new.table.rows c.go_past.new.kept c.go_past.ensures.fits;
       are_stars =
           made.join-stars c.args.point c.args.first c.args.second c.args.row c.args.rows.now c.args.table.now.rows c.args.kept.now c.args.stars.now can c.unwrap-first_row.result.now c.unwrap-second_row.result.now one other
-          c.join_spokes.new.stars c.join_spokes.ensures;
+          c.join_spokes.new.stars c.join_spokes.ensures.stars;
     }
+
+pub returns-clause-first_there : goal.returns-clause-first_there
+returns-clause-first_there g c =
+    made.join-whole c.args.point c.args.first c.args.second c.args.row c.args.rows.now c.args.table.now.rows c.args.kept.now c.args.stars.now c.requires
+    c.args.first c.join_rows.result.first c.join_rows.ensures.first_found c.go_past.new.table.rows c.go_past.ensures.has c.go_past.ensures.origin
+
+pub returns-clause-second_there : goal.returns-clause-second_there
+returns-clause-second_there g c =
+    made.join-whole c.args.point c.args.first c.args.second c.args.row c.args.rows.now c.args.table.now.rows c.args.kept.now c.args.stars.now c.requires
+    c.args.second c.join_rows.result.second c.join_rows.ensures.second_found c.go_past.new.table.rows c.go_past.ensures.has c.go_past.ensures.origin
+
+pub returns-clause-room : goal.returns-clause-room
+returns-clause-room g c =
+    let one_at : Some c.unwrap-first_row.result.now ≡ string_of (map_in c.args.rows.now) c.args.first =
+    rw (c.unwrap-first_row.ensures, c.get.ensures.value) at c.get-2.ensures in
+    let other_at : Some c.unwrap-second_row.result.now ≡ string_of (map_in c.args.rows.now) c.args.second =
+    rw (c.unwrap-second_row.ensures, c.get-3.ensures.value) at c.get-4.ensures in
+    let one = same_Some c.unwrap-first_row.result.now c.requires.one (one_at ∙ made.join-first c.args.point c.args.first c.args.second c.args.row c.args.rows.now c.args.table.now.rows c.args.kept.now c.args.stars.now c.requires) in
+    let other = same_Some c.unwrap-second_row.result.now c.requires.other (other_at ∙ made.join-second c.args.point c.args.first c.args.second c.args.row c.args.rows.now c.args.table.now.rows c.args.kept.now c.args.stars.now c.requires) in
+    made.join-room c.args.point c.args.first c.args.second c.args.row c.args.rows.now c.args.table.now.rows c.args.kept.now c.args.stars.now c.requires
+    c.unwrap-first_row.result.now c.unwrap-second_row.result.now one other c.join_spokes.new.stars c.join_spokes.ensures.room

@@ -86,6 +86,11 @@ returns-clause-has g c = λ h.
     c.relabel-2.ensures.relabels.has h ∙ c.relabel.ensures.relabels.has h
     ∙ c.reroute.ensures.halves.has h
 
+pub returns-clause-origin : goal.returns-clause-origin
+returns-clause-origin g c = λ h.
+    c.relabel-2.ensures.relabels.origin h ∙ c.relabel.ensures.relabels.origin h
+    ∙ c.reroute.ensures.halves.origin h
+
 pub returns-clause-work : goal.returns-clause-work
 returns-clause-work g c =
     let new = c.reroute.new.table.rows in

@@ -1,11 +1,11 @@
-use Rattle.std.proofs.Common.{◌≡◌, ◌∙◌, ap, sym, subst, Some, ℕ}
+use Rattle.std.proofs.Common.{◌≡◌, ◌∙◌, sym, subst, Some}
 use Rattle.std.proofs.lemmas.Option.{same_Some}
 use Rattle.cad_rows.specs.declared.rows.StringRow.{StringRow}
 use Rattle.cad_map.specs.Map.{string_of}
 use Rattle.cad_surgery.specs.declared.edits.passing.Passing.{Passing}
 use Rattle.cad_surgery.specs.Passing.{CanGoThrough}
 use Rattle.cad_surgery.specs.Rows.{map_in}
-use Rattle.cad_surgery.specs.Splitting.{CanPart, CanSplit}
+use Rattle.cad_surgery.specs.Splitting.{CanPart}
 use Rattle.cad_surgery.proofs.Passing.SplitMade as made
 use Rattle.cad_surgery.proofs.edits.split.split.Goals as goal
 
@@ -54,3 +54,8 @@ returns-clause-fits g c = λ can.
           made.split-stars c.args.string c.args.point c.args.first c.args.second c.args.rows.now c.args.table.now.rows c.args.kept.now c.args.stars.now can
           c.unwrap.result.now same c.part_spokes.new.stars c.part_spokes.ensures;
     }
+
+pub returns-clause-there : goal.returns-clause-there
+returns-clause-there g c =
+    made.split-whole c.args.string c.args.point c.args.first c.args.second c.args.rows.now c.args.table.now.rows c.args.kept.now c.args.stars.now c.requires
+    c.split_rows.result.1 c.split_rows.ensures.found c.go_through.new.table.rows c.go_through.ensures.has c.go_through.ensures.origin

@@ -68,5 +68,5 @@ returns-clause-fits g c = λ can.
           c.go_past.new.kept c.go_past.ensures.fits;
       are_stars =
           undone.undo-stars c.args.row c.args.place c.args.point c.args.first c.args.second c.args.rows.now c.args.table.now.rows c.args.kept.now c.args.stars.now can c.unwrap-first_row.result.now c.unwrap-second_row.result.now first second
-          c.join_spokes.new.stars c.join_spokes.ensures;
+          c.join_spokes.new.stars c.join_spokes.ensures.stars;
     }

@@ -1,4 +1,8 @@
-use Rattle.std.proofs.Common.{◌≡◌, ◌∙◌}
+use Rattle.std.proofs.Common.{◌∙◌, ◌+◌, ap, sym, length}
+use Rattle.half_table.specs.Count.{ticked, one_more}
+use Rattle.half_table.specs.Half.{forward_of, backward_of}
+use Rattle.half_table.specs.Rows.{cycle}
+use Rattle.half_paths.proofs.Along.{ticked-add}
 use Rattle.cad_surgery.proofs.Passing.SplitBegun as begun
 use Rattle.cad_surgery.proofs.edits.split_tried.begin_split.Goals as goal
 
@@ -29,3 +33,10 @@ pub returns-clause-has : goal.returns-clause-has
 returns-clause-has g c = λ h.
     c.split.ensures.has h
     ∙ (begun.begun-adds c.args.string c.args.point c.args.first c.args.second c.args.rows.now c.args.table.now.rows c.args.kept.now c.args.stars.now c.requires c.add_loose.new.self.rows c.add_loose-2.new.self.rows c.in_ok-add_loose.ensures.adds c.in_default.ensures.adds).has h
+
+pub returns-clause-work : goal.returns-clause-work
+returns-clause-work g c =
+    let done = c.split.new.table.rows in
+    let ring = length (cycle done (forward_of c.args.first.number)) + length (cycle done (backward_of c.args.second.number)) + 5 in
+    c.split.ensures.work ∙ ap (ticked ring) (c.in_default.ensures.work ∙ ap one_more c.in_ok-add_loose.ensures.work)
+    ∙ sym (ticked-add 2 ring c.args.table.now.work)

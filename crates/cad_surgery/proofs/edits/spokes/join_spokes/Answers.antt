@@ -1,7 +1,7 @@
 use Rattle.std.proofs.Common.{◌≡◌, ◌≢◌, ◌∙◌, ◌∷◌, [], ℕ, sym, List}
 use Rattle.std.proofs.lemmas.List.Sorted.{IsPermutation-refl, IsPermutation-sym, Contains-permutation}
 use Rattle.cad_map.proofs.CallerLemmas.{Contains-first}
-use Rattle.cad_surgery.proofs.Passing.StarsChanged.{star-from, star-to, stars-without, stars-with, room-after_take, connects-two, room-points}
+use Rattle.cad_surgery.proofs.Passing.StarsChanged.{star-from, star-to, stars-without, stars-with, room-after_take, connects-two, room-points, room-after_both}
 use Rattle.cad_surgery.proofs.edits.spokes.join_spokes.Goals as goal
 
 pub take_spokes-requires : goal.take_spokes-requires
@@ -50,8 +50,8 @@ put_spokes-requires c =
       to = at_end.0;
     }
 
-pub returns : goal.returns
-returns c = λ strings left are parts.
+pub returns-clause-stars : goal.returns-clause-stars
+returns-clause-stars c = λ strings left are parts.
     let first = c.args.first.now in
     let second = c.args.second.now in
     let whole = c.args.whole.now in
@@ -62,3 +62,14 @@ returns c = λ strings left are parts.
     (stars-without strings (second ∷ left) first c.args.stars.now mid are parts c.take_spokes.ensures.takes)
     (IsPermutation-refl (second ∷ left)) c.take_spokes-2.ensures.takes)
     (IsPermutation-refl (whole ∷ left)) c.put_spokes.ensures.adds
+
+pub returns-clause-room : goal.returns-clause-room
+returns-clause-room c = λ can.
+    let mid = c.take_spokes.new.stars in
+    let bare = c.take_spokes-2.new.stars in
+    let whole = c.args.whole.now in
+    let at =
+    room-points c.args.first.now whole.from can.point mid can.before c.take_spokes.ensures.room_from c.take_spokes.ensures.room_to in
+    room-after_both c.args.second.now whole mid bare c.put_spokes.new.stars whole.to can.point can.to_apart can.behind
+    c.take_spokes-2.ensures.takes (c.take_spokes-2.ensures.capacity can.point) at.1 c.put_spokes.ensures.adds
+    (c.put_spokes.ensures.capacity can.point) can.from_apart can.to_apart

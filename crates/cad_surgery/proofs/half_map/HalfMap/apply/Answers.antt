@@ -1,12 +1,14 @@
-use Rattle.std.proofs.Common.{◌≡◌, ◌≤◌, ◌∙◌, ap, sym, subst}
+use Rattle.std.proofs.Common.{◌≤◌, ◌∙◌, ap, sym, subst}
 use Rattle.std.specs.Prelude.{IfOk}
-use Rattle.cad_map.specs.Costs.{weight_bound}
+use Rattle.cad_map.specs.Costs.{weight_bound, work_bound}
+use Rattle.cad_map.specs.Effects.{after}
 use Rattle.cad_map.specs.Outcome.{refused, at_once}
 use Rattle.cad_map.specs.Refusals.{first_refusal}
 use Rattle.cad_map.specs.Valid.{IsValid}
 use Rattle.cad_laws.specs.Tried.{IsTried}
 use Rattle.cad_surgery.specs.Parts.{map_of}
 use Rattle.cad_surgery.specs.Record.{weight}
+use Rattle.cad_surgery.specs.Work.{TakesWork}
 use Rattle.cad_surgery.proofs.Weights.{weight-ok}
 use Rattle.cad_surgery.proofs.half_map.HalfMap.apply.Goals as goal
 
@@ -25,3 +27,7 @@ returns-clause-weight g c =
     } in
     subst (λ d. IfOk c.play.result (λ r. weight r ≤ weight_bound (map_of d) (map_of c.play.new.draft))) c.self.view_is
     (weight-ok m (map_of c.play.new.draft) e tried c.play.result c.play.ensures.edit c.play.ensures.holds c.play.ensures.made)
+
+pub returns-clause-work : goal.returns-clause-work
+returns-clause-work g c =
+    subst (λ d. TakesWork d.table c.play.new.draft.table (work_bound (map_of d) (after (map_of d) c.args.edit.now))) c.self.view_is c.play.ensures.work

@@ -1,0 +1,572 @@
+-- A split on the parts of a map on half-edges, from growth to rest.
+use Rattle.std.proofs.Common.{◌≡◌, ◌≤◌, ◌+◌, ◌*◌, ℕ, refl, sym, ap, subst, ◌∙◌, List, [], ◌∷◌, length, Bool, true, false, ◌||◌, if◌then◌else◌, Some, None, is_some, slice_get, nat_eq, true≢false, arith}
+use Rattle.std.specs.Prelude.{IsSome}
+use Rattle.std.proofs.lemmas.Bool.{false_from_ne_true}
+use Rattle.std.proofs.lemmas.Cmp.{nat_eq_equiv}
+use Rattle.cad_rows.specs.declared.edits.Edit.TheVariants.{Split}
+use Rattle.cad_rows.specs.declared.refusals.Refusal.TheVariants.{Breaks}
+use Rattle.cad_rows.specs.declared.rows.StringRow.{StringRow}
+use Rattle.cad_rows.specs.declared.refusals.Rule.{Rule}
+use Rattle.cell_grid.specs.Grid.{Grid}
+use Rattle.cad_map.specs.Asked.{GivesInRange}
+use Rattle.cad_map.specs.Costs.{work_bound}
+use Rattle.cad_map.specs.Effects.{after}
+use Rattle.cad_map.specs.Map.{Map, string_of, has_string}
+use Rattle.cad_rows.specs.declared.names.Name.TheVariants as name
+use Rattle.cad_map.specs.Outcome.{MayRefuse, refused, breaking}
+use Rattle.cad_map.specs.Rings.{HasWholeRings}
+use Rattle.cad_map.specs.Touched.{IsTouched, Touched as TouchedOf}
+use Rattle.cad_map.specs.Valid.{IsValid, CanBeTested, FirstBroken, KeepsAll}
+use Rattle.cad_map.proofs.CallerLemmas.{allowed, there-one, found-number, valid-from_kept, whole_valid}
+use Rattle.half_table.specs.declared.half.Half.{Half}
+use Rattle.half_table.specs.Count.{greatest, ticked}
+use Rattle.half_table.specs.Half.{forward_of, backward_of}
+use Rattle.half_table.specs.Rows.{HalfRows, Table, has, has_halves, next, cycle}
+use Rattle.half_table.proofs.Strings.{has-string}
+use Rattle.half_paths.specs.Path.{AreIn, AreDifferent, strings_of}
+use Rattle.half_paths.specs.Loose.{is_of, AreLoose, DropsStrings}
+use Rattle.entry_list.specs.Slots.{HasSlot}
+use Rattle.key_lists.specs.Held.{Held}
+use Rattle.cad_laws.specs.Counts.{sides_through}
+use Rattle.cad_laws.specs.Local.{IsShown}
+use Rattle.cad_laws.specs.Tried.{IsTried}
+use Rattle.cad_laws.proofs.CallerLemmas.{whole-after}
+use Rattle.cad_valid.specs.Near.{HoldsMap, ComesFromValid}
+use Rattle.cad_surgery.specs.declared.map_rows.MapRows.{MapRows}
+use Rattle.cad_surgery.specs.declared.stars.Spoke.{Spoke}
+use Rattle.cad_surgery.specs.declared.edits.try_split.Halving.{Halving}
+use Rattle.cad_surgery.specs.declared.edits.try_split.SplitRows.{SplitRows}
+use Rattle.cad_surgery.specs.Rows.{map_in}
+use Rattle.cad_surgery.specs.Parts.{Parts, FitTogether, HasHalves, map_of, kept_at}
+use Rattle.cad_surgery.specs.Passing.{HasBetween, path_of}
+use Rattle.cad_surgery.specs.Proper.{IsProper}
+use Rattle.cad_surgery.specs.Record.{IsMadeOf}
+use Rattle.cad_surgery.specs.Splitting.{FitMap, CanUnsplit, CanBeginSplit, CanBeginUnsplit, split_by, split_record, split_rows}
+use Rattle.cad_surgery.specs.Work.{TakesWork, TicksUpTo}
+use Rattle.cad_surgery.proofs.EditExchanges.{some-from}
+use Rattle.cad_surgery.proofs.DraftFits.{draft-fits, draft-all, draft-work, settled}
+use Rattle.cad_surgery.proofs.FitParts.{parts, fit-parts, fit-map, fit-proper}
+use Rattle.cad_surgery.proofs.Passing.BothMaps as both
+use Rattle.cad_surgery.proofs.Passing.Lengths.{path-length, whole-length}
+use Rattle.cad_surgery.proofs.Passing.SplitBetween.{split-has_between, split-free}
+use Rattle.cad_surgery.proofs.Played.{tested}
+use Rattle.cad_surgery.proofs.WorkTaken.{work-allowed, ticks-just, ticks-then}
+
+-- what comes and goes again leaves what there was
+pub come-and-gone : (b has : Bool) → (has ≡ true → b ≡ false) → (if b then false else (if b then true else has)) ≡ has
+come-and-gone true true none = absurd (true≢false (none refl))
+come-and-gone true false none = refl
+come-and-gone false has none = refl
+
+module _ (m : Map) (table : HalfRows) (all : (g : Half) → has table g ≡ has_string m g.string) where
+  -- a table with a map's strings alone has none that the map hasn't
+  pub table-free : (n : ℕ) → string_of m n ≡ None → has_halves table n ≡ false
+  table-free n none = sym (has-string table (forward_of n)) ∙ all (forward_of n) ∙ ap is_some none
+
+-- ---- Of one map
+
+module _ (m : Map) (h : Halving) (string : ℕ) (tried : IsTried m (split_by string h)) where
+  abbrev n : Map
+  n = after m (split_by string h)
+
+  whole : HasWholeRings m
+  whole = whole_valid m tried.valid
+
+  pub split-whole_after : HasWholeRings n
+  split-whole_after = whole-after m (split_by string h) tried.valid tried.given tried.allowed tt
+
+  pub split-there : (row : StringRow) × (string_of m string ≡ Some row)
+  split-there =
+      some-from (string_of m string)
+      (there-one m (name.String string) (allowed m (split_by string h) tried.allowed).unknown)
+
+  abbrev row : StringRow
+  row = split-there.0
+
+  abbrev it : HasBetween n m h.point row.from row.to (path_of string h.first h.second)
+  it = split-has_between m string h.point h.position.x h.position.y h.first h.second row tried split-there.1
+
+  -- ---- The string goes
+
+  module _ (rows : MapRows) (table : HalfRows) (held : Held Half) (stars : Held Spoke) (fits : FitMap m rows table held stars)
+      (all : (g : Half) → has table g ≡ has_string m g.string) where
+    free : (string_of m h.first ≡ None) × (string_of m h.second ≡ None)
+    free = split-free m string h.point h.position.x h.position.y h.first h.second row tried split-there.1
+
+    abbrev can : CanBeginSplit string (split_rows row h).point (split_rows row h).first (split_rows row h).second rows table held stars
+    can = record {
+      map = m;
+      row = row;
+      tried = tried;
+      found = split-there.1;
+      no_sources = refl;
+      first_is = refl;
+      second_is = refl;
+      fits = fits;
+      new = (table-free m table all h.first free.0, (table-free m table all h.second free.1, tt));
+    }
+
+    module _ (k : SplitRows) (are : (r : StringRow) → string_of m string ≡ Some r → k ≡ split_rows r h) where
+      is : split_rows row h ≡ k
+      is = sym (are row split-there.1)
+
+      pub split-begins : CanBeginSplit string k.point k.first k.second rows table held stars
+      split-begins = subst (λ (k : SplitRows). CanBeginSplit string k.point k.first k.second rows table held stars) is can
+
+      pub split-begun : (new : MapRows) (parted : HalfRows) (put : Held Half) (wide : Held Spoke)
+          → ((c : CanBeginSplit string k.point k.first k.second rows table held stars)
+          → FitMap (after c.map (Split string k.point.number k.point.position.x k.point.position.y k.first.number k.second.number)) new parted put wide)
+          → FitMap n new parted put wide
+      split-begun new parted put wide each =
+          subst (λ (k : SplitRows). ((c : CanBeginSplit string k.point k.first k.second rows table held stars)
+          → FitMap (after c.map (Split string k.point.number k.point.position.x k.point.position.y k.first.number k.second.number)) new parted put wide)
+          → FitMap n new parted put wide) is (λ f. f can) each
+
+      pub split-unbegun : (new : MapRows) (same : HalfRows) (put : Held Half) (wide : Held Spoke)
+          → ((c : CanBeginSplit string k.point k.first k.second rows table held stars) → FitMap c.map new same put wide)
+          → FitMap m new same put wide
+      split-unbegun new same put wide each =
+          subst (λ (k : SplitRows). ((c : CanBeginSplit string k.point k.first k.second rows table held stars)
+          → FitMap c.map new same put wide) → FitMap m new same put wide) is (λ f. f can) each
+
+      -- the numbers of the two strings
+      pub split-has : (parted : HalfRows)
+          → ((g : Half) → has parted g ≡ (if is_of (k.first.number ∷ k.second.number ∷ []) g then true else has table g))
+          → (g : Half) → has parted g ≡ (if is_of (h.first ∷ h.second ∷ []) g then true else has_string m g.string)
+      split-has parted each g =
+          each g
+          ∙ (λ i. if is_of ((sym is i).first.number ∷ (sym is i).second.number ∷ []) g then true else all g i)
+
+      pub split-ticks : (parted : HalfRows) (now was : ℕ)
+          → now ≡ ticked (2 + (length (cycle parted (forward_of k.first.number)) + length (cycle parted (backward_of k.second.number)) + 5)) was
+          → now ≡ ticked (2 + (length (cycle parted (forward_of h.first)) + length (cycle parted (backward_of h.second)) + 5)) was
+      split-ticks parted now was each =
+          each
+          ∙ (λ i. ticked (2 + (length (cycle parted (forward_of (sym is i).first.number)) + length (cycle parted (backward_of (sym is i).second.number)) + 5)) was)
+
+  -- ---- The table has the two strings, and the string that was split loose
+
+  module _ (parted : HalfRows)
+      (more : (g : Half) → has parted g ≡ (if is_of (h.first ∷ h.second ∷ []) g then true else has_string m g.string)) where
+    pub split-in : AreIn parted (forward_of string ∷ [])
+    split-in = both.whole-in n m h.point row.from row.to (path_of string h.first h.second) it parted more
+
+    pub split-hidden : (g : Half) → IsShown n g → is_of (strings_of (forward_of string ∷ [])) g ≡ false
+    split-hidden = both.through-hidden n m h.point row.from row.to (path_of string h.first h.second) it
+
+    pub split-one : AreDifferent (forward_of string ∷ [])
+    split-one = both.whole-different n m h.point row.from row.to (path_of string h.first h.second) it
+
+    -- without it the table has the strings of the map after it alone
+    pub split-alone : (done : HalfRows) → DropsStrings (forward_of string ∷ []) parted done
+        → (g : Half) → has done g ≡ has_string n g.string
+    split-alone done drops g =
+        drops.has g
+        ∙ ap (λ (b : Bool). if is_of (strings_of (forward_of string ∷ [])) g then false else b) (more g)
+        ∙ both.through-left n m h.point row.from row.to (path_of string h.first h.second) it g
+
+    -- the two strings, where the split is taken back
+    pub halves-in : (back : HalfRows) → ((g : Half) → has back g ≡ has parted g)
+        → AreIn back (forward_of h.first ∷ forward_of h.second ∷ [])
+    halves-in back same = (
+      same (forward_of h.first) ∙ more (forward_of h.first)
+          ∙ ap (λ (b : Bool). if b || (nat_eq h.first h.second || false) then true else has_string m h.first) (nat_eq_equiv.refl h.first),
+      (
+        same (forward_of h.second) ∙ more (forward_of h.second)
+            ∙ ap (λ (b : Bool). if nat_eq h.second h.first || (b || false) then true else has_string m h.second) (nat_eq_equiv.refl h.second)
+            ∙ either (nat_eq h.second h.first) (has_string m h.second),
+        tt,
+      ),
+    )
+      where
+        either : (b c : Bool) → (if b || true then true else c) ≡ true
+        either true c = refl
+        either false c = refl
+
+    pub back-alone : (back done : HalfRows) → ((g : Half) → has back g ≡ has parted g)
+        → DropsStrings (forward_of h.first ∷ forward_of h.second ∷ []) back done
+        → (g : Half) → has done g ≡ has_string m g.string
+    back-alone back done same drops g =
+        drops.has g
+        ∙ ap (λ (b : Bool). if is_of (h.first ∷ h.second ∷ []) g then false else b) (same g ∙ more g)
+        ∙ come-and-gone (is_of (h.first ∷ h.second ∷ []) g) (has_string m g.string)
+        (both.past-hidden n m h.point row.from row.to (path_of string h.first h.second) it g)
+
+  pub back-hidden : (g : Half) → IsShown m g → is_of (strings_of (forward_of h.first ∷ forward_of h.second ∷ [])) g ≡ false
+  back-hidden = both.past-hidden n m h.point row.from row.to (path_of string h.first h.second) it
+
+  pub back-different : AreDifferent (forward_of h.first ∷ forward_of h.second ∷ [])
+  back-different = both.path-different n m h.point row.from row.to (path_of string h.first h.second) it
+
+  -- ---- The split that is taken back
+
+  pub split-back : (r : StringRow) (place : ℕ) (new : MapRows) (parted : HalfRows) (put : Held Half) (wide : Held Spoke)
+      → string_of m string ≡ Some r → slice_get m.strings place ≡ Some r → FitMap n new parted put wide → HasHalves parted r
+      → AreLoose (next parted) (forward_of string ∷ []) → HasSlot new.strings r.number
+      → (c : CanUnsplit r place h.point h.first h.second new parted put wide) × (c.map ≡ m)
+  split-back r place new parted put wide found at fits there loose slot =
+      let number : string ≡ r.number = sym (found-number (λ (s : StringRow). s.number) string m.strings r found) in
+      let c : CanUnsplit r place h.point h.first h.second new parted put wide = record {
+        map = m;
+        x = h.position.x;
+        y = h.position.y;
+        tried = subst (λ (s : ℕ). IsTried m (split_by s h)) number tried;
+        at = at;
+        fits = subst (λ (s : ℕ). FitMap (after m (split_by s h)) new parted put wide) number fits;
+        there = there;
+        loose = subst (λ (s : ℕ). AreLoose (next parted) (forward_of s ∷ [])) number loose;
+        slot = slot;
+      } in (c, refl)
+
+  -- ---- Work
+
+  pub path-few : (parted : HalfRows) (new : MapRows) (put : Held Half) (wide : Held Spoke) → FitMap n new parted put wide
+      → length (cycle parted (forward_of h.first)) + length (cycle parted (backward_of h.second)) ≤ sides_through h.point n
+  path-few parted new put wide fits = path-length n m h.point row.from row.to (path_of string h.first h.second) it parted put fits.fits
+
+  pub whole-few : (back : HalfRows) (new : MapRows) (put : Held Half) (wide : Held Spoke) → FitMap m new back put wide
+      → length (cycle back (forward_of string)) + length (cycle back (backward_of string)) ≤ sides_through h.point n
+  whole-few back new put wide fits = whole-length n m h.point row.from row.to (path_of string h.first h.second) it back put fits.fits
+
+  pub split-work : 80 + 4 * sides_through h.point n ≤ work_bound m n
+  split-work = let w = work-allowed m (split_by string h) tried in omega (arith, w)
+
+  -- ---- A split that was made, and the string comes again
+
+  module _ (table : HalfRows) (all : (g : Half) → has table g ≡ has_string n g.string) where
+    whole-gone : has_string n string ≡ false
+    whole-gone =
+        false_from_ne_true (has_string n string) (λ there.
+        true≢false
+        (sym (ap (λ (b : Bool). b || false) (nat_eq_equiv.refl string)) ∙ split-hidden-alone (forward_of string) there))
+      where
+        split-hidden-alone : (g : Half) → IsShown n g → is_of (strings_of (forward_of string ∷ [])) g ≡ false
+        split-hidden-alone = both.through-hidden n m h.point row.from row.to (path_of string h.first h.second) it
+
+    pub whole-free : has_halves table string ≡ false
+    whole-free = sym (has-string table (forward_of string)) ∙ all (forward_of string) ∙ whole-gone
+
+    module _ (whole : HalfRows)
+        (more : (g : Half) → has whole g ≡ (if is_of (string ∷ []) g then true else has table g)) where
+      more-of : (g : Half) → has whole g ≡ (if is_of (string ∷ []) g then true else has_string n g.string)
+      more-of g = more g ∙ ap (λ (b : Bool). if is_of (string ∷ []) g then true else b) (all g)
+
+      pub unsplit-in : AreIn whole (forward_of h.first ∷ forward_of h.second ∷ [])
+      unsplit-in = both.path-in n m h.point row.from row.to (path_of string h.first h.second) it whole more-of
+
+      pub unsplit-alone : (done : HalfRows) → DropsStrings (forward_of h.first ∷ forward_of h.second ∷ []) whole done
+          → (g : Half) → has done g ≡ has_string m g.string
+      unsplit-alone done drops g =
+          drops.has g
+          ∙ ap (λ (b : Bool). if is_of (h.first ∷ h.second ∷ []) g then false else b) (more-of g)
+          ∙ both.past-left n m h.point row.from row.to (path_of string h.first h.second) it g
+
+-- ---- A split that is made
+
+module _ (rows : MapRows) (table : Table) (held : Held Half) (stars : Held Spoke) (grid : Grid) (v : Parts)
+    (view : parts rows table held stars grid ≡ v) (fit : FitTogether (parts rows table held stars grid)) (h : Halving)
+    (string : ℕ) (tried : IsTried (map_of v) (split_by string h)) (rest : IsProper (map_of v) v.table.rows (kept_at v)) where
+  abbrev old : Map
+  old = map_of v
+
+  abbrev made : Map
+  made = after old (split_by string h)
+
+  fits : FitMap old rows table.rows held stars
+  fits = draft-fits rows table held stars grid v view fit (whole_valid old tried.valid)
+
+  all : (g : Half) → has table.rows g ≡ has_string old g.string
+  all = draft-all rows table held stars grid v view rest
+
+  pub there-some : IsSome (string_of (map_in rows) string)
+  there-some =
+      subst (λ (q : Parts). IsSome (string_of (map_of q) string)) (sym view)
+      (subst IsSome (sym (split-there old h string tried).1) refl)
+
+  -- what the rows that come are
+  pub rows-come : (k : SplitRows) → ((r : StringRow) → string_of (map_in rows) string ≡ Some r → k ≡ split_rows r h)
+      → (r : StringRow) → string_of old string ≡ Some r → k ≡ split_rows r h
+  rows-come k are r is = are r (ap (λ (q : Parts). string_of (map_of q) string) view ∙ is)
+
+  module _ (k : SplitRows) (are : (r : StringRow) → string_of old string ≡ Some r → k ≡ split_rows r h) where
+    pub begins : CanBeginSplit string k.point k.first k.second rows table.rows held stars
+    begins = split-begins old h string tried rows table.rows held stars fits all k are
+
+    module _ (new : MapRows) (t : Table) (put : Held Half) (wide : Held Spoke) where
+      -- where memory ran out
+      module _ (each : (c : CanBeginSplit string k.point k.first k.second rows table.rows held stars) → FitMap c.map new t.rows put wide)
+          (same : t.rows ≡ table.rows) where
+        left : FitMap old new t.rows put wide
+        left = split-unbegun old h string tried rows table.rows held stars fits all k are new t.rows put wide each
+
+        pub left-fit : FitTogether (parts new t put wide grid)
+        left-fit = fit-parts new t put wide grid old (whole_valid old tried.valid) left
+
+        pub left-map : map_of (parts new t put wide grid) ≡ old
+        left-map = fit-map new t put wide grid old (whole_valid old tried.valid) left
+
+        pub left-proper : IsProper (map_of (parts new t put wide grid)) t.rows (kept_at (parts new t put wide grid))
+        left-proper =
+            fit-proper new t put wide grid old (whole_valid old tried.valid) left
+            (λ g. ap (λ (l : HalfRows). has l g) same ∙ all g)
+
+      pub left-work : table.work ≤ greatest → (count : ℕ) × (count ≤ 2) × (t.work ≡ ticked count table.work)
+          → TakesWork v.table t (work_bound old made)
+      left-work within it =
+          let most = split-work old h string tried in
+          draft-work rows table held stars grid v view t 2 (work_bound old made) within (omega (arith, most))
+          (record { ticks = it.0; few = it.1; counted = it.2 })
+
+      -- where it is made
+      module _ (each : (c : CanBeginSplit string k.point k.first k.second rows table.rows held stars)
+          → FitMap (after c.map (Split string k.point.number k.point.position.x k.point.position.y k.first.number k.second.number)) new t.rows put wide)
+          (some : (g : Half) → has t.rows g ≡ (if is_of (k.first.number ∷ k.second.number ∷ []) g then true else has table.rows g)) where
+        made-fits : FitMap made new t.rows put wide
+        made-fits = split-begun old h string tried rows table.rows held stars fits all k are new t.rows put wide each
+
+        more : (g : Half) → has t.rows g ≡ (if is_of (h.first ∷ h.second ∷ []) g then true else has_string old g.string)
+        more = split-has old h string tried rows table.rows held stars fits all k are t.rows some
+
+        pub made-fit : FitTogether (parts new t put wide grid)
+        made-fit = fit-parts new t put wide grid made (split-whole_after old h string tried) made-fits
+
+        pub made-map : map_of (parts new t put wide grid) ≡ made
+        made-map = fit-map new t put wide grid made (split-whole_after old h string tried) made-fits
+
+        pub made-whole : HasWholeRings (map_of (parts new t put wide grid))
+        made-whole = subst HasWholeRings (sym made-map) (split-whole_after old h string tried)
+
+        -- what the check near it asks
+        pub near-tested : CanBeTested (map_of (parts new t put wide grid))
+        near-tested = subst CanBeTested (sym made-map) (tested old (split_by string h) tried)
+
+        pub near-held : (seen : Grid) → seen ≡ grid → HoldsMap v.grid made → HoldsMap seen (map_of (parts new t put wide grid))
+        near-held seen is holds =
+            subst (λ (s : Grid). HoldsMap s (map_of (parts new t put wide grid))) (sym is)
+            (subst (HoldsMap grid) (sym made-map) (subst (λ (q : Parts). HoldsMap q.grid made) (sym view) holds))
+
+        pub near-touched : (touched : TouchedOf) → IsTouched old made touched → ComesFromValid touched (map_of (parts new t put wide grid))
+        near-touched touched all_named = record {
+          before = old;
+          valid = tried.valid;
+          touched = subst (λ (m : Map). IsTouched old m touched) (sym made-map) all_named;
+        }
+
+        -- and what it tells
+        pub near-refused : (rule : Rule) → FirstBroken (map_of (parts new t put wide grid)) rule → MayRefuse old (split_by string h) (Breaks rule)
+        near-refused rule broken = refused (breaking tried.allowed (subst (λ (m : Map). FirstBroken m rule) made-map broken))
+
+        pub near-valid : KeepsAll (map_of (parts new t put wide grid)) → (d : Parts) → map_of d ≡ map_of (parts new t put wide grid) → IsValid (map_of d)
+        near-valid keeps d same =
+            subst IsValid (sym (same ∙ made-map))
+            (valid-from_kept made (tested old (split_by string h) tried) (subst KeepsAll made-map keeps))
+
+        module _ (q : Half) (q_is : q ≡ forward_of string) where
+          pub gone-different : AreDifferent (q ∷ [])
+          gone-different = subst (λ (q : Half). AreDifferent (q ∷ [])) (sym q_is) (split-one old h string tried t.rows more)
+
+          pub gone-hidden : (g : Half) → IsShown (map_of (parts new t put wide grid)) g → is_of (strings_of (q ∷ [])) g ≡ false
+          gone-hidden g shown =
+              subst (λ (q : Half). is_of (strings_of (q ∷ [])) g ≡ false) (sym q_is)
+              (split-hidden old h string tried t.rows more g (subst (λ (m : Map). IsShown m g) made-map shown))
+
+          pub gone-proper : (d : Parts) → FitTogether d → map_of d ≡ map_of (parts new t put wide grid)
+              → DropsStrings (q ∷ []) t.rows d.table.rows → IsProper (map_of d) d.table.rows (kept_at d)
+          gone-proper d d_fit same drops =
+              settled d made d_fit (same ∙ made-map) (split-whole_after old h string tried)
+              (split-alone old h string tried t.rows more d.table.rows (subst (λ (q : Half). DropsStrings (q ∷ []) t.rows d.table.rows) q_is drops))
+
+        module _ (within : table.work ≤ greatest)
+            (work : t.work ≡ ticked (2 + (length (cycle t.rows (forward_of k.first.number)) + length (cycle t.rows (backward_of k.second.number)) + 5)) table.work) where
+          -- the ticks until it is made
+          abbrev path : ℕ
+          path = 2 + (length (cycle t.rows (forward_of h.first)) + length (cycle t.rows (backward_of h.second)) + 5)
+
+          made-ticks : TicksUpTo path table t
+          made-ticks = ticks-just table t path (split-ticks old h string tried rows table.rows held stars fits all k are t.rows t.work table.work work)
+
+          pub gone-work : (u : Table) → u.work ≡ ticked 1 t.work → TakesWork v.table u (work_bound old made)
+          gone-work u one =
+              let most = split-work old h string tried in
+              let few = path-few old h string tried t.rows new put wide made-fits in
+              draft-work rows table held stars grid v view u (path + 1) (work_bound old made) within (omega (arith, most, few))
+              (ticks-then table t u path 1 made-ticks (ticks-just t u 1 one))
+
+        -- ---- And taken back
+
+        module _ (r : StringRow) (place : ℕ) (found_in : string_of (map_in rows) string ≡ Some r)
+            (at_in : slice_get (map_in rows).strings place ≡ Some r) (whole_there : HasHalves t.rows r)
+            (loose : AreLoose (next t.rows) (forward_of string ∷ [])) (slot : HasSlot new.strings r.number) where
+          found : string_of old string ≡ Some r
+          found = subst (λ (q : Parts). string_of (map_of q) string ≡ Some r) view found_in
+
+          at : slice_get old.strings place ≡ Some r
+          at = subst (λ (q : Parts). slice_get q.strings place ≡ Some r) view at_in
+
+          undo : (c : CanUnsplit r place h.point h.first h.second new t.rows put wide) × (c.map ≡ old)
+          undo = split-back old h string tried r place new t.rows put wide found at made-fits whole_there loose slot
+
+          pub undo-begins : CanUnsplit r place h.point h.first h.second new t.rows put wide
+          undo-begins = undo.0
+
+          module _ (back : MapRows) (u : Table) (kept : Held Half) (star : Held Spoke)
+              (undone : (c : CanUnsplit r place h.point h.first h.second new t.rows put wide) → FitMap c.map back u.rows kept star)
+              (has_same : (g : Half) → has u.rows g ≡ has t.rows g) where
+            undo-fits : FitMap old back u.rows kept star
+            undo-fits = subst (λ (m : Map). FitMap m back u.rows kept star) undo.1 (undone undo.0)
+
+            pub undo-fit : FitTogether (parts back u kept star grid)
+            undo-fit = fit-parts back u kept star grid old (whole_valid old tried.valid) undo-fits
+
+            pub undo-map : map_of (parts back u kept star grid) ≡ old
+            undo-map = fit-map back u kept star grid old (whole_valid old tried.valid) undo-fits
+
+            pub undo-whole : HasWholeRings (map_of (parts back u kept star grid))
+            undo-whole = subst HasWholeRings (sym undo-map) (whole_valid old tried.valid)
+
+            module _ (x y : Half) (are_two : (x ≡ forward_of h.first) × (y ≡ forward_of h.second)) where
+              two : (P : List Half → Type 0) → P (forward_of h.first ∷ forward_of h.second ∷ []) → P (x ∷ y ∷ [])
+              two P p = subst P (λ i. sym are_two.0 i ∷ sym are_two.1 i ∷ []) p
+
+              pub back-two_in : AreIn u.rows (x ∷ y ∷ [])
+              back-two_in = two (λ l. AreIn u.rows l) (halves-in old h string tried t.rows more u.rows has_same)
+
+              pub back-two_differ : AreDifferent (x ∷ y ∷ [])
+              back-two_differ = two (λ l. AreDifferent l) (back-different old h string tried)
+
+              pub back-two_hidden : (g : Half) → IsShown (map_of (parts back u kept star grid)) g → is_of (strings_of (x ∷ y ∷ [])) g ≡ false
+              back-two_hidden g shown =
+                  two (λ l. is_of (strings_of l) g ≡ false)
+                  (back-hidden old h string tried g (subst (λ (m : Map). IsShown m g) undo-map shown))
+
+              pub back-proper : (d : Parts) → FitTogether d → map_of d ≡ map_of (parts back u kept star grid)
+                  → DropsStrings (x ∷ y ∷ []) u.rows d.table.rows → IsProper (map_of d) d.table.rows (kept_at d)
+              back-proper d d_fit same drops =
+                  settled d old d_fit (same ∙ undo-map) (whole_valid old tried.valid)
+                  (back-alone old h string tried t.rows more u.rows d.table.rows has_same
+                  (subst (λ (l : List Half). DropsStrings l u.rows d.table.rows) (λ i. are_two.0 i ∷ are_two.1 i ∷ []) drops))
+
+            module _ (within : table.work ≤ greatest)
+                (work : t.work ≡ ticked (2 + (length (cycle t.rows (forward_of k.first.number)) + length (cycle t.rows (backward_of k.second.number)) + 5)) table.work)
+                (again : u.work ≡ ticked (length (cycle u.rows (forward_of r.number)) + length (cycle u.rows (backward_of r.number)) + 5) t.work) where
+              abbrev ring : ℕ
+              ring = length (cycle u.rows (forward_of string)) + length (cycle u.rows (backward_of string)) + 5
+
+              number : r.number ≡ string
+              number = found-number (λ (s : StringRow). s.number) string old.strings r found
+
+              pub back-work : (w : Table) → w.work ≡ ticked 2 u.work → TakesWork v.table w (work_bound old made)
+              back-work w one =
+                  let most = split-work old h string tried in
+                  let few = path-few old h string tried t.rows new put wide made-fits in
+                  let low = whole-few old h string tried u.rows back kept star undo-fits in
+                  let is : u.work ≡ ticked ring t.work =
+                  again ∙ ap (λ (s : ℕ). ticked (length (cycle u.rows (forward_of s)) + length (cycle u.rows (backward_of s)) + 5) t.work) number in
+                  draft-work rows table held stars grid v view w (path within work + ring + 2) (work_bound old made) within (omega (arith, most, few, low))
+                  (ticks-then table u w (path within work + ring) 2
+                  (ticks-then table t u (path within work) ring (made-ticks within work) (ticks-just t u ring is)) (ticks-just u w 2 one))
+
+-- ---- A split that is taken back
+
+module _ (rows : MapRows) (table : Table) (held : Held Half) (stars : Held Spoke) (grid : Grid) (v : Parts)
+    (view : parts rows table held stars grid ≡ v) (fit : FitTogether (parts rows table held stars grid)) (h : Halving)
+    (row : StringRow) (place : ℕ) (given : GivesInRange (split_by row.number h)) (m : Map)
+    (it : IsMadeOf (split_record row place h) m) (was : map_of v ≡ after m (split_by row.number h))
+    (rest : IsProper (map_of v) v.table.rows (kept_at v)) where
+  of : IsTried m (split_by row.number h)
+  of = record { valid = it.valid; given = given; allowed = it.allowed }
+
+  abbrev behind : Map
+  behind = after m (split_by row.number h)
+
+  behind-whole : HasWholeRings behind
+  behind-whole = split-whole_after m h row.number of
+
+  behind-fits : FitMap behind rows table.rows held stars
+  behind-fits =
+      subst (λ (q : Map). FitMap q rows table.rows held stars) was
+      (draft-fits rows table held stars grid v view fit (subst HasWholeRings (sym was) behind-whole))
+
+  behind-all : (g : Half) → has table.rows g ≡ has_string behind g.string
+  behind-all g = draft-all rows table held stars grid v view rest g ∙ ap (λ (q : Map). has_string q g.string) was
+
+  abbrev begun : CanBeginUnsplit row place h.point h.first h.second rows table.rows held stars
+  begun = record {
+    map = m;
+    x = h.position.x;
+    y = h.position.y;
+    tried = of;
+    at = it.holds;
+    fits = behind-fits;
+    new = (whole-free m h row.number of table.rows behind-all, tt);
+  }
+
+  pub back-begins : CanBeginUnsplit row place h.point h.first h.second rows table.rows held stars
+  back-begins = begun
+
+  module _ (new : MapRows) (t : Table) (put : Held Half) (wide : Held Spoke) where
+    -- where memory ran out
+    module _ (each : (c : CanBeginUnsplit row place h.point h.first h.second rows table.rows held stars)
+        → FitMap (after c.map (Split row.number h.point c.x c.y h.first h.second)) new t.rows put wide)
+        (same : t ≡ table) where
+      stay : FitMap behind new t.rows put wide
+      stay = each begun
+
+      pub stay-fit : FitTogether (parts new t put wide grid)
+      stay-fit = fit-parts new t put wide grid behind behind-whole stay
+
+      pub stay-map : map_of (parts new t put wide grid) ≡ map_of v
+      stay-map = fit-map new t put wide grid behind behind-whole stay ∙ sym was
+
+      pub stay-proper : IsProper (map_of (parts new t put wide grid)) t.rows (kept_at (parts new t put wide grid))
+      stay-proper =
+          fit-proper new t put wide grid behind behind-whole stay
+          (λ g. ap (λ (l : Table). has l.rows g) same ∙ behind-all g)
+
+    -- where the string is in
+    module _ (each : (c : CanBeginUnsplit row place h.point h.first h.second rows table.rows held stars) → FitMap c.map new t.rows put wide)
+        (some : (g : Half) → has t.rows g ≡ (if is_of (row.number ∷ []) g then true else has table.rows g)) where
+      in-fits : FitMap m new t.rows put wide
+      in-fits = each begun
+
+      pub in-fit : FitTogether (parts new t put wide grid)
+      in-fit = fit-parts new t put wide grid m (whole_valid m it.valid) in-fits
+
+      pub in-map : map_of (parts new t put wide grid) ≡ m
+      in-map = fit-map new t put wide grid m (whole_valid m it.valid) in-fits
+
+      pub in-whole : HasWholeRings (map_of (parts new t put wide grid))
+      in-whole = subst HasWholeRings (sym in-map) (whole_valid m it.valid)
+
+      module _ (x y : Half) (are_two : (x ≡ forward_of h.first) × (y ≡ forward_of h.second)) where
+        pair : (P : List Half → Type 0) → P (forward_of h.first ∷ forward_of h.second ∷ []) → P (x ∷ y ∷ [])
+        pair P p = subst P (λ i. sym are_two.0 i ∷ sym are_two.1 i ∷ []) p
+
+        pub in-two : AreIn t.rows (x ∷ y ∷ [])
+        in-two = pair (λ l. AreIn t.rows l) (unsplit-in m h row.number of table.rows behind-all t.rows some)
+
+        pub in-two_differ : AreDifferent (x ∷ y ∷ [])
+        in-two_differ = pair (λ l. AreDifferent l) (back-different m h row.number of)
+
+        pub in-two_hidden : (g : Half) → IsShown (map_of (parts new t put wide grid)) g → is_of (strings_of (x ∷ y ∷ [])) g ≡ false
+        in-two_hidden g shown =
+            pair (λ l. is_of (strings_of l) g ≡ false)
+            (back-hidden m h row.number of g (subst (λ (q : Map). IsShown q g) in-map shown))
+
+        pub in-proper : (d : Parts) → FitTogether d → map_of d ≡ map_of (parts new t put wide grid)
+            → DropsStrings (x ∷ y ∷ []) t.rows d.table.rows → IsProper (map_of d) d.table.rows (kept_at d)
+        in-proper d d_fit same drops =
+            settled d m d_fit (same ∙ in-map) (whole_valid m it.valid)
+            (unsplit-alone m h row.number of table.rows behind-all t.rows some d.table.rows
+            (subst (λ (l : List Half). DropsStrings l t.rows d.table.rows) (λ i. are_two.0 i ∷ are_two.1 i ∷ []) drops))
+
+      pub in-work : table.work ≤ greatest
+          → t.work ≡ ticked (1 + (length (cycle t.rows (forward_of row.number)) + length (cycle t.rows (backward_of row.number)) + 5)) table.work
+          → (u : Table) → u.work ≡ ticked 2 t.work → TakesWork v.table u (work_bound m (map_of v))
+      in-work within work u one =
+          let ring = length (cycle t.rows (forward_of row.number)) + length (cycle t.rows (backward_of row.number)) + 5 in
+          let most = split-work m h row.number of in
+          let low = whole-few m h row.number of t.rows new put wide in-fits in
+          subst (λ (q : Map). TakesWork v.table u (work_bound m q)) (sym was)
+          (draft-work rows table held stars grid v view u (1 + ring + 2) (work_bound m behind) within (omega (arith, most, low))
+          (ticks-then table t u (1 + ring) 2 (ticks-just table t (1 + ring) work) (ticks-just t u 2 one)))

@@ -1,0 +1,61 @@
+use Rattle.std.proofs.Common.{◌≡◌, ◌∙◌, ap, sym, refl, subst, ◌++◌, ◌∷◌, [], length, List, filter, take, slice_get, arith}
+use Rattle.std.proofs.lemmas.List.{take_all}
+use Rattle.std.proofs.lemmas.Option.{slice_get_read}
+use Rattle.half_table.specs.declared.half.Half.{Half}
+use Rattle.key_lists.specs.Held.{items_at}
+use Rattle.cad_surgery.specs.Handing.{home_of}
+use Rattle.cad_surgery.specs.Parts.{Parts, FitTogether, map_of, kept_at}
+use Rattle.cad_surgery.specs.Placed.{moves_in}
+use Rattle.cad_surgery.proofs.MovedHalves.{as-many, at-place, holes-are, next-passes, next-stays}
+use Rattle.cad_surgery.proofs.edits.moved.moved_halves.Goals.{then-is_hole_inside+in_ok-push, else-is_hole_inside}
+use Rattle.cad_surgery.proofs.edits.moved.moved_halves.Goals as goal
+
+pub is_hole_inside-requires-clause-there : goal.is_hole_inside-requires-clause-there
+is_hole_inside-requires-clause-there g c =
+    let d = c.args.draft.now in
+    let f = c.args.face.now in
+    let fit = subst FitTogether c.draft.view_is c.draft.invariant in
+    let many = as-many d fit c.requires f in
+    let told = ap length (c.at-kept.ensures ∙ (λ i. items_at c.draft.inside.kept (c.face_place.ensures i)) ∙ ap (λ (q : Parts). kept_at q f) c.draft.view_is) in
+    let low = c.loop-place-test.true in
+    omega (arith, many, told, low)
+
+pub loop-place-preserved : goal.loop-place-preserved
+loop-place-preserved g c =
+    let d = c.args.draft.now in
+    let f = c.args.face.now in
+    let ring = c.args.ring.now in
+    let i = c.loop-place.place in
+    let fit = subst FitTogether c.draft.view_is c.draft.invariant in
+    let lent = c.at-kept.ensures ∙ (λ i. items_at c.draft.inside.kept (c.face_place.ensures i)) ∙ ap (λ (q : Parts). kept_at q f) c.draft.view_is in
+    elim c.if-is_hole_inside.branch [
+      | then-is_hole_inside+in_ok-push w ↦
+          let half = w.index-kept-place.result in
+          let at = ap (λ (l : List Half). slice_get l i) (sym lent) ∙ slice_get_read c.at-kept.result.now _ i half refl c.loop-place-test.true w.index-kept-place.is in
+          ap (λ v. v.items) w.halves-is ∙ w.in_ok-push.ensures.items ∙ (λ j. c.loop-place.invariant j ++ half ∷ [])
+          ∙ sym (next-passes d fit c.requires f ring i half at c.is_hole_inside.result c.is_hole_inside.ensures w.if-is_hole_inside.true)
+      | else-is_hole_inside w ↦
+          let there = at-place c.at-kept.result.now i c.loop-place-test.true in
+          let at = ap (λ (l : List Half). slice_get l i) (sym lent) ∙ there.1 in
+          ap (λ v. v.items) w.halves-is ∙ c.loop-place.invariant
+          ∙ sym (next-stays d fit c.requires f ring i there.0 at c.is_hole_inside.result c.is_hole_inside.ensures w.if-is_hole_inside.false)
+    ]
+
+pub returns-clause-kept : goal.returns-clause-kept
+returns-clause-kept g c =
+    let d = c.args.draft.now in
+    let f = c.args.face.now in
+    let lent = c.at-kept.ensures ∙ (λ i. items_at c.draft.inside.kept (c.face_place.ensures i)) ∙ ap (λ (q : Parts). kept_at q f) c.draft.view_is in
+    c.loop-place.invariant
+    ∙ ap (filter (λ h. moves_in (map_of d) f c.args.ring.now (home_of (map_of d) d.table.rows h)))
+    (ap (take c.loop-place.place) (sym lent) ∙ take_all c.loop-place.place c.at-kept.result.now c.loop-place-test.false ∙ lent)
+
+pub returns-clause-holes : goal.returns-clause-holes
+returns-clause-holes g c =
+    let d = c.args.draft.now in
+    let f = c.args.face.now in
+    let lent = c.at-kept.ensures ∙ (λ i. items_at c.draft.inside.kept (c.face_place.ensures i)) ∙ ap (λ (q : Parts). kept_at q f) c.draft.view_is in
+    holes-are d (subst FitTogether c.draft.view_is c.draft.invariant) c.requires f c.args.ring.now c.loop-place.halves.items
+    (c.loop-place.invariant
+    ∙ ap (filter (λ h. moves_in (map_of d) f c.args.ring.now (home_of (map_of d) d.table.rows h)))
+    (ap (take c.loop-place.place) (sym lent) ∙ take_all c.loop-place.place c.at-kept.result.now c.loop-place-test.false ∙ lent))

@@ -1,0 +1,28 @@
+use Rattle.std.proofs.Common.{◌≡◌, ◌≤◌, subst, arith}
+use Rattle.cad_rings.specs.Cycle.{Ring}
+use Rattle.cad_map.proofs.CallerLemmas.{whole_valid}
+use Rattle.cad_surgery.specs.Parts.{map_of}
+use Rattle.cad_surgery.specs.Placed.{AreOfHoles}
+use Rattle.cad_surgery.proofs.EnclosedDraft.{enclosure-long, enclosure-many}
+use Rattle.cad_surgery.proofs.edits.try_enclose.coming_by.Goals as goal
+
+pub rows_round-requires-clause-long : goal.rows_round-requires-clause-long
+rows_round-requires-clause-long g c =
+    let long = enclosure-long (map_of c.args.draft.now) c.args.enclosure.now c.requires in
+    omega (arith, long)
+
+pub rows_round-requires-clause-as_many : goal.rows_round-requires-clause-as_many
+rows_round-requires-clause-as_many g c = enclosure-many (map_of c.args.draft.now) c.args.enclosure.now c.requires
+
+pub from_points-requires : goal.from_points-requires
+from_points-requires g c =
+    let long = enclosure-long (map_of c.args.draft.now) c.args.enclosure.now c.requires in
+    omega (arith, long)
+
+pub moved_halves-requires : goal.moved_halves-requires
+moved_halves-requires g c = whole_valid (map_of c.args.draft.now) c.requires.valid
+
+pub returns-clause-holes : goal.returns-clause-holes
+returns-clause-holes g c =
+    subst (λ (r : Ring). AreOfHoles (map_of c.args.draft.now) c.args.draft.now.table.rows c.args.enclosure.now.face r c.in_ok-moved.moved.items)
+    c.in_ok-ring.ensures c.in_ok-moved.ensures.holes

@@ -1,0 +1,30 @@
+use Rattle.std.proofs.Common.{◌≡◌, ◌∙◌, ap, sym, subst}
+use Rattle.cad_rows.specs.declared.edits.Edit.TheVariants.{Enclose}
+use Rattle.cad_rows.specs.declared.names.Face.TheVariants.{Parcel}
+use Rattle.cad_map.specs.Effects.{after}
+use Rattle.cad_map.specs.Outcome.{out_of_memory}
+use Rattle.cad_surgery.specs.declared.edits.try_enclose.Kept.{Kept}
+use Rattle.cad_surgery.specs.declared.record.SmallRecord.{SmallRecord}
+use Rattle.cad_surgery.specs.HeldChains.{HeldIsland}
+use Rattle.cad_surgery.specs.Parts.{FitTogether, map_of}
+use Rattle.cad_surgery.specs.Record.{edit_of, Holds}
+use Rattle.cad_surgery.proofs.OpenedDraft.{names}
+use Rattle.cad_surgery.proofs.edits.try_enclose.enclose_recording.Goals as goal
+
+pub returns-in_default-clause-refused : goal.returns-in_default-clause-refused
+returns-in_default-clause-refused g c = out_of_memory c.requires.tried.allowed
+
+pub returns-clause-edit : goal.returns-clause-edit
+returns-clause-edit g c =
+    let e = c.args.enclosure.now in
+    ap edit_of c.record_of_enclosure.ensures
+    ∙ (λ i. Enclose e.face (c.requires.kept i).points (c.requires.kept i).strings e.parcel (c.requires.kept i).label e.source)
+
+pub returns-clause-holds : goal.returns-clause-holds
+returns-clause-holds g c =
+    let e = c.args.enclosure.now in
+    let m = map_of c.args.draft.now in
+    let moved = c.in-Ok.coming.moved in
+    subst (λ (r : SmallRecord). Holds r m) (sym c.record_of_enclosure.ensures)
+    (subst (λ (k : Kept). HeldIsland (after m (Enclose e.face k.points k.strings e.parcel k.label e.source)) (Parcel e.parcel) k.points moved.items) (sym c.requires.kept)
+    (names c.args.draft.now (subst FitTogether c.draft.view_is c.draft.invariant) e c.requires.tried moved.items c.in-Ok.ensures.holes))

@@ -1,0 +1,23 @@
+use Rattle.std.proofs.Common.{ℕ, ap}
+use Rattle.cad_rows.specs.declared.rows.StringRow.{StringRow}
+use Rattle.cad_map.specs.Outcome.{out_of_memory}
+use Rattle.cad_map.proofs.CallerLemmas.{found-number}
+use Rattle.cad_surgery.specs.Parts.{map_of}
+use Rattle.cad_surgery.specs.Splitting.{split_by}
+use Rattle.cad_surgery.proofs.SplitDraft as draft
+use Rattle.cad_surgery.proofs.edits.try_split.try_split.Goals as goal
+
+pub rows_of_split-requires : goal.rows_of_split-requires
+rows_of_split-requires g c =
+    draft.there-some c.draft.inside.rows c.draft.inside.table c.draft.inside.kept
+    c.draft.inside.stars c.draft.inside.grid c.args.draft.now c.draft.view_is c.draft.invariant
+    c.args.halving.now c.args.string c.requires.tried c.requires.proper
+
+pub returns-in_default-clause-refused : goal.returns-in_default-clause-refused
+returns-in_default-clause-refused g c = out_of_memory c.requires.tried.allowed
+
+pub returns-clause-edit : goal.returns-clause-edit
+returns-clause-edit g c =
+    ap (λ (s : ℕ). split_by s c.args.halving.now)
+    (found-number (λ (r : StringRow). r.number) c.args.string (map_of c.args.draft.now).strings
+    c.in_ok-place.row c.in_ok-place.ensures.found)

@@ -1,0 +1,74 @@
+use Rattle.std.proofs.lemmas.Result.{on_ok_weaker}
+use Rattle.std.proofs.Common.{sym, subst}
+use Rattle.cad_map.specs.Asked.{GivesInRange}
+use Rattle.cad_surgery.specs.Parts.{map_of}
+use Rattle.cad_surgery.proofs.GridSteps.{idle, made-by}
+use Rattle.cad_surgery.proofs.LeadsBy.{leads-by, same-lists}
+use Rattle.cad_surgery.proofs.Trials.{rows-of}
+use Rattle.cad_surgery.proofs.play.back_edit.Goals as goal
+
+pub back_split-requires-clause-given : goal.back_split-requires-clause-given
+back_split-requires-clause-given g c =
+    rw c.in-Split.is at c.requires.given
+
+pub back_split-requires-clause-made : goal.back_split-requires-clause-made
+back_split-requires-clause-made g c =
+    let b = rw c.in-Split.is at c.requires.made in
+    (b.0, made-by _ b.0 _ b.1, b.1.leads.is)
+
+pub returns-in-Split-clause-before : goal.returns-in-Split-clause-before
+returns-in-Split-clause-before g c =
+    rw c.in-Split.is (on_ok_weaker c.back_split.result (λ f m belongs. f m (made-by _ m _ belongs) belongs.leads.is) c.back_split.ensures.before)
+
+pub returns-in-Split-clause-work : goal.returns-in-Split-clause-work
+returns-in-Split-clause-work g c =
+    rw c.in-Split.is (λ m belongs. c.back_split.ensures.work m (made-by _ m _ belongs) belongs.leads.is)
+
+pub back_join-requires-clause-join : goal.back_join-requires-clause-join
+back_join-requires-clause-join g c =
+    rw c.in-Join.is tt
+
+pub back_enclose-requires-clause-given : goal.back_enclose-requires-clause-given
+back_enclose-requires-clause-given g c =
+    let same = same-lists c.in-Enclose.face c.in-Enclose.parcel c.in-Enclose.label c.in-Enclose.source _ _ _ _ c.as_slice.ensures c.as_slice-in-Enclose.ensures in
+    subst GivesInRange (sym same) (rw c.in-Enclose.is at c.requires.given)
+
+pub back_enclose-requires-clause-made : goal.back_enclose-requires-clause-made
+back_enclose-requires-clause-made g c =
+    let b = rw c.in-Enclose.is at c.requires.made in
+    (b.0, leads-by _ _ _ _ _ b.0 _ c.as_slice.ensures c.as_slice-in-Enclose.ensures c.as_slice-in-Enclose-2.ensures.value b.1)
+
+pub returns-in-Enclose-clause-before : goal.returns-in-Enclose-clause-before
+returns-in-Enclose-clause-before g c =
+    rw c.in-Enclose.is (on_ok_weaker c.back_enclose.result
+    (λ f m belongs. f m (leads-by _ _ _ _ _ m _ c.as_slice.ensures c.as_slice-in-Enclose.ensures c.as_slice-in-Enclose-2.ensures.value belongs)) c.back_enclose.ensures.before)
+
+pub returns-in-Enclose-clause-work : goal.returns-in-Enclose-clause-work
+returns-in-Enclose-clause-work g c =
+    rw c.in-Enclose.is (λ m belongs. c.back_enclose.ensures.work m
+    (leads-by _ _ _ _ _ m _ c.as_slice.ensures c.as_slice-in-Enclose.ensures c.as_slice-in-Enclose-2.ensures.value belongs))
+
+pub unmake_rows-requires-clause-alone : goal.unmake_rows-requires-clause-alone
+unmake_rows-requires-clause-alone g c =
+    rows-of c.args.change.now c.requires.place c.in_default.not-Split c.in_default.not-Join c.in_default.not-Enclose
+
+pub unmake_rows-requires-clause-made : goal.unmake_rows-requires-clause-made
+unmake_rows-requires-clause-made g c =
+    let b = c.requires.made in
+    (b.0, made-by c.args.change.now b.0 (map_of c.args.draft.now) b.1, b.1.leads.is)
+
+pub returns-in_default-clause-before : goal.returns-in_default-clause-before
+returns-in_default-clause-before g c =
+    on_ok_weaker c.unmake_rows.result (λ f m belongs. f m (made-by c.args.change.now m (map_of c.args.draft.now) belongs) belongs.leads.is) c.unmake_rows.ensures.before
+
+pub returns-in_default-clause-grid : goal.returns-in_default-clause-grid
+returns-in_default-clause-grid g c =
+    c.unmake_rows.ensures.beside.grid
+
+pub returns-in_default-clause-proper : goal.returns-in_default-clause-proper
+returns-in_default-clause-proper g c =
+    c.unmake_rows.ensures.beside.proper c.requires.proper
+
+pub returns-in_default-clause-work : goal.returns-in_default-clause-work
+returns-in_default-clause-work g c =
+    λ m belongs. idle c.args.draft.now c.unmake_rows.new.self _ c.unmake_rows.ensures.beside.table

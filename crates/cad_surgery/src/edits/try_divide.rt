@@ -1,0 +1,333 @@
+//! A division on a map on half-edges: tried, taken back where it breaks a rule, and made again.
+ghost use Rattle.std.specs.Prelude.{◌≡◌, ◌<◌, ◌∷◌, length, map as map_by, IfOk, IfErr, OnOk, OnErr};
+ghost use Rattle.cad_map.specs.Asked.{GivesInRange};
+ghost use Rattle.cad_map.specs.Costs.{work_bound};
+ghost use Rattle.cad_map.specs.Effects.{after};
+ghost use Rattle.cad_map.specs.Map.{Map};
+ghost use Rattle.cad_map.specs.Outcome.{MayRefuse};
+ghost use Rattle.cad_map.specs.Touched.{IsTouched};
+ghost use Rattle.cad_map.specs.Valid.{IsValid};
+ghost use Rattle.half_table.specs.Half.{forward_of};
+ghost use Rattle.cad_laws.specs.Tried.{IsTried};
+ghost use Rattle.cad_valid.specs.Near.{HoldsMap, touched_of};
+ghost use Rattle.cad_rows.specs.declared.names.Face.TheVariants.{Parcel};
+ghost use Rattle.cad_surgery.specs.Dividing.{HasCrossing, IsDividedBy, IsOfDivide, divided_by};
+ghost use Rattle.cad_surgery.specs.Dividing.{strings_across, parcel_across};
+ghost use Rattle.cad_surgery.specs.HeldChains.{HeldChain};
+ghost use Rattle.cad_surgery.specs.Parts.{map_of, kept_at};
+ghost use Rattle.cad_surgery.specs.Proper.{IsProper};
+ghost use Rattle.cad_surgery.specs.Record.{edit_of, Holds, Belongs};
+ghost use Rattle.cad_surgery.specs.Work.{TakesWork};
+
+use crate::draft::Draft;
+use crate::edits::counted::is_work_in_range;
+use crate::edits::dividing::undivide;
+use crate::edits::dividing_tried::{begin_divide, begin_undivide};
+use crate::edits::hidden::drop_hidden;
+use crate::edits::split::forward;
+use crate::record::SmallRecord;
+use cad_edit::rows_along;
+use cad_rows::{
+    Face, Label, Memory, Numbers, ParcelNo, ParcelRow, PointNo, Refusal, SourceNo, StringNo,
+    StringRow,
+};
+use cad_valid::{Touched, first_broken_near};
+use half_table::{Half, Tally};
+use std::alloc::Global;
+
+/// What a division names and gives.
+#[derive(Clone, Copy)]
+pub(crate) struct Division<'a> {
+    pub(crate) face: Face,
+    pub(crate) chain: &'a [PointNo],
+    pub(crate) strings: &'a [StringNo],
+    pub(crate) parcel: ParcelNo,
+    pub(crate) label: &'a Label,
+    pub(crate) source: SourceNo,
+}
+
+// The first half of a path, and the others.
+fn first_and_rest(path: &[Half]) -> (&Half, &[Half])
+    requires { 0 < length path.now }
+    ensures { path.now ≡ result.0.now ∷ result.1.now }
+{
+    (&path[0], &path[1..])
+}
+
+/// Divides a face with the rows that come, and takes it back where it breaks a rule. The halves
+/// that leave the two corners, and one half of each ring that passes over, are given.
+pub(crate) fn divide_within_rules<T: Tally>(
+    draft: &mut Draft<T>,
+    division: &Division<'_>,
+    strings: Vec<StringRow>,
+    parcel: ParcelRow,
+    path: &[Half],
+    start: &Half,
+    end: &Half,
+    moved: &[Half],
+    touched: &Touched,
+) -> Result<(), Refusal>
+    requires tried { IsTried (map_of draft.old) (divided_by division.now) }
+    requires strings { strings.items ≡ strings_across division.now }
+    requires parcel { parcel ≡ parcel_across division.now }
+    requires path { path.now ≡ map_by forward_of division.now.strings.now }
+    requires crossing { HasCrossing (map_of draft.old) draft.old.table.rows division.now start.now
+        end.now moved.now }
+    requires held { HoldsMap draft.old.grid (after (map_of draft.old) (divided_by division.now)) }
+    requires touched { IsTouched (map_of draft.old)
+        (after (map_of draft.old) (divided_by division.now)) (touched_of touched.now) }
+    requires proper { IsProper (map_of draft.old) draft.old.table.rows (kept_at draft.old) }
+    ensures made { OnOk result
+        (map_of draft.new ≡ after (map_of draft.old) (divided_by division.now)) }
+    ensures valid { OnOk result (IsValid (map_of draft.new)) }
+    ensures refused { IfErr result (MayRefuse (map_of draft.old) (divided_by division.now)) }
+    ensures err { OnErr result (map_of draft.new ≡ map_of draft.old) }
+    ensures grid { draft.new.grid ≡ draft.old.grid }
+    ensures proper { IsProper (map_of draft.new) draft.new.table.rows (kept_at draft.new) }
+    ensures work { TakesWork draft.old.table draft.new.table
+        (work_bound (map_of draft.old) (after (map_of draft.old) (divided_by division.now))) }
+{
+    is_work_in_range(&draft.table);
+    let (first, rest) = first_and_rest(path);
+    let Ok(()) = begin_divide(
+        &mut draft.rows,
+        &mut draft.table,
+        &mut draft.kept,
+        &mut draft.stars,
+        &division.face,
+        strings,
+        parcel,
+        first,
+        rest,
+        start,
+        end,
+        moved,
+    ) else {
+        return Err(Refusal::Memory);
+    };
+    if let Some(rule) = first_broken_near(draft, draft.grid(), touched) {
+        undivide(
+            &mut draft.rows,
+            &mut draft.table,
+            &mut draft.kept,
+            &mut draft.stars,
+            &division.face,
+            division.strings,
+            division.parcel,
+            first,
+            rest,
+            moved,
+        );
+        drop_hidden(draft, path);
+        return Err(Refusal::Breaks(rule));
+    }
+    Ok(())
+}
+
+/// Divides a face again with the rows that come. Where memory runs out the map stays.
+pub(crate) fn divide_again<T: Tally>(
+    draft: &mut Draft<T>,
+    division: &Division<'_>,
+    strings: Vec<StringRow>,
+    parcel: ParcelRow,
+    path: &[Half],
+    start: &Half,
+    end: &Half,
+    moved: &[Half],
+) -> Result<(), Memory>
+    requires tried { IsTried (map_of draft.old) (divided_by division.now) }
+    requires strings { strings.items ≡ strings_across division.now }
+    requires parcel { parcel ≡ parcel_across division.now }
+    requires path { path.now ≡ map_by forward_of division.now.strings.now }
+    requires crossing { HasCrossing (map_of draft.old) draft.old.table.rows division.now start.now
+        end.now moved.now }
+    requires proper { IsProper (map_of draft.old) draft.old.table.rows (kept_at draft.old) }
+    ensures after { OnOk result
+        (map_of draft.new ≡ after (map_of draft.old) (divided_by division.now)) }
+    ensures err { OnErr result (map_of draft.new ≡ map_of draft.old) }
+    ensures grid { draft.new.grid ≡ draft.old.grid }
+    ensures proper { IsProper (map_of draft.new) draft.new.table.rows (kept_at draft.new) }
+    ensures work { TakesWork draft.old.table draft.new.table
+        (work_bound (map_of draft.old) (after (map_of draft.old) (divided_by division.now))) }
+{
+    is_work_in_range(&draft.table);
+    let (first, rest) = first_and_rest(path);
+    begin_divide(
+        &mut draft.rows,
+        &mut draft.table,
+        &mut draft.kept,
+        &mut draft.stars,
+        &division.face,
+        strings,
+        parcel,
+        first,
+        rest,
+        start,
+        end,
+        moved,
+    )
+}
+
+// The halves of strings, each from its string's first point to its second.
+fn halves_of(alloc: Global, strings: &[StringNo]) -> Result<Vec<Half>, Memory>
+    ensures { IfOk result (λ path. path.items ≡ map_by forward_of strings.now) }
+{
+    let mut path = Vec::new(alloc);
+    for place in 0..strings.len() {
+        path.push(forward(&strings[place]))?;
+    }
+    Ok(path)
+}
+
+// What the record of a division tells: the division, the halves that follow the chain's two ends,
+// and one half of each ring that passed over.
+#[derive(Clone, Copy)]
+struct Divided<'a> {
+    division: Division<'a>,
+    start: Half,
+    end: Half,
+    moved: &'a [Half],
+}
+
+fn division_of(change: &SmallRecord) -> Divided<'_>
+    requires { IsOfDivide change.now }
+    ensures edit { edit_of change.now ≡ divided_by result.division }
+    ensures held { (b : Map) → Holds change.now b → HeldChain (after b (edit_of change.now))
+        (Parcel result.division.parcel) result.division.chain.now result.start result.end
+        result.moved.now }
+{
+    let SmallRecord::Divide {
+        face,
+        chain,
+        strings,
+        parcel,
+        label,
+        source,
+        start,
+        end,
+        moved,
+    } = change
+    else {
+        unreachable!()
+    };
+    Divided {
+        division: Division {
+            face: *face,
+            chain: chain.as_slice(),
+            strings: strings.as_slice(),
+            parcel: *parcel,
+            label,
+            source: *source,
+        },
+        start: *start,
+        end: *end,
+        moved: moved.as_slice(),
+    }
+}
+
+// Takes a division back, and its strings out of the table.
+fn take_back<T: Tally>(
+    draft: &mut Draft<T>,
+    division: &Division<'_>,
+    path: &[Half],
+    moved: &[Half],
+) -> Result<(), Memory>
+    requires path { path.now ≡ map_by forward_of division.now.strings.now }
+    requires made { (m : Map) × IsDividedBy m (map_of draft.old) division.now moved.now }
+    requires proper { IsProper (map_of draft.old) draft.old.table.rows (kept_at draft.old) }
+    ensures before { OnOk result ((m : Map)
+        → IsDividedBy m (map_of draft.old) division.now moved.now → map_of draft.new ≡ m) }
+    ensures err { OnErr result (map_of draft.new ≡ map_of draft.old) }
+    ensures grid { draft.new.grid ≡ draft.old.grid }
+    ensures proper { IsProper (map_of draft.new) draft.new.table.rows (kept_at draft.new) }
+    ensures work { (m : Map) → IsDividedBy m (map_of draft.old) division.now moved.now
+        → TakesWork draft.old.table draft.new.table (work_bound m (map_of draft.old)) }
+{
+    is_work_in_range(&draft.table);
+    let (first, rest) = first_and_rest(path);
+    begin_undivide(
+        &mut draft.rows,
+        &mut draft.table,
+        &mut draft.kept,
+        &mut draft.stars,
+        &division.face,
+        division.strings,
+        division.parcel,
+        first,
+        rest,
+        moved,
+    )?;
+    drop_hidden(draft, path);
+    Ok(())
+}
+
+/// Takes a division back: takes the parcel and the chain's strings out, and the parcel's rings are
+/// the face's again. Where memory runs out the map stays.
+pub(crate) fn back_divide<T: Tally>(
+    draft: &mut Draft<T>,
+    change: &SmallRecord,
+) -> Result<(), Memory>
+    requires division { IsOfDivide change.now }
+    requires given { GivesInRange (edit_of change.now) }
+    requires made { (m : Map) × Belongs change.now m (map_of draft.old) }
+    requires proper { IsProper (map_of draft.old) draft.old.table.rows (kept_at draft.old) }
+    ensures before { OnOk result ((m : Map) → Belongs change.now m (map_of draft.old)
+        → map_of draft.new ≡ m) }
+    ensures err { OnErr result (map_of draft.new ≡ map_of draft.old) }
+    ensures grid { draft.new.grid ≡ draft.old.grid }
+    ensures proper { IsProper (map_of draft.new) draft.new.table.rows (kept_at draft.new) }
+    ensures work { (m : Map) → Belongs change.now m (map_of draft.old)
+        → TakesWork draft.old.table draft.new.table (work_bound m (map_of draft.old)) }
+{
+    let alloc = draft.rows.points.allocator();
+    let told = division_of(change);
+    let path = halves_of(alloc, told.division.strings)?;
+    take_back(draft, &told.division, path.as_slice(), told.moved)
+}
+
+// The row of a division's parcel.
+fn parcel_of(alloc: Global, division: &Division<'_>) -> Result<ParcelRow, Memory>
+    ensures { IfOk result (λ row. row ≡ parcel_across division.now) }
+{
+    let mut sources = Numbers::new(alloc);
+    sources.push(division.source)?;
+    Ok(ParcelRow {
+        number: division.parcel,
+        label: division.label.copy()?,
+        sources,
+    })
+}
+
+/// Divides a face again. Where memory runs out the map stays.
+pub(crate) fn forward_divide<T: Tally>(
+    draft: &mut Draft<T>,
+    change: &SmallRecord,
+) -> Result<(), Memory>
+    requires division { IsOfDivide change.now }
+    requires given { GivesInRange (edit_of change.now) }
+    requires made { (n : Map) × Belongs change.now (map_of draft.old) n }
+    requires proper { IsProper (map_of draft.old) draft.old.table.rows (kept_at draft.old) }
+    ensures after { OnOk result (map_of draft.new ≡ after (map_of draft.old) (edit_of change.now)) }
+    ensures err { OnErr result (map_of draft.new ≡ map_of draft.old) }
+    ensures grid { draft.new.grid ≡ draft.old.grid }
+    ensures proper { IsProper (map_of draft.new) draft.new.table.rows (kept_at draft.new) }
+    ensures work { TakesWork draft.old.table draft.new.table
+        (work_bound (map_of draft.old) (after (map_of draft.old) (edit_of change.now))) }
+{
+    let alloc = draft.rows.points.allocator();
+    let told = division_of(change);
+    let division = told.division;
+    let path = halves_of(alloc, division.strings)?;
+    let strings = rows_along(alloc, division.chain, division.strings, division.source)?;
+    let parcel = parcel_of(alloc, &division)?;
+    divide_again(
+        draft,
+        &division,
+        strings,
+        parcel,
+        path.as_slice(),
+        &told.start,
+        &told.end,
+        told.moved,
+    )
+}

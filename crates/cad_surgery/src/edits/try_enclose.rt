@@ -1,0 +1,490 @@
+//! An enclosure on a map on half-edges: tried, taken back, and made again.
+ghost use Rattle.std.specs.Prelude.{◌≡◌, ◌<◌, ◌≤◌, ◌++◌, ◌∷◌, [], length, map as map_by, IfOk, IfErr, OnOk, OnErr};
+ghost use Rattle.cad_map.specs.Asked.{GivesInRange};
+ghost use Rattle.cad_map.specs.Chain.{start_of, strings_along};
+ghost use Rattle.cad_map.specs.Costs.{work_bound};
+ghost use Rattle.cad_map.specs.Effects.{after};
+ghost use Rattle.cad_map.specs.Map.{Map};
+ghost use Rattle.cad_map.specs.Outcome.{MayRefuse};
+ghost use Rattle.cad_map.specs.Touched.{IsTouched};
+ghost use Rattle.cad_map.specs.Valid.{IsValid};
+ghost use Rattle.cad_rows.specs.declared.edits.Edit.TheVariants.{Enclose};
+ghost use Rattle.half_table.specs.Half.{forward_of};
+ghost use Rattle.cad_laws.specs.Tried.{IsTried};
+ghost use Rattle.cad_valid.specs.Near.{HoldsMap, touched_of};
+ghost use Rattle.cad_surgery.specs.declared.record.SmallRecord.TheVariants.{Enclose as EncloseRecord};
+ghost use Rattle.cad_surgery.specs.Enclosing.{LeadsBy, enclosed_by, strings_by, parcel_by};
+ghost use Rattle.cad_surgery.specs.Parts.{map_of, kept_at};
+ghost use Rattle.cad_surgery.specs.Placed.{AreOfHoles};
+ghost use Rattle.cad_surgery.specs.Proper.{IsProper};
+ghost use Rattle.cad_surgery.specs.Record.{edit_of, Holds};
+ghost use Rattle.cad_surgery.specs.Work.{TakesWork};
+
+use crate::draft::Draft;
+use crate::edits::counted::is_work_in_range;
+use crate::edits::enclosing::open;
+use crate::edits::enclosing_tried::{begin_enclose, begin_open};
+use crate::edits::hidden::drop_hidden;
+use crate::edits::moved::moved_halves;
+use crate::edits::split::forward;
+use crate::record::SmallRecord;
+use cad_edit::rows_along;
+use cad_rings::Ring;
+use cad_rows::{
+    Face, Label, Memory, Numbers, ParcelNo, ParcelRow, PointNo, Refusal, SourceNo, StringNo,
+    StringRow,
+};
+use cad_valid::{Touched, first_broken_near};
+use half_table::{Half, Tally};
+use std::alloc::Global;
+
+/// What an enclosure names and gives.
+#[derive(Clone, Copy)]
+pub(crate) struct Enclosure<'a> {
+    pub(crate) face: Face,
+    pub(crate) points: &'a [PointNo],
+    pub(crate) strings: &'a [StringNo],
+    pub(crate) parcel: ParcelNo,
+    pub(crate) label: &'a Label,
+    pub(crate) source: SourceNo,
+}
+
+// The first half of a path, and the others.
+fn first_and_rest(path: &[Half]) -> (&Half, &[Half])
+    requires { 0 < length path.now }
+    ensures { path.now ≡ result.0.now ∷ result.1.now }
+{
+    (&path[0], &path[1..])
+}
+
+// Encloses a part of a face with the rows that come, and takes it back where it breaks a rule.
+fn enclose_within_rules<T: Tally>(
+    draft: &mut Draft<T>,
+    enclosure: &Enclosure<'_>,
+    strings: Vec<StringRow>,
+    parcel: ParcelRow,
+    path: &[Half],
+    moved: &[Half],
+    touched: &Touched,
+) -> Result<(), Refusal>
+    requires tried { IsTried (map_of draft.old) (enclosed_by enclosure.now) }
+    requires strings { strings.items ≡ strings_by enclosure.now }
+    requires parcel { parcel ≡ parcel_by enclosure.now }
+    requires path { path.now ≡ map_by forward_of enclosure.now.strings.now }
+    requires holes { AreOfHoles (map_of draft.old) draft.old.table.rows enclosure.now.face
+        enclosure.now.points.now moved.now }
+    requires held { HoldsMap draft.old.grid (after (map_of draft.old) (enclosed_by enclosure.now)) }
+    requires touched { IsTouched (map_of draft.old)
+        (after (map_of draft.old) (enclosed_by enclosure.now)) (touched_of touched.now) }
+    requires proper { IsProper (map_of draft.old) draft.old.table.rows (kept_at draft.old) }
+    ensures made { OnOk result
+        (map_of draft.new ≡ after (map_of draft.old) (enclosed_by enclosure.now)) }
+    ensures valid { OnOk result (IsValid (map_of draft.new)) }
+    ensures refused { IfErr result (MayRefuse (map_of draft.old) (enclosed_by enclosure.now)) }
+    ensures err { OnErr result (map_of draft.new ≡ map_of draft.old) }
+    ensures grid { draft.new.grid ≡ draft.old.grid }
+    ensures proper { IsProper (map_of draft.new) draft.new.table.rows (kept_at draft.new) }
+    ensures work { TakesWork draft.old.table draft.new.table
+        (work_bound (map_of draft.old) (after (map_of draft.old) (enclosed_by enclosure.now))) }
+{
+    is_work_in_range(&draft.table);
+    let (first, rest) = first_and_rest(path);
+    let Ok(()) = begin_enclose(
+        &mut draft.rows,
+        &mut draft.table,
+        &mut draft.kept,
+        &mut draft.stars,
+        &enclosure.face,
+        strings,
+        parcel,
+        first,
+        rest,
+        moved,
+    ) else {
+        return Err(Refusal::Memory);
+    };
+    if let Some(rule) = first_broken_near(draft, draft.grid(), touched) {
+        open(
+            &mut draft.rows,
+            &mut draft.table,
+            &mut draft.kept,
+            &mut draft.stars,
+            &enclosure.face,
+            enclosure.strings,
+            enclosure.parcel,
+            first,
+            rest,
+            moved,
+        );
+        drop_hidden(draft, path);
+        return Err(Refusal::Breaks(rule));
+    }
+    Ok(())
+}
+
+// Encloses a part of a face again with the rows that come. Where memory runs out the map stays.
+fn enclose_again<T: Tally>(
+    draft: &mut Draft<T>,
+    enclosure: &Enclosure<'_>,
+    strings: Vec<StringRow>,
+    parcel: ParcelRow,
+    path: &[Half],
+    moved: &[Half],
+) -> Result<(), Memory>
+    requires tried { IsTried (map_of draft.old) (enclosed_by enclosure.now) }
+    requires strings { strings.items ≡ strings_by enclosure.now }
+    requires parcel { parcel ≡ parcel_by enclosure.now }
+    requires path { path.now ≡ map_by forward_of enclosure.now.strings.now }
+    requires holes { AreOfHoles (map_of draft.old) draft.old.table.rows enclosure.now.face
+        enclosure.now.points.now moved.now }
+    requires proper { IsProper (map_of draft.old) draft.old.table.rows (kept_at draft.old) }
+    ensures after { OnOk result
+        (map_of draft.new ≡ after (map_of draft.old) (enclosed_by enclosure.now)) }
+    ensures err { OnErr result (map_of draft.new ≡ map_of draft.old) }
+    ensures grid { draft.new.grid ≡ draft.old.grid }
+    ensures proper { IsProper (map_of draft.new) draft.new.table.rows (kept_at draft.new) }
+    ensures work { TakesWork draft.old.table draft.new.table
+        (work_bound (map_of draft.old) (after (map_of draft.old) (enclosed_by enclosure.now))) }
+{
+    is_work_in_range(&draft.table);
+    let (first, rest) = first_and_rest(path);
+    begin_enclose(
+        &mut draft.rows,
+        &mut draft.table,
+        &mut draft.kept,
+        &mut draft.stars,
+        &enclosure.face,
+        strings,
+        parcel,
+        first,
+        rest,
+        moved,
+    )
+}
+
+// The halves along strings, from their first points to their second.
+fn halves_along(alloc: Global, strings: &[StringNo]) -> Result<Vec<Half>, Memory>
+    ensures { IfOk result (λ path. path.items ≡ map_by forward_of strings.now) }
+{
+    let mut path = Vec::new(alloc);
+    for place in 0..strings.len() {
+        path.push(forward(&strings[place]))?;
+    }
+    Ok(path)
+}
+
+// Takes an enclosure back, with the halves along its strings.
+fn open_along<T: Tally>(
+    draft: &mut Draft<T>,
+    enclosure: &Enclosure<'_>,
+    path: &[Half],
+    moved: &[Half],
+) -> Result<(), Memory>
+    requires path { path.now ≡ map_by forward_of enclosure.now.strings.now }
+    requires given { GivesInRange (enclosed_by enclosure.now) }
+    requires made { (m : Map) × LeadsBy enclosure.now moved.now m (map_of draft.old) }
+    requires proper { IsProper (map_of draft.old) draft.old.table.rows (kept_at draft.old) }
+    ensures before { OnOk result ((m : Map) → LeadsBy enclosure.now moved.now m (map_of draft.old)
+        → map_of draft.new ≡ m) }
+    ensures err { OnErr result (map_of draft.new ≡ map_of draft.old) }
+    ensures grid { draft.new.grid ≡ draft.old.grid }
+    ensures proper { IsProper (map_of draft.new) draft.new.table.rows (kept_at draft.new) }
+    ensures work { (m : Map) → LeadsBy enclosure.now moved.now m (map_of draft.old)
+        → TakesWork draft.old.table draft.new.table (work_bound m (map_of draft.old)) }
+{
+    is_work_in_range(&draft.table);
+    let (first, rest) = first_and_rest(path);
+    begin_open(
+        &mut draft.rows,
+        &mut draft.table,
+        &mut draft.kept,
+        &mut draft.stars,
+        &enclosure.face,
+        enclosure.strings,
+        enclosure.parcel,
+        first,
+        rest,
+        moved,
+    )?;
+    drop_hidden(draft, path);
+    Ok(())
+}
+
+/// Takes an enclosure back. The halves name the rings that passed over. Where memory runs out the
+/// map stays.
+pub(crate) fn back_enclose<T: Tally>(
+    draft: &mut Draft<T>,
+    enclosure: &Enclosure<'_>,
+    moved: &[Half],
+) -> Result<(), Memory>
+    requires given { GivesInRange (enclosed_by enclosure.now) }
+    requires made { (m : Map) × LeadsBy enclosure.now moved.now m (map_of draft.old) }
+    requires proper { IsProper (map_of draft.old) draft.old.table.rows (kept_at draft.old) }
+    ensures before { OnOk result ((m : Map) → LeadsBy enclosure.now moved.now m (map_of draft.old)
+        → map_of draft.new ≡ m) }
+    ensures err { OnErr result (map_of draft.new ≡ map_of draft.old) }
+    ensures grid { draft.new.grid ≡ draft.old.grid }
+    ensures proper { IsProper (map_of draft.new) draft.new.table.rows (kept_at draft.new) }
+    ensures work { (m : Map) → LeadsBy enclosure.now moved.now m (map_of draft.old)
+        → TakesWork draft.old.table draft.new.table (work_bound m (map_of draft.old)) }
+{
+    is_work_in_range(&draft.table);
+    let path = halves_along(draft.rows.points.allocator(), enclosure.strings)?;
+    open_along(draft, enclosure, path.as_slice(), moved)
+}
+
+// The points of a ring, and the first of them once more.
+fn closed(alloc: Global, points: &[PointNo]) -> Result<Vec<PointNo>, Memory>
+    requires { 1 ≤ length points.now }
+    ensures { IfOk result (λ closed. closed.items ≡ points.now ++ start_of points.now ∷ []) }
+{
+    let mut closed = Vec::from_slice(alloc, points)?;
+    closed.push(points[0])?;
+    Ok(closed)
+}
+
+// The rows of the strings round an enclosure's points.
+fn rows_round(alloc: Global, enclosure: &Enclosure<'_>) -> Result<Vec<StringRow>, Memory>
+    requires long { 1 ≤ length enclosure.now.points.now }
+    requires as_many { length enclosure.now.strings.now ≡ length enclosure.now.points.now }
+    ensures { IfOk result (λ rows. rows.items ≡ strings_by enclosure.now) }
+{
+    let closed = closed(alloc, enclosure.points)?;
+    rows_along(
+        alloc,
+        closed.as_slice(),
+        enclosure.strings,
+        enclosure.source,
+    )
+}
+
+// The row of an enclosure's parcel.
+fn parcel_of(alloc: Global, enclosure: &Enclosure<'_>) -> Result<ParcelRow, Memory>
+    ensures { IfOk result (λ row. row ≡ parcel_by enclosure.now) }
+{
+    let mut sources = Numbers::new(alloc);
+    sources.push(enclosure.source)?;
+    let label = enclosure.label.copy()?;
+    Ok(ParcelRow {
+        number: enclosure.parcel,
+        label,
+        sources,
+    })
+}
+
+// What comes with an enclosure, and the halves that are kept of the holes that pass over.
+#[derive(Drop)]
+struct Coming {
+    strings: Vec<StringRow>,
+    parcel: ParcelRow,
+    path: Vec<Half>,
+    moved: Vec<Half>,
+}
+
+fn coming_by<T: Tally>(draft: &Draft<T>, enclosure: &Enclosure<'_>) -> Result<Coming, Memory>
+    requires { IsTried (map_of draft.now) (enclosed_by enclosure.now) }
+    ensures strings { IfOk result (λ c. c.strings.items ≡ strings_by enclosure.now) }
+    ensures parcel { IfOk result (λ c. c.parcel ≡ parcel_by enclosure.now) }
+    ensures path { IfOk result (λ c. c.path.items ≡ map_by forward_of enclosure.now.strings.now) }
+    ensures holes { IfOk result (λ c. AreOfHoles (map_of draft.now) draft.now.table.rows
+        enclosure.now.face enclosure.now.points.now c.moved.items) }
+{
+    let alloc = draft.rows.points.allocator();
+    let strings = rows_round(alloc, enclosure)?;
+    let parcel = parcel_of(alloc, enclosure)?;
+    let path = halves_along(alloc, enclosure.strings)?;
+    let ring = Ring::from_points(alloc, enclosure.points)?;
+    let moved = moved_halves(alloc, draft, &enclosure.face, &ring)?;
+    Ok(Coming {
+        strings,
+        parcel,
+        path,
+        moved,
+    })
+}
+
+/// Encloses a part of a face again. Where memory runs out the map stays.
+pub(crate) fn forward_enclose<T: Tally>(
+    draft: &mut Draft<T>,
+    enclosure: &Enclosure<'_>,
+) -> Result<(), Memory>
+    requires tried { IsTried (map_of draft.old) (enclosed_by enclosure.now) }
+    requires proper { IsProper (map_of draft.old) draft.old.table.rows (kept_at draft.old) }
+    ensures after { OnOk result
+        (map_of draft.new ≡ after (map_of draft.old) (enclosed_by enclosure.now)) }
+    ensures err { OnErr result (map_of draft.new ≡ map_of draft.old) }
+    ensures grid { draft.new.grid ≡ draft.old.grid }
+    ensures proper { IsProper (map_of draft.new) draft.new.table.rows (kept_at draft.new) }
+    ensures work { TakesWork draft.old.table draft.new.table
+        (work_bound (map_of draft.old) (after (map_of draft.old) (enclosed_by enclosure.now))) }
+{
+    is_work_in_range(&draft.table);
+    let coming = coming_by(draft, enclosure)?;
+    let Coming {
+        strings,
+        parcel,
+        path,
+        moved,
+    } = coming;
+    enclose_again(
+        draft,
+        enclosure,
+        strings,
+        parcel,
+        path.as_slice(),
+        moved.as_slice(),
+    )
+}
+
+// What the record of an enclosure keeps of the edit.
+#[derive(Drop)]
+struct Kept {
+    points: Numbers<PointNo>,
+    strings: Numbers<StringNo>,
+    label: Label,
+}
+
+fn kept_of(
+    points: &Numbers<PointNo>,
+    strings: &Numbers<StringNo>,
+    label: &Label,
+) -> Result<Kept, Memory>
+    ensures { IfOk result (λ k. k ≡ record { points = points.now; strings = strings.now; label = label.now }) }
+{
+    Ok(Kept {
+        points: points.copy()?,
+        strings: strings.copy()?,
+        label: label.copy()?,
+    })
+}
+
+// The record of an enclosure that these halves name the rings of.
+fn record_of_enclosure(
+    face: Face,
+    kept: Kept,
+    parcel: ParcelNo,
+    source: SourceNo,
+    moved: Vec<Half>,
+) -> SmallRecord
+    ensures { result
+        ≡ EncloseRecord face kept.points kept.strings parcel kept.label source moved }
+{
+    SmallRecord::Enclose {
+        face,
+        points: kept.points,
+        strings: kept.strings,
+        parcel,
+        label: kept.label,
+        source,
+        moved,
+    }
+}
+
+// Encloses a part of a face, and takes it back where it breaks a rule. Gives its record.
+fn enclose_recording<T: Tally>(
+    draft: &mut Draft<T>,
+    enclosure: &Enclosure<'_>,
+    kept: Kept,
+    touched: &Touched,
+) -> Result<SmallRecord, Refusal>
+    requires kept { kept ≡ record {
+      points = enclosure.now.points.now;
+      strings = enclosure.now.strings.now;
+      label = enclosure.now.label.now;
+    } }
+    requires tried { IsTried (map_of draft.old) (enclosed_by enclosure.now) }
+    requires held { HoldsMap draft.old.grid (after (map_of draft.old) (enclosed_by enclosure.now)) }
+    requires touched { IsTouched (map_of draft.old)
+        (after (map_of draft.old) (enclosed_by enclosure.now)) (touched_of touched.now) }
+    requires proper { IsProper (map_of draft.old) draft.old.table.rows (kept_at draft.old) }
+    ensures made { OnOk result
+        (map_of draft.new ≡ after (map_of draft.old) (enclosed_by enclosure.now)) }
+    ensures valid { OnOk result (IsValid (map_of draft.new)) }
+    ensures edit { IfOk result (λ r. edit_of r ≡ enclosed_by enclosure.now) }
+    ensures holds { IfOk result (λ r. Holds r (map_of draft.old)) }
+    ensures refused { IfErr result (MayRefuse (map_of draft.old) (enclosed_by enclosure.now)) }
+    ensures err { OnErr result (map_of draft.new ≡ map_of draft.old) }
+    ensures grid { draft.new.grid ≡ draft.old.grid }
+    ensures proper { IsProper (map_of draft.new) draft.new.table.rows (kept_at draft.new) }
+    ensures work { TakesWork draft.old.table draft.new.table
+        (work_bound (map_of draft.old) (after (map_of draft.old) (enclosed_by enclosure.now))) }
+{
+    is_work_in_range(&draft.table);
+    let Ok(coming) = coming_by(draft, enclosure) else {
+        return Err(Refusal::Memory);
+    };
+    let Coming {
+        strings,
+        parcel,
+        path,
+        moved,
+    } = coming;
+    enclose_within_rules(
+        draft,
+        enclosure,
+        strings,
+        parcel,
+        path.as_slice(),
+        moved.as_slice(),
+        touched,
+    )?;
+    Ok(record_of_enclosure(
+        enclosure.face,
+        kept,
+        enclosure.parcel,
+        enclosure.source,
+        moved,
+    ))
+}
+
+/// Encloses a part of a face, and takes it back where it breaks a rule. The grid holds the strings
+/// and points of the map after it.
+pub(crate) fn try_enclose<'a, T: Tally>(
+    draft: &mut Draft<T>,
+    face: Face,
+    points: &'a Numbers<PointNo>,
+    strings: &'a Numbers<StringNo>,
+    parcel: ParcelNo,
+    label: &'a Label,
+    source: SourceNo,
+    touched: &Touched,
+) -> Result<SmallRecord, Refusal>
+    requires tried { IsTried (map_of draft.old)
+        (Enclose face points.now strings.now parcel label.now source) }
+    requires held { HoldsMap draft.old.grid
+        (after (map_of draft.old) (Enclose face points.now strings.now parcel label.now source)) }
+    requires touched { IsTouched (map_of draft.old)
+        (after (map_of draft.old) (Enclose face points.now strings.now parcel label.now source))
+        (touched_of touched.now) }
+    requires proper { IsProper (map_of draft.old) draft.old.table.rows (kept_at draft.old) }
+    ensures made { OnOk result (map_of draft.new
+        ≡ after (map_of draft.old) (Enclose face points.now strings.now parcel label.now source)) }
+    ensures valid { OnOk result (IsValid (map_of draft.new)) }
+    ensures edit { IfOk result
+        (λ r. edit_of r ≡ Enclose face points.now strings.now parcel label.now source) }
+    ensures holds { IfOk result (λ r. Holds r (map_of draft.old)) }
+    ensures refused { IfErr result (MayRefuse (map_of draft.old)
+        (Enclose face points.now strings.now parcel label.now source)) }
+    ensures err { OnErr result (map_of draft.new ≡ map_of draft.old) }
+    ensures grid { draft.new.grid ≡ draft.old.grid }
+    ensures proper { IsProper (map_of draft.new) draft.new.table.rows (kept_at draft.new) }
+    ensures work { TakesWork draft.old.table draft.new.table
+        (work_bound (map_of draft.old)
+        (after (map_of draft.old) (Enclose face points.now strings.now parcel label.now source))) }
+{
+    is_work_in_range(&draft.table);
+    let Ok(kept) = kept_of(points, strings, label) else {
+        return Err(Refusal::Memory);
+    };
+    let ring = points.as_slice();
+    let along = strings.as_slice();
+    let enclosure = Enclosure {
+        face,
+        points: ring,
+        strings: along,
+        parcel,
+        label,
+        source,
+    };
+    enclose_recording(draft, &enclosure, kept, touched)
+}

@@ -1,0 +1,260 @@
+//! A join on a map on half-edges: tried, taken back, and made again.
+ghost use Rattle.std.specs.Prelude.{◌≡◌, ◌∷◌, [], IfOk, IfErr, OnOk, OnErr};
+ghost use Rattle.cad_map.specs.Asked.{GivesInRange};
+ghost use Rattle.cad_map.specs.Changes.{by_number};
+ghost use Rattle.cad_map.specs.Costs.{work_bound};
+ghost use Rattle.cad_map.specs.Effects.{after};
+ghost use Rattle.cad_map.specs.Map.{Map, strings_at};
+ghost use Rattle.cad_map.specs.Outcome.{MayRefuse};
+ghost use Rattle.cad_map.specs.Touched.{IsTouched};
+ghost use Rattle.cad_map.specs.Valid.{IsValid};
+ghost use Rattle.cad_laws.specs.Joining.{FarEndsAreApart};
+ghost use Rattle.cad_laws.specs.Tried.{IsTried};
+ghost use Rattle.cad_rows.specs.declared.edits.Edit.TheVariants.{Join};
+ghost use Rattle.cad_rows.specs.declared.rows.StringRow.{StringRow as StringOf};
+ghost use Rattle.cad_valid.specs.Near.{HoldsMap, touched_of};
+ghost use Rattle.cad_surgery.specs.Joined.{IsOfJoin, joining_of, join_record};
+ghost use Rattle.cad_surgery.specs.Parts.{map_of, kept_at};
+ghost use Rattle.cad_surgery.specs.Proper.{IsProper};
+ghost use Rattle.cad_surgery.specs.Record.{edit_of, Holds, Belongs};
+ghost use Rattle.cad_surgery.specs.Work.{TakesWork};
+
+use crate::draft::Draft;
+use crate::edits::counted::is_work_in_range;
+use crate::edits::hidden::drop_hidden;
+use crate::edits::join::{JoinedRows, half_from, half_to, unjoin};
+use crate::edits::join_tried::{begin_join, begin_unjoin};
+use crate::edits::joining::{Joining, are_far_ends_joined, joining_at};
+use crate::edits::split::forward;
+use crate::record::SmallRecord;
+use cad_rows::{Memory, PointNo, Refusal, Rule, StringNo};
+use cad_valid::{Touched, first_broken_near};
+use half_table::Tally;
+
+// Joins two strings whose far ends aren't joined, and takes it back where it breaks a rule. Gives
+// the rows that go.
+fn join_within_rules<T: Tally>(
+    draft: &mut Draft<T>,
+    point: PointNo,
+    joining: Joining,
+    touched: &Touched,
+) -> Result<JoinedRows, Refusal>
+    requires tried { IsTried (map_of draft.old) (Join point joining.row.number) }
+    requires apart { FarEndsAreApart (map_of draft.old) (Join point joining.row.number) }
+    requires rows { (s t : StringOf) → by_number (strings_at (map_of draft.old) point) ≡ s ∷ t ∷ []
+        → joining ≡ joining_of point joining.row.number s t }
+    requires held { HoldsMap draft.old.grid (after (map_of draft.old) (Join point joining.row.number)) }
+    requires touched { IsTouched (map_of draft.old)
+        (after (map_of draft.old) (Join point joining.row.number)) (touched_of touched.now) }
+    requires proper { IsProper (map_of draft.old) draft.old.table.rows (kept_at draft.old) }
+    ensures made { OnOk result (map_of draft.new
+        ≡ after (map_of draft.old) (Join point joining.row.number)) }
+    ensures valid { OnOk result (IsValid (map_of draft.new)) }
+    ensures point { IfOk result (λ r. r.point.number ≡ point) }
+    ensures holds { IfOk result (λ r. Holds (join_record r joining.row.number) (map_of draft.old)) }
+    ensures refused { IfErr result (MayRefuse (map_of draft.old) (Join point joining.row.number)) }
+    ensures err { OnErr result (map_of draft.new ≡ map_of draft.old) }
+    ensures grid { draft.new.grid ≡ draft.old.grid }
+    ensures proper { IsProper (map_of draft.new) draft.new.table.rows (kept_at draft.new) }
+    ensures work { TakesWork draft.old.table draft.new.table
+        (work_bound (map_of draft.old) (after (map_of draft.old) (Join point joining.row.number))) }
+{
+    is_work_in_range(&draft.table);
+    let Joining { first, second, row } = joining;
+    let string = row.number;
+    let Ok(joined) = begin_join(
+        &mut draft.rows,
+        &mut draft.table,
+        &mut draft.kept,
+        &mut draft.stars,
+        point,
+        first,
+        second,
+        row,
+    ) else {
+        return Err(Refusal::Memory);
+    };
+    if let Some(rule) = first_broken_near(draft, draft.grid(), touched) {
+        unjoin(
+            &mut draft.rows,
+            &mut draft.table,
+            &mut draft.kept,
+            &mut draft.stars,
+            joined,
+            string,
+        );
+        drop_hidden(draft, &[forward(&string)]);
+        return Err(Refusal::Breaks(rule));
+    }
+    let before = half_to(&joined.first, &point);
+    let behind = half_from(&joined.second, &point);
+    drop_hidden(draft, &[before, behind]);
+    Ok(joined)
+}
+
+// The record of a join that took these rows and brought the string.
+fn record_of_join(joined: JoinedRows, string: StringNo) -> SmallRecord
+    ensures { result ≡ join_record joined string }
+{
+    SmallRecord::Join {
+        row: joined.point,
+        place: joined.point_place,
+        first: joined.first,
+        first_place: joined.first_place,
+        second: joined.second,
+        second_place: joined.second_place,
+        string,
+    }
+}
+
+/// Joins the two strings at a point, and takes it back where it breaks a rule. The grid holds the
+/// strings and points of the map after it.
+///
+/// Where the far ends are joined already, nothing is tried: the join breaks the rule on strings that
+/// meet.
+pub(crate) fn try_join<T: Tally>(
+    draft: &mut Draft<T>,
+    point: PointNo,
+    string: StringNo,
+    touched: &Touched,
+) -> Result<SmallRecord, Refusal>
+    requires tried { IsTried (map_of draft.old) (Join point string) }
+    requires held { HoldsMap draft.old.grid (after (map_of draft.old) (Join point string)) }
+    requires touched { IsTouched (map_of draft.old) (after (map_of draft.old) (Join point string))
+        (touched_of touched.now) }
+    requires proper { IsProper (map_of draft.old) draft.old.table.rows (kept_at draft.old) }
+    ensures made { OnOk result (map_of draft.new ≡ after (map_of draft.old) (Join point string)) }
+    ensures valid { OnOk result (IsValid (map_of draft.new)) }
+    ensures edit { IfOk result (λ r. edit_of r ≡ Join point string) }
+    ensures holds { IfOk result (λ r. Holds r (map_of draft.old)) }
+    ensures refused { IfErr result (MayRefuse (map_of draft.old) (Join point string)) }
+    ensures err { OnErr result (map_of draft.new ≡ map_of draft.old) }
+    ensures grid { draft.new.grid ≡ draft.old.grid }
+    ensures proper { IsProper (map_of draft.new) draft.new.table.rows (kept_at draft.new) }
+    ensures work { TakesWork draft.old.table draft.new.table
+        (work_bound (map_of draft.old) (after (map_of draft.old) (Join point string))) }
+{
+    if are_far_ends_joined(draft, point) {
+        return Err(Refusal::Breaks(Rule::V4));
+    }
+    let Ok(joining) = joining_at(draft, point, string) else {
+        return Err(Refusal::Memory);
+    };
+    match join_within_rules(draft, point, joining, touched) {
+        Ok(joined) => Ok(record_of_join(joined, string)),
+        Err(refusal) => Err(refusal),
+    }
+}
+
+// The rows that a join took and the string that it brought, from its record.
+fn rows_of_join(change: &SmallRecord) -> Result<(JoinedRows, StringNo), Memory>
+    requires { IsOfJoin change.now }
+    ensures { IfOk result (λ r. change.now ≡ join_record r.0 r.1) }
+{
+    let SmallRecord::Join {
+        row,
+        place,
+        first,
+        first_place,
+        second,
+        second_place,
+        string,
+    } = change
+    else {
+        unreachable!()
+    };
+    let joined = JoinedRows {
+        point: row.copy()?,
+        point_place: *place,
+        first: first.copy()?,
+        first_place: *first_place,
+        second: second.copy()?,
+        second_place: *second_place,
+    };
+    Ok((joined, *string))
+}
+
+/// Takes a join back: puts the point and the two strings in at their places again. Where memory runs
+/// out the map stays.
+pub(crate) fn back_join<T: Tally>(draft: &mut Draft<T>, change: &SmallRecord) -> Result<(), Memory>
+    requires join { IsOfJoin change.now }
+    requires given { GivesInRange (edit_of change.now) }
+    requires made { (m : Map) × Belongs change.now m (map_of draft.old) }
+    requires proper { IsProper (map_of draft.old) draft.old.table.rows (kept_at draft.old) }
+    ensures before { OnOk result ((m : Map) → Belongs change.now m (map_of draft.old)
+        → map_of draft.new ≡ m) }
+    ensures err { OnErr result (map_of draft.new ≡ map_of draft.old) }
+    ensures grid { draft.new.grid ≡ draft.old.grid }
+    ensures proper { IsProper (map_of draft.new) draft.new.table.rows (kept_at draft.new) }
+    ensures work { (m : Map) → Belongs change.now m (map_of draft.old)
+        → TakesWork draft.old.table draft.new.table (work_bound m (map_of draft.old)) }
+{
+    is_work_in_range(&draft.table);
+    let (joined, string) = rows_of_join(change)?;
+    begin_unjoin(
+        &mut draft.rows,
+        &mut draft.table,
+        &mut draft.kept,
+        &mut draft.stars,
+        joined,
+        string,
+    )?;
+    drop_hidden(draft, &[forward(&string)]);
+    Ok(())
+}
+
+// Joins two strings whose far ends aren't joined, where the map after it keeps the rules.
+fn join_again<T: Tally>(
+    draft: &mut Draft<T>,
+    point: PointNo,
+    joining: Joining,
+) -> Result<(), Memory>
+    requires tried { IsTried (map_of draft.old) (Join point joining.row.number) }
+    requires apart { FarEndsAreApart (map_of draft.old) (Join point joining.row.number) }
+    requires rows { (s t : StringOf) → by_number (strings_at (map_of draft.old) point) ≡ s ∷ t ∷ []
+        → joining ≡ joining_of point joining.row.number s t }
+    requires proper { IsProper (map_of draft.old) draft.old.table.rows (kept_at draft.old) }
+    ensures after { OnOk result (map_of draft.new
+        ≡ after (map_of draft.old) (Join point joining.row.number)) }
+    ensures err { OnErr result (map_of draft.new ≡ map_of draft.old) }
+    ensures grid { draft.new.grid ≡ draft.old.grid }
+    ensures proper { IsProper (map_of draft.new) draft.new.table.rows (kept_at draft.new) }
+    ensures work { TakesWork draft.old.table draft.new.table
+        (work_bound (map_of draft.old) (after (map_of draft.old) (Join point joining.row.number))) }
+{
+    is_work_in_range(&draft.table);
+    let joined = begin_join(
+        &mut draft.rows,
+        &mut draft.table,
+        &mut draft.kept,
+        &mut draft.stars,
+        point,
+        joining.first,
+        joining.second,
+        joining.row,
+    )?;
+    let first = half_to(&joined.first, &point);
+    let second = half_from(&joined.second, &point);
+    drop_hidden(draft, &[first, second]);
+    Ok(())
+}
+
+/// Joins two strings again. Where memory runs out the map stays.
+pub(crate) fn forward_join<T: Tally>(
+    draft: &mut Draft<T>,
+    point: PointNo,
+    string: StringNo,
+) -> Result<(), Memory>
+    requires tried { IsTried (map_of draft.old) (Join point string) }
+    requires leads { IsValid (after (map_of draft.old) (Join point string)) }
+    requires proper { IsProper (map_of draft.old) draft.old.table.rows (kept_at draft.old) }
+    ensures after { OnOk result (map_of draft.new ≡ after (map_of draft.old) (Join point string)) }
+    ensures err { OnErr result (map_of draft.new ≡ map_of draft.old) }
+    ensures grid { draft.new.grid ≡ draft.old.grid }
+    ensures proper { IsProper (map_of draft.new) draft.new.table.rows (kept_at draft.new) }
+    ensures work { TakesWork draft.old.table draft.new.table
+        (work_bound (map_of draft.old) (after (map_of draft.old) (Join point string))) }
+{
+    let joining = joining_at(draft, point, string)?;
+    join_again(draft, point, joining)
+}

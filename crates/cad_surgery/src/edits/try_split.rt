@@ -1,0 +1,244 @@
+//! A split on a map on half-edges: tried, taken back, and made again.
+ghost use Rattle.std.specs.Prelude.{◌≡◌, Some, IsSome, slice_get, IfOk, IfErr, OnOk, OnErr};
+ghost use Rattle.cad_map.specs.Asked.{GivesInRange};
+ghost use Rattle.cad_map.specs.Costs.{work_bound};
+ghost use Rattle.cad_map.specs.Effects.{after};
+ghost use Rattle.cad_map.specs.Map.{Map, string_of};
+ghost use Rattle.cad_map.specs.Outcome.{MayRefuse};
+ghost use Rattle.cad_map.specs.Touched.{IsTouched};
+ghost use Rattle.cad_map.specs.Valid.{IsValid};
+ghost use Rattle.cad_laws.specs.Tried.{IsTried};
+ghost use Rattle.cad_rows.specs.declared.rows.StringRow.{StringRow as StringRowOf};
+ghost use Rattle.cad_valid.specs.Near.{HoldsMap, touched_of};
+ghost use Rattle.cad_surgery.specs.Parts.{map_of, kept_at};
+ghost use Rattle.cad_surgery.specs.Proper.{IsProper};
+ghost use Rattle.cad_surgery.specs.Record.{edit_of, Holds, IsMadeOf};
+ghost use Rattle.cad_surgery.specs.Rows.{map_in};
+ghost use Rattle.cad_surgery.specs.Splitting.{split_by, split_record, split_rows};
+ghost use Rattle.cad_surgery.specs.Work.{TakesWork};
+
+use crate::draft::Draft;
+use crate::edits::counted::is_work_in_range;
+use crate::edits::hidden::drop_hidden;
+use crate::edits::split::{forward, unsplit};
+use crate::edits::split_tried::{begin_split, begin_unsplit};
+use crate::map_rows::MapRows;
+use crate::record::SmallRecord;
+use cad_rows::{Memory, Numbers, PointNo, PointRow, Refusal, StringNo, StringRow};
+use cad_valid::{Touched, first_broken_near};
+use geo_exact::Pt;
+use half_table::Tally;
+
+/// What a split gives: the new point, its position, and the numbers of the two strings.
+#[derive(Clone, Copy, Debug)]
+pub(crate) struct Halving {
+    pub(crate) point: PointNo,
+    pub(crate) position: Pt,
+    pub(crate) first: StringNo,
+    pub(crate) second: StringNo,
+}
+
+/// The rows that a split brings.
+#[derive(Drop)]
+pub(crate) struct SplitRows {
+    pub(crate) point: PointRow,
+    pub(crate) first: StringRow,
+    pub(crate) second: StringRow,
+}
+
+// The rows that a split of a string brings.
+fn rows_of_split(rows: &MapRows, string: &StringNo, halving: &Halving) -> Result<SplitRows, Memory>
+    requires { IsSome (string_of (map_in rows.now) string.now) }
+    ensures { (row : StringRowOf) → string_of (map_in rows.now) string.now ≡ Some row
+        → IfOk result (λ r. r ≡ split_rows row halving.now) }
+{
+    let row = rows.strings.get(string.get()).unwrap();
+    Ok(SplitRows {
+        point: PointRow {
+            number: halving.point,
+            position: halving.position,
+            sources: Numbers::new(rows.points.allocator()),
+        },
+        first: StringRow {
+            number: halving.first,
+            from: row.from,
+            to: halving.point,
+            sources: row.sources.copy()?,
+        },
+        second: StringRow {
+            number: halving.second,
+            from: halving.point,
+            to: row.to,
+            sources: row.sources.copy()?,
+        },
+    })
+}
+
+// Splits a string with the rows that come, and takes it back where it breaks a rule. Gives the
+// string's row with its place.
+fn split_within_rules<T: Tally>(
+    draft: &mut Draft<T>,
+    string: StringNo,
+    halving: &Halving,
+    coming: SplitRows,
+    touched: &Touched,
+) -> Result<(usize, StringRow), Refusal>
+    requires tried { IsTried (map_of draft.old) (split_by string halving.now) }
+    requires rows { (row : StringRowOf) → string_of (map_of draft.old) string ≡ Some row
+        → coming ≡ split_rows row halving.now }
+    requires held { HoldsMap draft.old.grid
+        (after (map_of draft.old) (split_by string halving.now)) }
+    requires touched { IsTouched (map_of draft.old)
+        (after (map_of draft.old) (split_by string halving.now)) (touched_of touched.now) }
+    requires proper { IsProper (map_of draft.old) draft.old.table.rows (kept_at draft.old) }
+    ensures made { OnOk result (map_of draft.new
+        ≡ after (map_of draft.old) (split_by string halving.now)) }
+    ensures valid { OnOk result (IsValid (map_of draft.new)) }
+    ensures row { IfOk result (λ r. slice_get (map_of draft.old).strings r.0 ≡ Some r.1) }
+    ensures found { IfOk result (λ r. string_of (map_of draft.old) string ≡ Some r.1) }
+    ensures refused { IfErr result (MayRefuse (map_of draft.old) (split_by string halving.now)) }
+    ensures err { OnErr result (map_of draft.new ≡ map_of draft.old) }
+    ensures grid { draft.new.grid ≡ draft.old.grid }
+    ensures proper { IsProper (map_of draft.new) draft.new.table.rows (kept_at draft.new) }
+    ensures work { TakesWork draft.old.table draft.new.table
+        (work_bound (map_of draft.old) (after (map_of draft.old) (split_by string halving.now))) }
+{
+    is_work_in_range(&draft.table);
+    let Ok((place, row)) = begin_split(
+        &mut draft.rows,
+        &mut draft.table,
+        &mut draft.kept,
+        &mut draft.stars,
+        string,
+        coming.point,
+        coming.first,
+        coming.second,
+    ) else {
+        return Err(Refusal::Memory);
+    };
+    if let Some(rule) = first_broken_near(draft, draft.grid(), touched) {
+        unsplit(
+            &mut draft.rows,
+            &mut draft.table,
+            &mut draft.kept,
+            &mut draft.stars,
+            row,
+            place,
+            halving.point,
+            halving.first,
+            halving.second,
+        );
+        drop_hidden(draft, &[forward(&halving.first), forward(&halving.second)]);
+        return Err(Refusal::Breaks(rule));
+    }
+    drop_hidden(draft, &[forward(&string)]);
+    Ok((place, row))
+}
+
+/// Splits a string, and takes it back where it breaks a rule. The grid holds the strings and points
+/// of the map after it.
+pub(crate) fn try_split<T: Tally>(
+    draft: &mut Draft<T>,
+    string: StringNo,
+    halving: &Halving,
+    touched: &Touched,
+) -> Result<SmallRecord, Refusal>
+    requires tried { IsTried (map_of draft.old) (split_by string halving.now) }
+    requires held { HoldsMap draft.old.grid
+        (after (map_of draft.old) (split_by string halving.now)) }
+    requires touched { IsTouched (map_of draft.old)
+        (after (map_of draft.old) (split_by string halving.now)) (touched_of touched.now) }
+    requires proper { IsProper (map_of draft.old) draft.old.table.rows (kept_at draft.old) }
+    ensures made { OnOk result (map_of draft.new
+        ≡ after (map_of draft.old) (split_by string halving.now)) }
+    ensures valid { OnOk result (IsValid (map_of draft.new)) }
+    ensures edit { IfOk result (λ r. edit_of r ≡ split_by string halving.now) }
+    ensures holds { IfOk result (λ r. Holds r (map_of draft.old)) }
+    ensures refused { IfErr result (MayRefuse (map_of draft.old) (split_by string halving.now)) }
+    ensures err { OnErr result (map_of draft.new ≡ map_of draft.old) }
+    ensures grid { draft.new.grid ≡ draft.old.grid }
+    ensures proper { IsProper (map_of draft.new) draft.new.table.rows (kept_at draft.new) }
+    ensures work { TakesWork draft.old.table draft.new.table
+        (work_bound (map_of draft.old) (after (map_of draft.old) (split_by string halving.now))) }
+{
+    let Ok(coming) = rows_of_split(&draft.rows, &string, halving) else {
+        return Err(Refusal::Memory);
+    };
+    let (place, row) = split_within_rules(draft, string, halving, coming, touched)?;
+    Ok(SmallRecord::Split {
+        row,
+        place,
+        point: halving.point,
+        position: halving.position,
+        first: halving.first,
+        second: halving.second,
+    })
+}
+
+/// Takes a split back: puts the string in at its place again. Where memory runs out the map stays.
+pub(crate) fn back_split<T: Tally>(
+    draft: &mut Draft<T>,
+    row: &StringRow,
+    place: usize,
+    halving: &Halving,
+) -> Result<(), Memory>
+    requires given { GivesInRange (split_by row.now.number halving.now) }
+    requires made { (m : Map) × IsMadeOf (split_record row.now place halving.now) m
+        × (map_of draft.old ≡ after m (split_by row.now.number halving.now)) }
+    requires proper { IsProper (map_of draft.old) draft.old.table.rows (kept_at draft.old) }
+    ensures before { OnOk result ((m : Map) → IsMadeOf (split_record row.now place halving.now) m
+        → map_of draft.old ≡ after m (split_by row.now.number halving.now) → map_of draft.new ≡ m) }
+    ensures err { OnErr result (map_of draft.new ≡ map_of draft.old) }
+    ensures grid { draft.new.grid ≡ draft.old.grid }
+    ensures proper { IsProper (map_of draft.new) draft.new.table.rows (kept_at draft.new) }
+    ensures work { (m : Map) → IsMadeOf (split_record row.now place halving.now) m
+        → map_of draft.old ≡ after m (split_by row.now.number halving.now)
+        → TakesWork draft.old.table draft.new.table (work_bound m (map_of draft.old)) }
+{
+    is_work_in_range(&draft.table);
+    begin_unsplit(
+        &mut draft.rows,
+        &mut draft.table,
+        &mut draft.kept,
+        &mut draft.stars,
+        row.copy()?,
+        place,
+        halving.point,
+        halving.first,
+        halving.second,
+    )?;
+    drop_hidden(draft, &[forward(&halving.first), forward(&halving.second)]);
+    Ok(())
+}
+
+/// Splits a string again. Where memory runs out the map stays.
+pub(crate) fn forward_split<T: Tally>(
+    draft: &mut Draft<T>,
+    string: StringNo,
+    halving: &Halving,
+) -> Result<(), Memory>
+    requires tried { IsTried (map_of draft.old) (split_by string halving.now) }
+    requires proper { IsProper (map_of draft.old) draft.old.table.rows (kept_at draft.old) }
+    ensures after { OnOk result (map_of draft.new
+        ≡ after (map_of draft.old) (split_by string halving.now)) }
+    ensures err { OnErr result (map_of draft.new ≡ map_of draft.old) }
+    ensures grid { draft.new.grid ≡ draft.old.grid }
+    ensures proper { IsProper (map_of draft.new) draft.new.table.rows (kept_at draft.new) }
+    ensures work { TakesWork draft.old.table draft.new.table
+        (work_bound (map_of draft.old) (after (map_of draft.old) (split_by string halving.now))) }
+{
+    let coming = rows_of_split(&draft.rows, &string, halving)?;
+    is_work_in_range(&draft.table);
+    begin_split(
+        &mut draft.rows,
+        &mut draft.table,
+        &mut draft.kept,
+        &mut draft.stars,
+        string,
+        coming.point,
+        coming.first,
+        coming.second,
+    )?;
+    drop_hidden(draft, &[forward(&string)]);
+    Ok(())
+}
