@@ -17,13 +17,26 @@ pub struct PlanString {
 
 /// The rows of a plan, in the order of its records: each in range, none of its lists of sources too
 /// long or with a number twice, and not too many rows of a kind.
-#[derive(Debug, Drop)]
+#[derive(Debug)]
 pub struct PlanRows {
     pub sources: Vec<SourceRow>,
     pub points: Vec<PointRow>,
     pub parcels: Vec<ParcelRow>,
     pub strings: Vec<PlanString>,
     pub retired: Vec<ParcelNo>,
+}
+
+// Written out, so that the end of one is a single call in a caller's proof.
+impl Drop for PlanRows {
+    fn drop(self) {
+        let PlanRows {
+            sources: _sources,
+            points: _points,
+            parcels: _parcels,
+            strings: _strings,
+            retired: _retired,
+        } = self;
+    }
 }
 
 impl Model for PlanRows {

@@ -5,7 +5,7 @@ use crate::names::{Face, Item};
 use crate::numbers::{ParcelNo, PointNo, SourceNo, StringNo};
 
 /// One edit of a map. Coordinates are in millimetres, and may be out of range.
-#[derive(Debug, Drop)]
+#[derive(Debug)]
 pub enum Edit {
     /// A new source.
     AddSource {
@@ -80,4 +80,71 @@ pub enum Edit {
         label: Label,
         source: SourceNo,
     },
+}
+
+// Written out, so that the end of one is a single call in a caller's proof.
+impl Drop for Edit {
+    fn drop(self) {
+        match self {
+            Edit::AddSource {
+                source: _source,
+                text: _text,
+            } => {}
+            Edit::AddPoint {
+                point: _point,
+                x: _x,
+                y: _y,
+            } => {}
+            Edit::DropPoint { point: _point } => {}
+            Edit::Split {
+                string: _string,
+                point: _point,
+                x: _x,
+                y: _y,
+                first: _first,
+                second: _second,
+            } => {}
+            Edit::Join {
+                point: _point,
+                string: _string,
+            } => {}
+            Edit::Divide {
+                face: _face,
+                chain: _chain,
+                strings: _strings,
+                parcel: _parcel,
+                label: _label,
+                source: _source,
+            } => {}
+            Edit::Merge {
+                kept: _kept,
+                ended: _ended,
+            } => {}
+            Edit::Move {
+                point: _point,
+                x: _x,
+                y: _y,
+            } => {}
+            Edit::Attach {
+                item: _item,
+                source: _source,
+            } => {}
+            Edit::Detach {
+                item: _item,
+                source: _source,
+            } => {}
+            Edit::Rename {
+                parcel: _parcel,
+                label: _label,
+            } => {}
+            Edit::Enclose {
+                face: _face,
+                points: _points,
+                strings: _strings,
+                parcel: _parcel,
+                label: _label,
+                source: _source,
+            } => {}
+        }
+    }
 }

@@ -20,11 +20,21 @@ use std::marker::Model;
 ///
 /// To look a row up by its number takes a look into the table; a place, and the row at a place,
 /// take time by the number of blocks and the length of one.
-#[derive(Drop)]
 pub struct EntryList<V> {
     pub(crate) slots: IndexMap<u64, Option<V>>,
     pub(crate) live: Marks,
     pub(crate) len: usize,
+}
+
+// Written out, so that the end of one is a single call in a caller's proof.
+impl<V: Drop> Drop for EntryList<V> {
+    fn drop(self) {
+        let EntryList {
+            slots: _slots,
+            live: _live,
+            len: _len,
+        } = self;
+    }
 }
 
 impl<V> Model for EntryList<V> {

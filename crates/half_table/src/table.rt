@@ -20,10 +20,19 @@ use std::marker::Model;
 /// A doubly connected edge list: for each string the records of its two half-edges, with origin,
 /// next, prev and incident face. The twin of a half-edge is the other one of its string. A tally
 /// counts the work on the table.
-#[derive(Drop)]
 pub struct HalfTable<T: Tally> {
     rows: Rows,
     tally: T,
+}
+
+// Written out, so that the end of one is a single call in a caller's proof.
+impl<T: Tally> Drop for HalfTable<T> {
+    fn drop(self) {
+        let HalfTable {
+            rows: _rows,
+            tally: _tally,
+        } = self;
+    }
 }
 
 impl<T: Tally> Model for HalfTable<T> {

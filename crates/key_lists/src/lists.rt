@@ -11,9 +11,15 @@ use std::marker::Model;
 /// Only `reserve` takes memory, and it changes no item. A key keeps its list with its room, also
 /// where no item is left, so a change that is taken back needs no memory either. Each call but
 /// `reserve` takes a look into the table, and no time by the length of the list.
-#[derive(Drop)]
 pub struct KeyLists<X: Copy> {
     lists: IndexMap<u64, Vec<X>>,
+}
+
+// Written out, so that the end of one is a single call in a caller's proof.
+impl<X: Copy> Drop for KeyLists<X> {
+    fn drop(self) {
+        let KeyLists { lists: _lists } = self;
+    }
 }
 
 impl<X: Copy> Model for KeyLists<X> {
