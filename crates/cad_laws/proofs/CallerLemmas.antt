@@ -31,3 +31,5 @@ pub use Rattle.cad_laws.proofs.CountedRings.{rings-counted_by}
 pub use Rattle.cad_laws.proofs.CountedShared.{shared-counted}
 -- the faces of sides, where the rings are whole
 pub use Rattle.cad_laws.proofs.WholeFaces.{one-ring, face-told, one-face, side-face, side-string, string-sides, faces-differ}
+-- rows that are put back, or changed and changed back
+pub use Rattle.cad_laws.proofs.RowsBack.{filter-push, found-at, found-changed, insert-found, insert-with, insert-without, none-any, none-taken, placed-within, with-again, with-same, without-push}

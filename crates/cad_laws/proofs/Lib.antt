@@ -30,3 +30,4 @@ pub mod CountedShared
 pub mod WholeFaces
 pub mod WorkedCounts
 pub mod NamedParcels
+pub mod RowsBack

@@ -6,3 +6,4 @@ pub mod Local
 pub mod Tables
 pub mod Touching
 pub mod Counts
+pub mod Taken

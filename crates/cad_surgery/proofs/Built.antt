@@ -6,17 +6,17 @@ use Rattle.cad_map.specs.Map.{Map}
 use Rattle.cad_map.specs.Rings.{HasWholeRings}
 use Rattle.half_table.specs.declared.half.Half.{Half}
 use Rattle.half_table.specs.Rows.{Table}
-use Rattle.cad_surgery.specs.declared.stars.Spoke.{Spoke}
+use Rattle.map_parts.specs.declared.stars.Spoke.{Spoke}
 use Rattle.key_lists.specs.Held.{Held}
 use Rattle.cell_grid.specs.Grid.{Grid}
 use Rattle.cad_laws.specs.Local.{IsLocal}
-use Rattle.cad_surgery.specs.Parts.{FitTogether, map_of}
-use Rattle.cad_surgery.specs.Fits.{FitRings}
-use Rattle.cad_surgery.specs.Building.{parts_of, HoldsStrings}
-use Rattle.cad_surgery.specs.Labels.{IsLabelled, HoldsRings}
-use Rattle.cad_surgery.proofs.Labels.{faced}
-use Rattle.cad_surgery.proofs.KeptHalves.{keeps-rings, none-kept}
-use Rattle.cad_surgery.proofs.FromHalves.{fit-together, map-is}
+use Rattle.map_parts.specs.Parts.{FitTogether, map_of}
+use Rattle.map_parts.specs.Fits.{FitRings}
+use Rattle.map_parts.specs.Building.{parts_of, HoldsStrings}
+use Rattle.map_parts.specs.Labels.{IsLabelled, HoldsRings}
+use Rattle.map_parts.proofs.Labels.{faced}
+use Rattle.map_parts.proofs.KeptHalves.{keeps-rings, none-kept}
+use Rattle.map_parts.proofs.FromHalves.{fit-together, map-is}
 
 module _ (m : Map) (whole : HasWholeRings m) (table : Table) (kept : Held Half) (stars : Held Spoke) (grid : Grid) (st : HoldsStrings m table.rows stars) (local : IsLocal m table.rows)
     (labelled : (b : Boundary) → Contains m.boundaries b → IsLabelled m table.rows b) (holds : HoldsRings m table.rows kept m.boundaries) where

@@ -24,23 +24,24 @@ use Rattle.cad_laws.specs.Faces.{left_of_chain, uncut}
 use Rattle.cad_laws.specs.Tried.{IsTried}
 use Rattle.cad_laws.proofs.CallerLemmas.{before-one, divided-faces, some-corner, whole-after}
 use Rattle.cad_surgery.specs.declared.edits.try_divide.Division.{Division}
-use Rattle.cad_surgery.specs.declared.map_rows.MapRows.{MapRows}
-use Rattle.cad_surgery.specs.declared.record.SmallRecord.{SmallRecord}
-use Rattle.cad_surgery.specs.declared.stars.Spoke.{Spoke}
-use Rattle.cad_surgery.specs.Chains.{IsChainOf}
-use Rattle.cad_surgery.specs.Dividing.{IsDividing, rings_beside, divided_by, strings_across, HasCrossing}
-use Rattle.cad_surgery.specs.HeldChains.{side_along, LeadsAlong, IsOfRing, HeldChain, rings_beside as rings_but}
-use Rattle.cad_surgery.specs.Labels.{IsAlong, IsOnRing}
-use Rattle.cad_surgery.specs.Parts.{Parts, FitTogether, HasHalves, map_of}
-use Rattle.cad_surgery.specs.Record.{edit_of, Holds, Belongs}
+use Rattle.map_parts.specs.declared.map_rows.MapRows.{MapRows}
+use Rattle.edit_records.specs.declared.record.SmallRecord.{SmallRecord}
+use Rattle.map_parts.specs.declared.stars.Spoke.{Spoke}
+use Rattle.map_parts.specs.Chains.{IsChainOf}
+use Rattle.map_parts.specs.Dividing.{IsDividing, rings_beside}
+use Rattle.cad_surgery.specs.Divisions.{divided_by, strings_across, HasCrossing}
+use Rattle.edit_records.specs.HeldChains.{side_along, LeadsAlong, IsOfRing, HeldChain, rings_beside as rings_but}
+use Rattle.map_parts.specs.Labels.{IsAlong, IsOnRing}
+use Rattle.map_parts.specs.Parts.{Parts, FitTogether, HasHalves, map_of}
+use Rattle.edit_records.specs.Record.{edit_of, Holds, Belongs}
 use Rattle.cad_surgery.proofs.DividedBack.{by-record, first_side}
 use Rattle.cad_surgery.proofs.DraftFits.{draft-fits}
 use Rattle.cad_surgery.proofs.FitParts.{parts}
-use Rattle.cad_surgery.proofs.Dividing as divides
-use Rattle.cad_surgery.proofs.KeptShown.{bare}
+use Rattle.map_parts.proofs.Dividing as divides
+use Rattle.map_parts.proofs.KeptShown.{bare}
 use Rattle.cad_surgery.proofs.NamedRings.{row-side, named-among, named-rings, named-once}
-use Rattle.cad_surgery.proofs.PartsRings.{half-there}
-use Rattle.cad_surgery.proofs.StringRowsPut.{found-there}
+use Rattle.map_parts.proofs.PartsRings.{half-there}
+use Rattle.map_parts.proofs.StringRowsPut.{found-there}
 
 -- either side of a string of the chain is one of the chain's, in one direction or the other
 side-both : (row : StringRow) (h : Half) (sides : List Side) → Contains sides (side_of row) → Contains (both_ways sides) (side_along row h)

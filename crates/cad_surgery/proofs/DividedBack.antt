@@ -28,27 +28,28 @@ use Rattle.cad_laws.specs.Counts.{sides_of_face}
 use Rattle.cad_laws.specs.Local.{IsShown}
 use Rattle.cad_laws.proofs.CallerLemmas.{divided-faces, whole-after}
 use Rattle.cad_surgery.specs.declared.edits.try_divide.Division.{Division}
-use Rattle.cad_surgery.specs.declared.map_rows.MapRows.{MapRows}
-use Rattle.cad_surgery.specs.declared.record.SmallRecord.{SmallRecord}
-use Rattle.cad_surgery.specs.declared.stars.Spoke.{Spoke}
-use Rattle.cad_surgery.specs.Parts.{Parts, FitTogether, HasHalves, map_of, kept_at}
-use Rattle.cad_surgery.specs.Relabelled.{cycles_length}
+use Rattle.map_parts.specs.declared.map_rows.MapRows.{MapRows}
+use Rattle.edit_records.specs.declared.record.SmallRecord.{SmallRecord}
+use Rattle.map_parts.specs.declared.stars.Spoke.{Spoke}
+use Rattle.map_parts.specs.Parts.{Parts, FitTogether, HasHalves, map_of, kept_at}
+use Rattle.map_parts.specs.Relabelled.{cycles_length}
 use Rattle.cad_surgery.specs.Work.{TakesWork}
-use Rattle.cad_surgery.specs.Handing.{home_of}
-use Rattle.cad_surgery.specs.HeldChains.{HeldChain, NamesRings, rings_beside as rings_but}
-use Rattle.cad_surgery.specs.Islands.{AreOfRings}
+use Rattle.map_parts.specs.Handing.{home_of}
+use Rattle.edit_records.specs.HeldChains.{HeldChain, NamesRings, rings_beside as rings_but}
+use Rattle.map_parts.specs.Islands.{AreOfRings}
 use Rattle.cad_surgery.specs.Proper.{IsProper}
-use Rattle.cad_surgery.specs.Record.{edit_of, Holds, Belongs}
-use Rattle.cad_surgery.specs.Splitting.{FitMap}
-use Rattle.cad_surgery.specs.Chains.{IsChainOf}
-use Rattle.cad_surgery.specs.Dividing.{IsDividing, divided, rings_beside, CanBeginUndivide, divided_by, strings_across, IsDividedBy}
-use Rattle.cad_surgery.proofs.ChainRings.{first-on}
+use Rattle.edit_records.specs.Record.{edit_of, Holds, Belongs}
+use Rattle.map_parts.specs.Splitting.{FitMap}
+use Rattle.map_parts.specs.Chains.{IsChainOf}
+use Rattle.map_parts.specs.Dividing.{IsDividing, divided, rings_beside, CanBeginUndivide}
+use Rattle.cad_surgery.specs.Divisions.{divided_by, strings_across, IsDividedBy}
+use Rattle.map_parts.proofs.ChainRings.{first-on}
 use Rattle.cad_surgery.proofs.DividedDraft.{either}
 use Rattle.cad_surgery.proofs.DraftFits.{draft-fits, draft-all, draft-work, settled}
 use Rattle.cad_surgery.proofs.NamedRings.{named-on, named-rings, named-once}
 use Rattle.cad_surgery.proofs.RingLengths.{face-lengths}
 use Rattle.cad_surgery.proofs.WorkTaken.{work-allowed, ticks-just, ticks-then}
-use Rattle.cad_surgery.proofs.Dividing as divides
+use Rattle.map_parts.proofs.Dividing as divides
 use Rattle.cad_surgery.proofs.FitParts.{parts, fit-parts, fit-map, fit-proper}
 use Rattle.cad_surgery.proofs.SplitDraft.{come-and-gone}
 

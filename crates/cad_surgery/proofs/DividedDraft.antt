@@ -34,23 +34,24 @@ use Rattle.cad_laws.specs.Tried.{IsTried}
 use Rattle.cad_laws.proofs.CallerLemmas.{whole-after}
 use Rattle.cad_valid.specs.Near.{HoldsMap, ComesFromValid}
 use Rattle.cad_surgery.specs.declared.edits.try_divide.Division.{Division}
-use Rattle.cad_surgery.specs.declared.map_rows.MapRows.{MapRows}
-use Rattle.cad_surgery.specs.declared.stars.Spoke.{Spoke}
-use Rattle.cad_surgery.specs.Parts.{Parts, FitTogether, HasHalves, map_of, kept_at}
-use Rattle.cad_surgery.specs.Relabelled.{cycles_length}
+use Rattle.map_parts.specs.declared.map_rows.MapRows.{MapRows}
+use Rattle.map_parts.specs.declared.stars.Spoke.{Spoke}
+use Rattle.map_parts.specs.Parts.{Parts, FitTogether, HasHalves, map_of, kept_at}
+use Rattle.map_parts.specs.Relabelled.{cycles_length}
 use Rattle.cad_surgery.specs.Work.{TakesWork, TicksUpTo}
-use Rattle.cad_surgery.specs.Handing.{home_of}
-use Rattle.cad_surgery.specs.Islands.{AreOfRings}
+use Rattle.map_parts.specs.Handing.{home_of}
+use Rattle.map_parts.specs.Islands.{AreOfRings}
 use Rattle.cad_surgery.specs.Proper.{IsProper}
-use Rattle.cad_surgery.specs.Splitting.{FitMap}
-use Rattle.cad_surgery.specs.Dividing.{IsDividing, divided, rings_beside, CanBeginDivide, CanUndivide, divided_by, strings_across, parcel_across, HasCrossing}
-use Rattle.cad_surgery.proofs.AddedStrings.{strings-path}
-use Rattle.cad_surgery.proofs.ChainRings.{first-on}
+use Rattle.map_parts.specs.Splitting.{FitMap}
+use Rattle.map_parts.specs.Dividing.{IsDividing, divided, rings_beside, CanBeginDivide, CanUndivide}
+use Rattle.cad_surgery.specs.Divisions.{divided_by, strings_across, parcel_across, HasCrossing}
+use Rattle.map_parts.proofs.AddedStrings.{strings-path}
+use Rattle.map_parts.proofs.ChainRings.{first-on}
 use Rattle.cad_surgery.proofs.DraftFits.{draft-fits, draft-all, draft-work, settled}
-use Rattle.cad_surgery.proofs.KeptEach.{map-cong}
+use Rattle.map_parts.proofs.KeptEach.{map-cong}
 use Rattle.cad_surgery.proofs.RingLengths.{face-lengths, home-stays}
 use Rattle.cad_surgery.proofs.WorkTaken.{work-allowed, ticks-just, ticks-then}
-use Rattle.cad_surgery.proofs.Dividing as divides
+use Rattle.map_parts.proofs.Dividing as divides
 use Rattle.cad_surgery.proofs.FitParts.{parts, fit-parts, fit-map, fit-proper}
 use Rattle.cad_surgery.proofs.Played.{tested}
 use Rattle.cad_surgery.proofs.SplitDraft.{come-and-gone}

@@ -8,11 +8,11 @@ use Rattle.half_table.specs.declared.half.Half.{Half}
 use Rattle.half_table.specs.Count.{greatest}
 use Rattle.half_table.specs.Rows.{Table, has}
 use Rattle.key_lists.specs.Held.{Held}
-use Rattle.cad_surgery.specs.declared.map_rows.MapRows.{MapRows}
-use Rattle.cad_surgery.specs.declared.stars.Spoke.{Spoke}
-use Rattle.cad_surgery.specs.Parts.{Parts, FitTogether, map_of, kept_at}
+use Rattle.map_parts.specs.declared.map_rows.MapRows.{MapRows}
+use Rattle.map_parts.specs.declared.stars.Spoke.{Spoke}
+use Rattle.map_parts.specs.Parts.{Parts, FitTogether, map_of, kept_at}
 use Rattle.cad_surgery.specs.Proper.{IsProper}
-use Rattle.cad_surgery.specs.Splitting.{FitMap}
+use Rattle.map_parts.specs.Splitting.{FitMap}
 use Rattle.cad_surgery.specs.Work.{TakesWork, TicksUpTo}
 use Rattle.cad_surgery.proofs.FitParts.{parts, parts-fit}
 use Rattle.cad_surgery.proofs.ProperParts.{proper}

@@ -18,10 +18,10 @@ use Rattle.cad_map.specs.Map.{Map, point_of, parcel_of, string_of}
 use Rattle.cad_map.specs.Refusals.{unknown, taken, is_there, named, given, is_attached, not_attached, when}
 use Rattle.cad_map.specs.Valid.{EachPair}
 use Rattle.cad_map.proofs.CallerLemmas.{map-with_row, map-with_row-same, found-number}
-use Rattle.cad_surgery.specs.Parts.{Parts, FitTogether, rows_of, map_of}
-use Rattle.cad_surgery.specs.Record.{edit_of, Holds}
-use Rattle.cad_surgery.specs.declared.record.SmallRecord.{SmallRecord}
-use Rattle.cad_surgery.specs.declared.record.SmallRecord.TheVariants as record_of
+use Rattle.map_parts.specs.Parts.{Parts, FitTogether, rows_of, map_of}
+use Rattle.edit_records.specs.Record.{edit_of, Holds}
+use Rattle.edit_records.specs.declared.record.SmallRecord.{SmallRecord}
+use Rattle.edit_records.specs.declared.record.SmallRecord.TheVariants as record_of
 use Rattle.cad_surgery.specs.RowEdits.{is_of_rows, without_rings, ends_of, HasSameEnds, with_rows, KeepsBeside}
 use Rattle.cad_surgery.proofs.RowsKept.{same-rings, rows-proper}
 

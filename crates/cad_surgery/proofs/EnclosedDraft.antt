@@ -35,22 +35,23 @@ use Rattle.cad_laws.specs.Tried.{IsTried}
 use Rattle.cad_laws.proofs.CallerLemmas.{whole-after}
 use Rattle.cad_valid.specs.Near.{HoldsMap, ComesFromValid}
 use Rattle.cad_surgery.specs.declared.edits.try_enclose.Enclosure.{Enclosure}
-use Rattle.cad_surgery.specs.declared.map_rows.MapRows.{MapRows}
-use Rattle.cad_surgery.specs.declared.stars.Spoke.{Spoke}
-use Rattle.cad_surgery.specs.Parts.{Parts, FitTogether, HasHalves, map_of, kept_at}
-use Rattle.cad_surgery.specs.Relabelled.{cycles_length}
+use Rattle.map_parts.specs.declared.map_rows.MapRows.{MapRows}
+use Rattle.map_parts.specs.declared.stars.Spoke.{Spoke}
+use Rattle.map_parts.specs.Parts.{Parts, FitTogether, HasHalves, map_of, kept_at}
+use Rattle.map_parts.specs.Relabelled.{cycles_length}
 use Rattle.cad_surgery.specs.Work.{TakesWork}
-use Rattle.cad_surgery.specs.Islands.{AreOfRings}
-use Rattle.cad_surgery.specs.Placed.{AreOfHoles}
+use Rattle.map_parts.specs.Islands.{AreOfRings}
+use Rattle.map_parts.specs.Placed.{AreOfHoles}
 use Rattle.cad_surgery.specs.Proper.{IsProper}
-use Rattle.cad_surgery.specs.Splitting.{FitMap}
-use Rattle.cad_surgery.specs.Enclosing.{IsEnclosing, enclosed, rings_placed, CanBeginEnclose, CanOpen, enclosed_by, strings_by, parcel_by}
-use Rattle.cad_surgery.proofs.AddedStrings.{strings-path}
+use Rattle.map_parts.specs.Splitting.{FitMap}
+use Rattle.map_parts.specs.Enclosing.{IsEnclosing, enclosed, rings_placed, CanBeginEnclose, CanOpen}
+use Rattle.cad_surgery.specs.Enclosures.{enclosed_by, strings_by, parcel_by}
+use Rattle.map_parts.proofs.AddedStrings.{strings-path}
 use Rattle.cad_surgery.proofs.DraftFits.{draft-fits, draft-all, draft-work, settled}
 use Rattle.cad_surgery.proofs.EnclosedWork.{inner-long, outer-long, moved-long}
-use Rattle.cad_surgery.proofs.IslandTable.{more-old}
+use Rattle.map_parts.proofs.IslandTable.{more-old}
 use Rattle.cad_surgery.proofs.WorkTaken.{work-allowed, ticks-just, ticks-then}
-use Rattle.cad_surgery.proofs.Enclosing as encloses
+use Rattle.map_parts.proofs.Enclosing as encloses
 use Rattle.cad_surgery.proofs.FitParts.{parts, fit-parts, fit-map, fit-proper}
 use Rattle.cad_surgery.proofs.Played.{tested}
 

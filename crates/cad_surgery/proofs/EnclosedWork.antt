@@ -22,16 +22,16 @@ use Rattle.half_table.specs.Half.{twin}
 use Rattle.half_table.specs.Rows.{HalfRows, origin_of, cycle}
 use Rattle.cad_laws.specs.Counts.{sides_of_face}
 use Rattle.cad_laws.specs.Local.{IsShown, IsLocal, side_by}
-use Rattle.cad_surgery.specs.Handing.{home_of}
-use Rattle.cad_surgery.specs.Labels.{IsOnRing}
-use Rattle.cad_surgery.specs.Parts.{HasHalves}
-use Rattle.cad_surgery.specs.Placed.{moves_in, AreOfHoles}
-use Rattle.cad_surgery.specs.Relabelled.{cycles_length}
-use Rattle.cad_surgery.specs.Enclosing.{IsEnclosing, enclosed}
-use Rattle.cad_surgery.proofs.Enclosing as encloses
-use Rattle.cad_surgery.proofs.IslandFits.{first-on}
-use Rattle.cad_surgery.proofs.PlacedHalves.{on-placed, placed-face}
-use Rattle.cad_surgery.proofs.RingsOfHalves.{cycle-same_ring}
+use Rattle.map_parts.specs.Handing.{home_of}
+use Rattle.map_parts.specs.Labels.{IsOnRing}
+use Rattle.map_parts.specs.Parts.{HasHalves}
+use Rattle.map_parts.specs.Placed.{moves_in, AreOfHoles}
+use Rattle.map_parts.specs.Relabelled.{cycles_length}
+use Rattle.map_parts.specs.Enclosing.{IsEnclosing, enclosed}
+use Rattle.map_parts.proofs.Enclosing as encloses
+use Rattle.map_parts.proofs.IslandFits.{first-on}
+use Rattle.map_parts.proofs.PlacedHalves.{on-placed, placed-face}
+use Rattle.map_parts.proofs.RingsOfHalves.{cycle-same_ring}
 
 -- ---- Lists
 

@@ -6,18 +6,18 @@ use Rattle.cell_grid.specs.Grid.{Grid}
 use Rattle.half_table.specs.declared.half.Half.{Half}
 use Rattle.half_table.specs.Rows.{Table, has}
 use Rattle.key_lists.specs.Held.{Held}
-use Rattle.cad_surgery.specs.declared.map_rows.MapRows.{MapRows}
-use Rattle.cad_surgery.specs.declared.stars.Spoke.{Spoke}
-use Rattle.cad_surgery.specs.Rows.{map_in}
-use Rattle.cad_surgery.specs.Parts.{Parts, FitTogether, map_of, kept_at}
+use Rattle.map_parts.specs.declared.map_rows.MapRows.{MapRows}
+use Rattle.map_parts.specs.declared.stars.Spoke.{Spoke}
+use Rattle.map_parts.specs.Rows.{map_in}
+use Rattle.map_parts.specs.Parts.{Parts, FitTogether, map_of, kept_at}
 use Rattle.cad_surgery.specs.Proper.{IsProper}
-use Rattle.cad_surgery.specs.Fits.{FitRings}
-use Rattle.cad_surgery.specs.Building.{parts_of}
-use Rattle.cad_surgery.specs.Splitting.{FitMap}
-use Rattle.cad_surgery.proofs.FromHalves.{fit-together, map-is}
+use Rattle.map_parts.specs.Fits.{FitRings}
+use Rattle.map_parts.specs.Building.{parts_of}
+use Rattle.map_parts.specs.Splitting.{FitMap}
+use Rattle.map_parts.proofs.FromHalves.{fit-together, map-is}
 use Rattle.cad_surgery.proofs.ProperParts.{proper}
-use Rattle.cad_surgery.proofs.ToHalves.{fits}
-use Rattle.cad_surgery.proofs.WholeStrings.{strings-once}
+use Rattle.map_parts.proofs.ToHalves.{fits}
+use Rattle.map_parts.proofs.WholeStrings.{strings-once}
 
 module _ (rows : MapRows) (table : Table) (held : Held Half) (stars : Held Spoke) (grid : Grid) where
   abbrev pub parts : Parts

@@ -2,7 +2,7 @@
 use Rattle.std.proofs.Common.{◌≡◌, refl}
 use Rattle.cell_grid.specs.Grid.{Grid}
 use Rattle.half_table.specs.declared.half.Half.{Half}
-use Rattle.cad_surgery.specs.Parts.{Parts, FitTogether, IsOnKeptCycle}
+use Rattle.map_parts.specs.Parts.{Parts, FitTogether, IsOnKeptCycle}
 
 on-cycle : (d : Parts) (g : Grid) (h : Half) → IsOnKeptCycle d h → IsOnKeptCycle (record d { grid = g }) h
 on-cycle d g h home = record { kept = home.kept; there = home.there; on = home.on }

@@ -1,24 +1,21 @@
 -- The steps of an edit beside the grid.
-use Rattle.std.proofs.Common.{◌≡◌, ℕ, ap, subst, sym, ◌∙◌, Option, Some, None, refl, ◌⊎◌, arith}
-use Rattle.std.specs.Prelude.{option_map}
-use Rattle.geo_exact.specs.Position.{Position}
-use Rattle.cad_rows.specs.declared.rows.PointRow.{PointRow}
+use Rattle.std.proofs.Common.{◌≡◌, ℕ, ap, subst, sym, ◌∙◌, ◌⊎◌, arith}
 use Rattle.cad_map.specs.Asked.{GivesInRange}
 use Rattle.cad_map.specs.Effects.{after}
 use Rattle.cad_map.specs.Map.{Map}
 use Rattle.cell_grid.specs.Together.{Listed}
 use Rattle.cad_laws.specs.Tried.{IsTried}
 use Rattle.cad_surgery.specs.AtRest.{IsAtRest}
-use Rattle.cad_surgery.specs.Exchanged.{IsExchange}
-use Rattle.cad_surgery.specs.Gridded.{IsGridOf}
-use Rattle.cad_surgery.specs.GridEdits.{gone_by, come_by}
-use Rattle.cad_surgery.specs.GridLists.{AreEntries, IsBeside}
-use Rattle.cad_surgery.specs.Parts.{Parts, map_of, kept_at}
+use Rattle.edit_records.specs.Exchanged.{IsExchange}
+use Rattle.edit_records.specs.Gridded.{IsGridOf}
+use Rattle.edit_records.specs.GridEdits.{gone_by, come_by}
+use Rattle.edit_records.specs.GridLists.{AreEntries, IsBeside}
+use Rattle.map_parts.specs.Parts.{Parts, map_of, kept_at}
 use Rattle.cad_surgery.specs.Proper.{IsProper}
 use Rattle.half_table.specs.Rows.{Table}
 use Rattle.cad_surgery.specs.Work.{TakesWork}
-use Rattle.cad_surgery.specs.Record.{edit_of, Holds, IsMadeOf, Belongs}
-use Rattle.cad_surgery.specs.declared.record.SmallRecord.{SmallRecord}
+use Rattle.edit_records.specs.Record.{edit_of, Holds, IsMadeOf, Belongs}
+use Rattle.edit_records.specs.declared.record.SmallRecord.{SmallRecord}
 use Rattle.cad_surgery.proofs.Played.{listed}
 
 -- parts that differ in the grid alone
@@ -62,13 +59,3 @@ exchange-of m b r gone come made given is goes comes =
     let tried = tried-of r b made given in
     let beside : IsBeside m b (edit_of r) = record { tried = tried; is = is } in
     listed b (edit_of r) tried gone come (goes b beside made.holds) (comes b beside made.holds)
-
--- the row of a point that lay at a position
-pub record IsRowAt (o : Option PointRow) (at : Position) : Type 0 where
-  pub row : PointRow
-  pub is : o ≡ Some row
-  pub position : row.position ≡ at
-
-pub row-at : (o : Option PointRow) (at : Position) → option_map (λ r. r.position) o ≡ Some at → IsRowAt o at
-row-at None at is = cc
-row-at (Some r) at is = record { row = r; is = refl; position = cc }

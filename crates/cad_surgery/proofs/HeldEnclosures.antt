@@ -23,21 +23,21 @@ use Rattle.half_table.specs.Half.{half_of}
 use Rattle.half_table.specs.Rows.{HalfRows}
 use Rattle.cad_laws.specs.Counts.{sides_of_face}
 use Rattle.cad_laws.specs.Local.{IsLocal, IsShown, side_by}
-use Rattle.cad_surgery.specs.Handing.{home_of}
-use Rattle.cad_surgery.specs.HeldChains.{side_along, LeadsAlong, IsOfRing, NamesRings, rings_beside, HeldIsland}
-use Rattle.cad_surgery.specs.Islands.{AreOfRings}
-use Rattle.cad_surgery.specs.Labels.{IsOnRing}
-use Rattle.cad_surgery.specs.Parts.{HasHalves}
-use Rattle.cad_surgery.specs.Placed.{moves_in, AreOfHoles}
-use Rattle.cad_surgery.specs.Enclosing.{IsEnclosing, enclosed, rings_placed}
-use Rattle.cad_surgery.specs.Relabelled.{cycles_length}
+use Rattle.map_parts.specs.Handing.{home_of}
+use Rattle.edit_records.specs.HeldChains.{side_along, LeadsAlong, IsOfRing, NamesRings, rings_beside, HeldIsland}
+use Rattle.map_parts.specs.Islands.{AreOfRings}
+use Rattle.map_parts.specs.Labels.{IsOnRing}
+use Rattle.map_parts.specs.Parts.{HasHalves}
+use Rattle.map_parts.specs.Placed.{moves_in, AreOfHoles}
+use Rattle.map_parts.specs.Enclosing.{IsEnclosing, enclosed, rings_placed}
+use Rattle.map_parts.specs.Relabelled.{cycles_length}
 use Rattle.cad_surgery.proofs.EnclosedWork.{on-ring}
-use Rattle.cad_surgery.proofs.Enclosing as encloses
-use Rattle.cad_surgery.proofs.KeptEach.{home-is, pick}
+use Rattle.map_parts.proofs.Enclosing as encloses
+use Rattle.map_parts.proofs.KeptEach.{home-is, pick}
 use Rattle.cad_surgery.proofs.MovedHalves.{filter-permuted}
 use Rattle.cad_surgery.proofs.RingLengths.{face-lengths}
-use Rattle.cad_surgery.proofs.RingsOnce.{stands-once}
-use Rattle.cad_surgery.proofs.StringRowsPut.{found-there}
+use Rattle.map_parts.proofs.RingsOnce.{stands-once}
+use Rattle.map_parts.proofs.StringRowsPut.{found-there}
 
 both : (a b : Bool) → (a && b) ≡ true → (a ≡ true) × (b ≡ true)
 both true true h = (refl, refl)

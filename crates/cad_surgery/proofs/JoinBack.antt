@@ -18,15 +18,16 @@ use Rattle.key_lists.specs.Held.{Held}
 use Rattle.cad_laws.specs.Joining.{FarEndsAreApart}
 use Rattle.cad_laws.specs.Local.{IsShown}
 use Rattle.cad_laws.specs.Tried.{IsTried}
-use Rattle.cad_surgery.specs.declared.edits.join.JoinedRows.{JoinedRows}
-use Rattle.cad_surgery.specs.declared.map_rows.MapRows.{MapRows}
-use Rattle.cad_surgery.specs.declared.stars.Spoke.{Spoke}
-use Rattle.cad_surgery.specs.Joined.{CanBeginUnjoin, join_record}
-use Rattle.cad_surgery.specs.Parts.{Parts, FitTogether, map_of, kept_at}
-use Rattle.cad_surgery.specs.Passing.{path_at}
+use Rattle.map_parts.specs.declared.edits.join.JoinedRows.{JoinedRows}
+use Rattle.map_parts.specs.declared.map_rows.MapRows.{MapRows}
+use Rattle.map_parts.specs.declared.stars.Spoke.{Spoke}
+use Rattle.map_parts.specs.Joined.{CanBeginUnjoin}
+use Rattle.cad_surgery.specs.Joinings.{join_record}
+use Rattle.map_parts.specs.Parts.{Parts, FitTogether, map_of, kept_at}
+use Rattle.map_parts.specs.Passing.{path_at}
 use Rattle.cad_surgery.specs.Proper.{IsProper}
-use Rattle.cad_surgery.specs.Record.{Belongs}
-use Rattle.cad_surgery.specs.Splitting.{FitMap}
+use Rattle.edit_records.specs.Record.{Belongs}
+use Rattle.map_parts.specs.Splitting.{FitMap}
 use Rattle.cad_surgery.specs.Work.{TakesWork}
 use Rattle.cad_surgery.proofs.DraftFits.{draft-fits, draft-all, draft-work, settled}
 use Rattle.cad_surgery.proofs.FarEnds.{leads-apart}

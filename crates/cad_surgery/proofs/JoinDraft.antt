@@ -24,18 +24,19 @@ use Rattle.cad_laws.specs.Counts.{sides_through}
 use Rattle.cad_laws.specs.Joining.{FarEndsAreApart}
 use Rattle.cad_laws.specs.Local.{IsShown}
 use Rattle.cad_laws.specs.Tried.{IsTried}
-use Rattle.cad_surgery.specs.declared.edits.join.JoinedRows.{JoinedRows}
+use Rattle.map_parts.specs.declared.edits.join.JoinedRows.{JoinedRows}
 use Rattle.cad_surgery.specs.declared.edits.joining.Joining.{Joining}
-use Rattle.cad_surgery.specs.declared.map_rows.MapRows.{MapRows}
-use Rattle.cad_surgery.specs.declared.stars.Spoke.{Spoke}
-use Rattle.cad_surgery.specs.Joined.{CanBeginJoin, CanUnjoin, CanBeginUnjoin, joining_of}
-use Rattle.cad_surgery.specs.Parts.{HasHalves}
-use Rattle.cad_surgery.specs.Passing.{HasBetween, path_at}
-use Rattle.cad_surgery.specs.Record.{HeldJoined}
-use Rattle.cad_surgery.specs.Splitting.{FitMap}
-use Rattle.cad_surgery.proofs.Passing.BothMaps as both
-use Rattle.cad_surgery.proofs.Passing.JoinBetween as made
-use Rattle.cad_surgery.proofs.Passing.Lengths.{path-length, whole-length}
+use Rattle.map_parts.specs.declared.map_rows.MapRows.{MapRows}
+use Rattle.map_parts.specs.declared.stars.Spoke.{Spoke}
+use Rattle.map_parts.specs.Joined.{CanBeginJoin, CanUnjoin, CanBeginUnjoin}
+use Rattle.cad_surgery.specs.Joinings.{joining_of}
+use Rattle.map_parts.specs.Parts.{HasHalves}
+use Rattle.map_parts.specs.Passing.{HasBetween, path_at}
+use Rattle.edit_records.specs.Record.{HeldJoined}
+use Rattle.map_parts.specs.Splitting.{FitMap}
+use Rattle.map_parts.proofs.Passing.BothMaps as both
+use Rattle.map_parts.proofs.Passing.JoinBetween as made
+use Rattle.map_parts.proofs.Passing.Lengths.{path-length, whole-length}
 use Rattle.cad_surgery.proofs.WorkTaken.{work-allowed}
 
 -- a table with a map's strings alone has none that the map hasn't

@@ -22,17 +22,18 @@ use Rattle.key_lists.specs.Held.{Held, HasRoomAt}
 use Rattle.cad_laws.specs.Joining.{FarEndsAreApart}
 use Rattle.cad_laws.specs.Local.{IsShown}
 use Rattle.cad_laws.specs.Tried.{IsTried}
-use Rattle.cad_surgery.specs.declared.edits.join.JoinedRows.{JoinedRows}
+use Rattle.map_parts.specs.declared.edits.join.JoinedRows.{JoinedRows}
 use Rattle.cad_surgery.specs.declared.edits.joining.Joining.{Joining}
-use Rattle.cad_surgery.specs.declared.map_rows.MapRows.{MapRows}
-use Rattle.cad_surgery.specs.declared.stars.Spoke.{Spoke}
-use Rattle.cad_surgery.specs.Joined.{CanBeginJoin, CanUnjoin, joining_of}
-use Rattle.cad_surgery.specs.Parts.{Parts, FitTogether, HasHalves, map_of, kept_at}
-use Rattle.cad_surgery.specs.Passing.{path_at}
+use Rattle.map_parts.specs.declared.map_rows.MapRows.{MapRows}
+use Rattle.map_parts.specs.declared.stars.Spoke.{Spoke}
+use Rattle.map_parts.specs.Joined.{CanBeginJoin, CanUnjoin}
+use Rattle.cad_surgery.specs.Joinings.{joining_of}
+use Rattle.map_parts.specs.Parts.{Parts, FitTogether, HasHalves, map_of, kept_at}
+use Rattle.map_parts.specs.Passing.{path_at}
 use Rattle.cad_surgery.specs.Proper.{IsProper}
-use Rattle.cad_surgery.specs.Record.{HeldJoined}
-use Rattle.cad_surgery.specs.Rows.{map_in}
-use Rattle.cad_surgery.specs.Splitting.{FitMap}
+use Rattle.edit_records.specs.Record.{HeldJoined}
+use Rattle.map_parts.specs.Rows.{map_in}
+use Rattle.map_parts.specs.Splitting.{FitMap}
 use Rattle.cad_surgery.specs.Work.{TakesWork}
 use Rattle.cad_surgery.proofs.DraftFits.{draft-fits, draft-all, draft-work, settled}
 use Rattle.cad_surgery.proofs.FitParts.{parts, fit-parts, fit-map, fit-proper}

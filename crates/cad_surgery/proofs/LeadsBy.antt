@@ -6,9 +6,9 @@ use Rattle.cad_rows.specs.declared.edits.Edit.TheVariants.{Enclose}
 use Rattle.cad_map.specs.Map.{Map}
 use Rattle.half_table.specs.declared.half.Half.{Half}
 use Rattle.cad_surgery.specs.declared.edits.try_enclose.Enclosure.{Enclosure}
-use Rattle.cad_surgery.specs.declared.record.SmallRecord.TheVariants as record_of
-use Rattle.cad_surgery.specs.Enclosing.{LeadsBy}
-use Rattle.cad_surgery.specs.Record.{Belongs}
+use Rattle.edit_records.specs.declared.record.SmallRecord.TheVariants as record_of
+use Rattle.cad_surgery.specs.Enclosures.{LeadsBy}
+use Rattle.edit_records.specs.Record.{Belongs}
 
 -- the same enclosure by the same lists
 pub same-lists : (face : Face) (parcel : ℕ) (label : List ℕ) (source : ℕ) (points ring strings along : List ℕ) → points ≡ ring → strings ≡ along

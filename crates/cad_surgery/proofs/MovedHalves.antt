@@ -18,18 +18,18 @@ use Rattle.cad_map.specs.Valid.{EachPair}
 use Rattle.cad_map.proofs.CallerLemmas.{All-from_each, Contains-at, Contains-cases, Contains-first, Contains-later, count-no, count-yes, filter-Contains, is_face-refl, is_face-same, take-more}
 use Rattle.half_table.specs.declared.half.Half.{Half}
 use Rattle.half_table.specs.Rows.{HalfRows, origin_of, cycle}
-use Rattle.cad_surgery.specs.Fits.{FitRings}
-use Rattle.cad_surgery.specs.Handing.{home_of, halves_kept, KeepsEach}
-use Rattle.cad_surgery.specs.Labels.{IsOnRing}
-use Rattle.cad_surgery.specs.Parts.{Parts, FitTogether, map_of, rows_of, kept_at, rings_kept}
-use Rattle.cad_surgery.specs.Placed.{is_hole_in, moves_in, AreOfHoles}
-use Rattle.cad_surgery.proofs.KeptEach.{boundary-same, boundary-self, cases_face, faces-once, is_boundary, to-each, home-is}
-use Rattle.cad_surgery.proofs.KeptHalves.{face-known}
+use Rattle.map_parts.specs.Fits.{FitRings}
+use Rattle.map_parts.specs.Handing.{home_of, halves_kept, KeepsEach}
+use Rattle.map_parts.specs.Labels.{IsOnRing}
+use Rattle.map_parts.specs.Parts.{Parts, FitTogether, map_of, rows_of, kept_at, rings_kept}
+use Rattle.map_parts.specs.Placed.{is_hole_in, moves_in, AreOfHoles}
+use Rattle.map_parts.proofs.KeptEach.{boundary-same, boundary-self, cases_face, faces-once, is_boundary, to-each, home-is}
+use Rattle.map_parts.proofs.KeptHalves.{face-known}
 use Rattle.cad_surgery.proofs.PartsFaces.{rings-face}
-use Rattle.cad_surgery.proofs.Permuted.{from-often}
-use Rattle.cad_surgery.proofs.RingsOfHalves.{cycle-same_ring}
-use Rattle.cad_surgery.proofs.ToHalves.{fits}
-use Rattle.cad_surgery.proofs.WholeStrings.{strings-once}
+use Rattle.map_parts.proofs.Permuted.{from-often}
+use Rattle.map_parts.proofs.RingsOfHalves.{cycle-same_ring}
+use Rattle.map_parts.proofs.ToHalves.{fits}
+use Rattle.map_parts.proofs.WholeStrings.{strings-once}
 
 -- ---- Lists without what doesn't pass a test
 

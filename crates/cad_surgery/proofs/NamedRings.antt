@@ -18,15 +18,15 @@ use Rattle.half_table.specs.declared.half.Half.{Half}
 use Rattle.half_table.specs.Half.{half_of}
 use Rattle.half_table.specs.Rows.{HalfRows}
 use Rattle.cad_laws.specs.Local.{side_by}
-use Rattle.cad_surgery.specs.Handing.{home_of}
-use Rattle.cad_surgery.specs.HeldChains.{side_along, IsOfRing, NamesRings, rings_beside}
-use Rattle.cad_surgery.specs.Islands.{AreOfRings}
-use Rattle.cad_surgery.specs.Labels.{IsOnRing}
-use Rattle.cad_surgery.specs.Parts.{HasHalves}
-use Rattle.cad_surgery.proofs.KeptEach.{home-is}
-use Rattle.cad_surgery.proofs.RingsOnce.{stands-once}
-use Rattle.cad_surgery.proofs.StringRowsPut.{found-there}
-use Rattle.cad_surgery.proofs.ToHalves.{one_part}
+use Rattle.map_parts.specs.Handing.{home_of}
+use Rattle.edit_records.specs.HeldChains.{side_along, IsOfRing, NamesRings, rings_beside}
+use Rattle.map_parts.specs.Islands.{AreOfRings}
+use Rattle.map_parts.specs.Labels.{IsOnRing}
+use Rattle.map_parts.specs.Parts.{HasHalves}
+use Rattle.map_parts.proofs.KeptEach.{home-is}
+use Rattle.map_parts.proofs.RingsOnce.{stands-once}
+use Rattle.map_parts.proofs.StringRowsPut.{found-there}
+use Rattle.map_parts.proofs.ToHalves.{one_part}
 
 both : (a b : Bool) → (a && b) ≡ true → (a ≡ true) × (b ≡ true)
 both true true h = (refl, refl)

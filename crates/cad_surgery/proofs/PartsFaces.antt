@@ -21,10 +21,10 @@ use Rattle.half_table.specs.declared.half.Half.{Half}
 use Rattle.half_table.specs.Half.{twin}
 use Rattle.half_table.specs.Rows.{HalfRows, has, next, origin_of, cycle}
 use Rattle.cad_laws.specs.Local.{IsShown}
-use Rattle.cad_surgery.specs.KeptRings.{kept_ring}
-use Rattle.cad_surgery.specs.Parts.{Parts, FitTogether, rows_of, in_face, kept_at, kept_halves, rings_kept}
-use Rattle.cad_surgery.proofs.CycleRings.{cycle-sides}
-use Rattle.cad_surgery.proofs.PartsRings.{in_table, other, kept-two}
+use Rattle.map_parts.specs.KeptRings.{kept_ring}
+use Rattle.map_parts.specs.Parts.{Parts, FitTogether, rows_of, in_face, kept_at, kept_halves, rings_kept}
+use Rattle.map_parts.proofs.CycleRings.{cycle-sides}
+use Rattle.map_parts.proofs.PartsRings.{in_table, other, kept-two}
 
 rings_at-append : (f : Face) (bs cs : List Boundary) → rings_at f (bs ++ cs) ≡ rings_at f bs ++ rings_at f cs
 rings_at-append f [] cs = refl

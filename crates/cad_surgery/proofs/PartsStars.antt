@@ -14,16 +14,16 @@ use Rattle.cad_map.proofs.CallerLemmas.{Contains-cases, Contains-first, Contains
 use Rattle.half_table.specs.declared.half.Half.{Half}
 use Rattle.half_table.specs.Half.{twin, forward_of, backward_of, half_of}
 use Rattle.half_table.specs.Rows.{HalfRows, has, next, origin_of, face}
-use Rattle.cad_surgery.specs.declared.stars.Spoke.{Spoke}
+use Rattle.map_parts.specs.declared.stars.Spoke.{Spoke}
 use Rattle.key_lists.specs.Held.{items_at}
 use Rattle.cad_laws.specs.Local.{IsShown, side_by}
-use Rattle.cad_surgery.specs.Stars.{spoke, spokes_of, spokes_at}
-use Rattle.cad_surgery.specs.Parts.{Parts, FitTogether, HasHalves, rows_of, map_of}
-use Rattle.cad_surgery.specs.Stars.{half_along}
-use Rattle.cad_surgery.specs.Views.{view_half, view_face, view_next, view_faces}
-use Rattle.cad_surgery.specs.Labels.{IsAlong}
-use Rattle.cad_surgery.proofs.StarHalves.{along-some, half-told}
-use Rattle.cad_surgery.proofs.PartsRings.{ends-of, shown-string, half-side, half-corner, side-half}
+use Rattle.map_parts.specs.Stars.{spoke, spokes_of, spokes_at}
+use Rattle.map_parts.specs.Parts.{Parts, FitTogether, HasHalves, rows_of, map_of}
+use Rattle.map_parts.specs.Stars.{half_along}
+use Rattle.map_parts.specs.Views.{view_half, view_face, view_next, view_faces}
+use Rattle.map_parts.specs.Labels.{IsAlong}
+use Rattle.map_parts.proofs.StarHalves.{along-some, half-told}
+use Rattle.map_parts.proofs.PartsRings.{ends-of, shown-string, half-side, half-corner, side-half}
 
 -- a star has one spoke for each string at its point
 pub length-star : (p : ℕ) (strings : List StringRow) → length (spokes_at p strings) ≡ length (filter (λ s. is_end s p) strings)

@@ -13,15 +13,15 @@ use Rattle.cad_laws.specs.Touching.{touching, touched_by}
 use Rattle.cad_laws.specs.Tried.{IsTried}
 use Rattle.cad_laws.proofs.CallerLemmas.{touched-after}
 use Rattle.cad_valid.proofs.CallerLemmas.{kept-untouched}
-use Rattle.cad_surgery.specs.Exchanged.{IsExchange}
-use Rattle.cad_surgery.specs.GridEdits.{gone_by, come_by}
-use Rattle.cad_surgery.specs.GridLists.{AreEntries}
-use Rattle.cad_surgery.specs.Record.{edit_of, Holds, IsPlaced, IsMadeOf}
-use Rattle.cad_surgery.specs.declared.record.SmallRecord.{SmallRecord}
-use Rattle.cad_surgery.specs.declared.record.SmallRecord.TheVariants.{AddSource, AddPoint, DropPoint, Split, Join, Divide, MergeAlong, MergeIsland, Move, Attach, Detach, Rename, Enclose}
+use Rattle.edit_records.specs.Exchanged.{IsExchange}
+use Rattle.edit_records.specs.GridEdits.{gone_by, come_by}
+use Rattle.edit_records.specs.GridLists.{AreEntries}
+use Rattle.edit_records.specs.Record.{edit_of, Holds, IsPlaced, IsMadeOf}
+use Rattle.edit_records.specs.declared.record.SmallRecord.{SmallRecord}
+use Rattle.edit_records.specs.declared.record.SmallRecord.TheVariants.{AddSource, AddPoint, DropPoint, Split, Join, Divide, MergeAlong, MergeIsland, Move, Attach, Detach, Rename, Enclose}
 use Rattle.cad_surgery.specs.RowEdits.{is_of_rows}
-use Rattle.cad_surgery.proofs.EditExchanges.{exchanged}
-use Rattle.cad_surgery.proofs.GridLists.{exchange-listed}
+use Rattle.edit_records.proofs.EditExchanges.{exchanged}
+use Rattle.edit_records.proofs.GridLists.{exchange-listed}
 
 -- where no point comes or moves, an edit of rows touches nothing
 untouched : (m : Map) (r : SmallRecord) → IsTrue (is_of_rows (edit_of r)) → ¬ IsPlaced r → touched_by m (edit_of r) ≡ touching [] [] []

@@ -18,15 +18,15 @@ use Rattle.half_table.specs.Rows.{HalfRows, has, next, origin_of, face, cycle, h
 use Rattle.half_table.proofs.Closed.{cycle-closes}
 use Rattle.half_table.proofs.Halves.{is_half-self}
 use Rattle.cad_laws.specs.Local.{IsShown, side_by}
-use Rattle.cad_surgery.specs.KeptRings.{kept_ring}
-use Rattle.cad_surgery.specs.Parts.{Parts, FitTogether, HasHalves, rows_of, map_of, in_face, kept_at, kept_halves, rings_kept}
+use Rattle.map_parts.specs.KeptRings.{kept_ring}
+use Rattle.map_parts.specs.Parts.{Parts, FitTogether, HasHalves, rows_of, map_of, in_face, kept_at, kept_halves, rings_kept}
 use Rattle.cad_surgery.specs.Proper.{IsProper, cycle_ring}
-use Rattle.cad_surgery.proofs.Labels.{any-there}
-use Rattle.cad_surgery.proofs.PartsRings.{in_table, side-there}
+use Rattle.map_parts.proofs.Labels.{any-there}
+use Rattle.map_parts.proofs.PartsRings.{in_table, side-there}
 use Rattle.cad_surgery.proofs.PartsFaces.{rings-face, in_kept}
 use Rattle.std.proofs.lemmas.List.Sorted.{sum_by-IsPermutation}
 use Rattle.half_table.specs.Half.{is_half}
-use Rattle.cad_surgery.proofs.CycleRings.{map-map, cycle-next}
+use Rattle.map_parts.proofs.CycleRings.{map-map, cycle-next}
 
 -- the rings of a face in canonical order
 rings-canonical_at : (f : Face) (bs : List Boundary) → IsPermutation (map least_rotation (rings_at f bs)) (rings_at f (canonical_order bs))

@@ -16,12 +16,12 @@ use Rattle.half_table.specs.declared.half.Half.{Half}
 use Rattle.half_table.specs.Rows.{HalfRows, cycle}
 use Rattle.cad_laws.specs.Counts.{sides_of_face}
 use Rattle.cad_laws.specs.Local.{side_by, IsLocal}
-use Rattle.cad_surgery.specs.Handing.{home_of}
-use Rattle.cad_surgery.specs.Islands.{AreOfRings}
-use Rattle.cad_surgery.specs.Labels.{IsOnRing}
-use Rattle.cad_surgery.specs.Relabelled.{cycles_length}
-use Rattle.cad_surgery.proofs.KeptEach.{home-is}
-use Rattle.cad_surgery.proofs.Passing.Lengths.{cycle-length}
+use Rattle.map_parts.specs.Handing.{home_of}
+use Rattle.map_parts.specs.Islands.{AreOfRings}
+use Rattle.map_parts.specs.Labels.{IsOnRing}
+use Rattle.map_parts.specs.Relabelled.{cycles_length}
+use Rattle.map_parts.proofs.KeptEach.{home-is}
+use Rattle.map_parts.proofs.Passing.Lengths.{cycle-length}
 
 abbrev size : Boundary → ℕ
 size b = length b.ring

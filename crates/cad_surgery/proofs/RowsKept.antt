@@ -17,14 +17,14 @@ use Rattle.half_table.specs.declared.half.Half.{Half}
 use Rattle.half_table.specs.Rows.{HalfRows, next}
 use Rattle.key_lists.specs.Held.{items_at}
 use Rattle.cad_laws.specs.Local.{IsShown}
-use Rattle.cad_surgery.specs.KeptRings.{kept_ring}
-use Rattle.cad_surgery.specs.Parts.{Parts, FitTogether, HasHalves, IsOnKeptCycle, rows_of, map_of, in_face, kept_at, kept_halves}
+use Rattle.map_parts.specs.KeptRings.{kept_ring}
+use Rattle.map_parts.specs.Parts.{Parts, FitTogether, HasHalves, IsOnKeptCycle, rows_of, map_of, in_face, kept_at, kept_halves}
 use Rattle.cad_surgery.specs.Proper.{IsProper, cycle_ring}
 use Rattle.cad_surgery.specs.RowEdits.{HasSameEnds, ends_of, with_rows}
-use Rattle.cad_surgery.specs.Stars.{spokes_of, spokes_at}
-use Rattle.cad_surgery.specs.declared.stars.Spoke.{Spoke}
-use Rattle.cad_surgery.proofs.CycleRings.{map-map}
-use Rattle.cad_surgery.proofs.RowLists.{some-by_numbers}
+use Rattle.map_parts.specs.Stars.{spokes_of, spokes_at}
+use Rattle.map_parts.specs.declared.stars.Spoke.{Spoke}
+use Rattle.map_parts.proofs.CycleRings.{map-map}
+use Rattle.map_parts.proofs.RowLists.{some-by_numbers}
 
 -- a fact of what a list is mapped to
 All-unmap : {X Y : Type 0} (P : X → Type 0) (f : Y → X) (ys : List Y) → AllByRecursion P (map f ys) → AllByRecursion (λ y. P (f y)) ys

@@ -20,12 +20,12 @@ use Rattle.cad_map.specs.Refusals.{first_refusal, is_there, item_named, is_attac
 use Rattle.cad_map.specs.Table.{row_with, without_row}
 use Rattle.cad_map.specs.Valid.{IsValid, EachPair, AreSources}
 use Rattle.cad_map.proofs.CallerLemmas.{IsAllowed, allowed, free-source, free-point, there-one, not-when, find-Contains, All-at_each}
-use Rattle.cad_surgery.specs.Record.{edit_of, IsMadeOf}
-use Rattle.cad_surgery.specs.declared.record.SmallRecord.{SmallRecord}
-use Rattle.cad_surgery.specs.declared.record.SmallRecord.TheVariants.{AddSource, AddPoint, DropPoint, Move, Attach, Detach, Rename}
+use Rattle.edit_records.specs.Record.{edit_of, IsMadeOf}
+use Rattle.edit_records.specs.declared.record.SmallRecord.{SmallRecord}
+use Rattle.edit_records.specs.declared.record.SmallRecord.TheVariants.{AddSource, AddPoint, DropPoint, Move, Attach, Detach, Rename}
 use Rattle.cad_surgery.specs.RowEdits.{without_rings}
-use Rattle.cad_surgery.proofs.RowsBack.{filter-push, none-any, none-taken, without-push, insert-without}
-use Rattle.cad_surgery.proofs.RowsUndone.{HasNumbers, IsChanged, changed, point-known, parcel-known, moved-back, named-back, place-left}
+use Rattle.cad_laws.proofs.CallerLemmas.{filter-push, none-any, none-taken, without-push, insert-without}
+use Rattle.map_parts.proofs.RowsUndone.{HasNumbers, IsChanged, changed, point-known, parcel-known, moved-back, named-back, place-left}
 
 -- ---- Lists
 

@@ -32,23 +32,24 @@ use Rattle.cad_laws.specs.Local.{IsShown}
 use Rattle.cad_laws.specs.Tried.{IsTried}
 use Rattle.cad_laws.proofs.CallerLemmas.{whole-after}
 use Rattle.cad_valid.specs.Near.{HoldsMap, ComesFromValid}
-use Rattle.cad_surgery.specs.declared.map_rows.MapRows.{MapRows}
-use Rattle.cad_surgery.specs.declared.stars.Spoke.{Spoke}
+use Rattle.map_parts.specs.declared.map_rows.MapRows.{MapRows}
+use Rattle.map_parts.specs.declared.stars.Spoke.{Spoke}
 use Rattle.cad_surgery.specs.declared.edits.try_split.Halving.{Halving}
 use Rattle.cad_surgery.specs.declared.edits.try_split.SplitRows.{SplitRows}
-use Rattle.cad_surgery.specs.Rows.{map_in}
-use Rattle.cad_surgery.specs.Parts.{Parts, FitTogether, HasHalves, map_of, kept_at}
-use Rattle.cad_surgery.specs.Passing.{HasBetween, path_of}
+use Rattle.map_parts.specs.Rows.{map_in}
+use Rattle.map_parts.specs.Parts.{Parts, FitTogether, HasHalves, map_of, kept_at}
+use Rattle.map_parts.specs.Passing.{HasBetween, path_of}
 use Rattle.cad_surgery.specs.Proper.{IsProper}
-use Rattle.cad_surgery.specs.Record.{IsMadeOf}
-use Rattle.cad_surgery.specs.Splitting.{FitMap, CanUnsplit, CanBeginSplit, CanBeginUnsplit, split_by, split_record, split_rows}
+use Rattle.edit_records.specs.Record.{IsMadeOf}
+use Rattle.map_parts.specs.Splitting.{FitMap, CanUnsplit, CanBeginSplit, CanBeginUnsplit}
+use Rattle.cad_surgery.specs.Halvings.{split_by, split_record, split_rows}
 use Rattle.cad_surgery.specs.Work.{TakesWork, TicksUpTo}
-use Rattle.cad_surgery.proofs.EditExchanges.{some-from}
+use Rattle.edit_records.proofs.EditExchanges.{some-from}
 use Rattle.cad_surgery.proofs.DraftFits.{draft-fits, draft-all, draft-work, settled}
 use Rattle.cad_surgery.proofs.FitParts.{parts, fit-parts, fit-map, fit-proper}
-use Rattle.cad_surgery.proofs.Passing.BothMaps as both
-use Rattle.cad_surgery.proofs.Passing.Lengths.{path-length, whole-length}
-use Rattle.cad_surgery.proofs.Passing.SplitBetween.{split-has_between, split-free}
+use Rattle.map_parts.proofs.Passing.BothMaps as both
+use Rattle.map_parts.proofs.Passing.Lengths.{path-length, whole-length}
+use Rattle.map_parts.proofs.Passing.SplitBetween.{split-has_between, split-free}
 use Rattle.cad_surgery.proofs.Played.{tested}
 use Rattle.cad_surgery.proofs.WorkTaken.{work-allowed, ticks-just, ticks-then}
 

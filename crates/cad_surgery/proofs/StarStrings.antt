@@ -9,11 +9,11 @@ use Rattle.cad_map.specs.Map.{is_end, string_of, strings_at}
 use Rattle.cad_map.proofs.CallerLemmas.{Contains-first, Contains-later, Contains-at, row-found}
 use Rattle.half_table.specs.declared.half.Half.{Half}
 use Rattle.key_lists.specs.Held.{items_at}
-use Rattle.cad_surgery.specs.declared.stars.Spoke.{Spoke}
-use Rattle.cad_surgery.specs.Stars.{spokes_at}
-use Rattle.cad_surgery.specs.Parts.{Parts, FitTogether, rows_of, map_of}
-use Rattle.cad_surgery.specs.Views.{string_row, view_strings}
-use Rattle.cad_surgery.proofs.StarHalves.{spoke-is}
+use Rattle.map_parts.specs.declared.stars.Spoke.{Spoke}
+use Rattle.map_parts.specs.Stars.{spokes_at}
+use Rattle.map_parts.specs.Parts.{Parts, FitTogether, rows_of, map_of}
+use Rattle.map_parts.specs.Views.{string_row, view_strings}
+use Rattle.map_parts.proofs.StarHalves.{spoke-is}
 
 module _ (d : Parts) (fit : FitTogether d) where
   abbrev row_of : Spoke → StringRow

@@ -11,13 +11,13 @@ use Rattle.cad_rows.specs.declared.rows.StringRow.{StringRow}
 use Rattle.cad_map.specs.Map.{Map}
 use Rattle.half_table.specs.declared.half.Half.{Half}
 use Rattle.cad_laws.specs.Tried.{IsTried}
-use Rattle.cad_surgery.specs.GridEdits.{IsNoMerger}
+use Rattle.edit_records.specs.GridEdits.{IsNoMerger}
 use Rattle.cad_surgery.specs.InPlace.{is_in_place}
-use Rattle.cad_surgery.specs.Record.{edit_of}
+use Rattle.edit_records.specs.Record.{edit_of}
 use Rattle.cad_surgery.specs.RowEdits.{is_of_rows}
-use Rattle.cad_surgery.specs.declared.record.SmallRecord.{SmallRecord}
-use Rattle.cad_surgery.specs.declared.record.SmallRecord.TheVariants as record_of
-use Rattle.cad_surgery.proofs.GridEdits.{same_numbers, split-on}
+use Rattle.edit_records.specs.declared.record.SmallRecord.{SmallRecord}
+use Rattle.edit_records.specs.declared.record.SmallRecord.TheVariants as record_of
+use Rattle.edit_records.proofs.GridEdits.{same_numbers, split-on}
 
 -- a split with its coordinates as a position
 pub same-split : (m : Map) (e : Edit) (s p : ℕ) (x y : ℤ) (first second : ℕ) (at : Position) → IsTried m e → e ≡ Split s p x y first second

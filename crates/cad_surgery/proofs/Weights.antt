@@ -21,15 +21,14 @@ use Rattle.cad_map.specs.Refusals.{sources_at}
 use Rattle.cad_map.proofs.CallerLemmas.{allowed, can-divide, can-enclose}
 use Rattle.cad_laws.specs.Counts.{rows_by, sources_by, rings_by, shared_strings}
 use Rattle.cad_laws.specs.Tried.{IsTried}
-use Rattle.cad_laws.proofs.CallerLemmas.{counted, rings-counted_by}
+use Rattle.cad_laws.proofs.CallerLemmas.{counted, rings-counted_by, found-at}
 use Rattle.half_table.specs.declared.half.Half.{Half}
-use Rattle.cad_surgery.specs.HeldChains.{HeldMerged, NamesRings, rings_beside, rows_along, closed}
-use Rattle.cad_surgery.specs.Record.{edit_of, Holds, weight, chain_weight}
-use Rattle.cad_surgery.specs.declared.record.ChainString.{ChainString}
-use Rattle.cad_surgery.specs.declared.record.SmallRecord.{SmallRecord}
-use Rattle.cad_surgery.specs.declared.record.SmallRecord.TheVariants.{AddSource, AddPoint, DropPoint, Split, Join, Divide, MergeAlong, MergeIsland, Move, Attach, Detach, Rename, Enclose}
-use Rattle.cad_surgery.proofs.ChainWeights.{rings-few, rows-many, rows-weigh, closed-long}
-use Rattle.cad_surgery.proofs.RowsBack.{found-at}
+use Rattle.edit_records.specs.HeldChains.{HeldMerged, NamesRings, rings_beside, rows_along, closed}
+use Rattle.edit_records.specs.Record.{edit_of, Holds, weight, chain_weight}
+use Rattle.edit_records.specs.declared.record.ChainString.{ChainString}
+use Rattle.edit_records.specs.declared.record.SmallRecord.{SmallRecord}
+use Rattle.edit_records.specs.declared.record.SmallRecord.TheVariants.{AddSource, AddPoint, DropPoint, Split, Join, Divide, MergeAlong, MergeIsland, Move, Attach, Detach, Rename, Enclose}
+use Rattle.edit_records.proofs.ChainWeights.{rings-few, rows-many, rows-weigh, closed-long}
 
 -- two strings in the order of their numbers have the same sources
 by-number-sum : (f : StringRow → ℕ) (ss : List StringRow) (s t : StringRow) → by_number ss ≡ s ∷ t ∷ [] → sum_by f ss ≡ f s + f t

@@ -1,7 +1,7 @@
 -- A map on half-edges between two edits.
-use Rattle.cad_surgery.specs.Parts.{Parts, map_of, kept_at}
+use Rattle.map_parts.specs.Parts.{Parts, map_of, kept_at}
 use Rattle.cad_surgery.specs.Proper.{IsProper}
-use Rattle.cad_surgery.specs.Gridded.{IsGridOf}
+use Rattle.edit_records.specs.Gridded.{IsGridOf}
 
 -- table, halves of rings and grid are those of the map, and have nothing beside it
 pub record IsAtRest (d : Parts) : Type 0 where

@@ -4,7 +4,7 @@ use Rattle.cad_rows.specs.declared.edits.Edit.{Edit}
 use Rattle.cad_rows.specs.declared.edits.Edit.TheVariants.{Split, Join, Divide, Merge, Enclose}
 use Rattle.cad_rows.specs.declared.rows.StringRow.{StringRow}
 use Rattle.cad_map.specs.Map.{Map}
-use Rattle.cad_surgery.specs.Parts.{Parts, map_of, kept_at}
+use Rattle.map_parts.specs.Parts.{Parts, map_of, kept_at}
 use Rattle.cad_surgery.specs.Proper.{IsProper}
 
 -- the edit leaves the numbers and ends of strings, the numbers of parcels, and all rings

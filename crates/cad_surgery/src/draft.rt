@@ -6,28 +6,27 @@ ghost use Rattle.cad_map.specs.Map.{has_string};
 ghost use Rattle.half_table.specs.declared.half.Half.{Half as HalfOf};
 ghost use Rattle.half_table.specs.Rows.{has};
 ghost use Rattle.cad_laws.specs.Local.{side_by};
-ghost use Rattle.cad_surgery.specs.Labels.{IsAlong};
-ghost use Rattle.cad_surgery.specs.Gridded.{IsGridOf};
-ghost use Rattle.cad_surgery.specs.Parts.{rows_of, map_of, FitTogether};
-ghost use Rattle.cad_surgery.specs.Views.{view_half};
+ghost use Rattle.map_parts.specs.Labels.{IsAlong};
+ghost use Rattle.edit_records.specs.Gridded.{IsGridOf};
+ghost use Rattle.map_parts.specs.Parts.{rows_of, map_of, FitTogether};
+ghost use Rattle.map_parts.specs.Views.{view_half};
 
-use crate::building::{add_strings, keep_rings, label_rings, link_rings};
-use crate::grid::grid_of;
-use crate::kept::kept_half;
-use crate::map_rows::MapRows;
-use crate::stars::{Spoke, find_half, half_at, star_of};
 use cad_map::{Counts, MapView, PlainMap};
 use cad_rows::{
     Face, Memory, ParcelNo, ParcelRow, PointNo, PointRow, SourceNo, SourceRow, StringNo, StringRow,
 };
 use cell_grid::CellGrid;
+use edit_records::grid_of;
 use half_table::{Half, HalfTable, Tally};
 use key_lists::KeyLists;
+use map_parts::{
+    MapRows, Spoke, add_strings, find_half, half_at, keep_rings, kept_half, label_rings,
+    link_rings, star_of,
+};
 use std::alloc::Global;
 use std::marker::Model;
 
 /// A map whose rings are the cycles of a table of half-edges.
-#[derive(Drop)]
 pub(crate) struct Draft<T: Tally> {
     pub(crate) rows: MapRows,
     pub(crate) table: HalfTable<T>,
@@ -36,10 +35,23 @@ pub(crate) struct Draft<T: Tally> {
     pub(crate) grid: CellGrid,
 }
 
+// Written out, so that the end of one is a single call in a caller's proof.
+impl<T: Tally> Drop for Draft<T> {
+    fn drop(self) {
+        let Draft {
+            rows: _rows,
+            table: _table,
+            kept: _kept,
+            stars: _stars,
+            grid: _grid,
+        } = self;
+    }
+}
+
 impl<T: Tally> Model for Draft<T> {
-    ghost use Rattle.cad_surgery.specs.Parts.{Parts, FitTogether};
-    ghost use Rattle.cad_surgery.specs.Building.{parts_of};
-    ghost use Rattle.cad_surgery.specs.Rows.{map_in};
+    ghost use Rattle.map_parts.specs.Parts.{Parts, FitTogether};
+    ghost use Rattle.map_parts.specs.Building.{parts_of};
+    ghost use Rattle.map_parts.specs.Rows.{map_in};
 
     ghost Value = { Parts };
 
@@ -110,8 +122,8 @@ impl<T: Tally> Draft<T> {
 }
 
 impl<T: Tally> MapView for Draft<T> {
-    ghost use Rattle.cad_surgery.specs.Parts.{map_of, rings_kept};
-    ghost use Rattle.cad_surgery.specs.Views.{view_face, view_next, view_faces, view_strings};
+    ghost use Rattle.map_parts.specs.Parts.{map_of, rings_kept};
+    ghost use Rattle.map_parts.specs.Views.{view_face, view_next, view_faces, view_strings};
 
     ghost map = { λ d. map_of d };
 

@@ -2,13 +2,13 @@
 ghost use Rattle.std.specs.Prelude.{◌≡◌, OnOk, OnErr};
 ghost use Rattle.cad_map.specs.Map.{Map};
 ghost use Rattle.cell_grid.specs.Together.{Listed};
-ghost use Rattle.cad_surgery.specs.Gridded.{IsGridOf};
-ghost use Rattle.cad_surgery.specs.Exchanged.{IsExchange, IsGridOfBoth, CanEnter, CanLeave};
+ghost use Rattle.edit_records.specs.Gridded.{IsGridOf};
+ghost use Rattle.edit_records.specs.Exchanged.{IsExchange, IsGridOfBoth, CanEnter, CanLeave};
 
 use crate::draft::Draft;
-use crate::grid::{enter, withdraw};
 use cad_rows::Memory;
 use cell_grid::Entries;
+use edit_records::{enter, withdraw};
 use half_table::Tally;
 
 impl<T: Tally> Draft<T> {

@@ -3,14 +3,14 @@ ghost use Rattle.std.specs.Prelude.{◌≡◌, IsTrue, IsOk, IfOk, OnOk, OnErr};
 ghost use Rattle.cad_map.specs.Effects.{after};
 ghost use Rattle.cad_map.specs.Map.{Map};
 ghost use Rattle.cad_laws.specs.Tried.{IsTried};
-ghost use Rattle.cad_surgery.specs.Parts.{map_of};
-ghost use Rattle.cad_surgery.specs.Record.{edit_of, Holds, IsMadeOf, IsPlaced};
+ghost use Rattle.map_parts.specs.Parts.{map_of};
+ghost use Rattle.edit_records.specs.Record.{edit_of, Holds, IsMadeOf, IsPlaced};
 ghost use Rattle.cad_surgery.specs.RowEdits.{is_of_rows, KeepsBeside};
 
 use crate::draft::Draft;
 use crate::edits::rows::{make, remake, unmake};
-use crate::record::SmallRecord;
 use cad_rows::{Edit, Memory};
+use edit_records::SmallRecord;
 use half_table::Tally;
 
 impl<T: Tally> Draft<T> {

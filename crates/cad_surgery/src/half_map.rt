@@ -2,8 +2,8 @@
 ghost use Rattle.std.specs.Prelude.{◌≡◌, IfOk};
 ghost use Rattle.cad_map.specs.Valid.{IsValid};
 ghost use Rattle.cad_valid.specs.Near.{HoldsMap};
-ghost use Rattle.cad_surgery.specs.Gridded.{IsGridOf};
-ghost use Rattle.cad_surgery.specs.Parts.{map_of, kept_at};
+ghost use Rattle.edit_records.specs.Gridded.{IsGridOf};
+ghost use Rattle.map_parts.specs.Parts.{map_of, kept_at};
 ghost use Rattle.cad_surgery.specs.Proper.{IsProper};
 
 use crate::draft::Draft;
@@ -25,7 +25,7 @@ pub struct HalfMap<T: Tally> {
 }
 
 impl<T: Tally> Model for HalfMap<T> {
-    ghost use Rattle.cad_surgery.specs.Parts.{Parts};
+    ghost use Rattle.map_parts.specs.Parts.{Parts};
     ghost use Rattle.cad_surgery.specs.AtRest.{IsAtRest};
 
     ghost Value = { Parts };
@@ -67,8 +67,8 @@ impl<T: Tally> HalfMap<T> {
 }
 
 impl<T: Tally> MapView for HalfMap<T> {
-    ghost use Rattle.cad_surgery.specs.Parts.{map_of, rings_kept};
-    ghost use Rattle.cad_surgery.specs.Views.{view_face, view_next, view_faces, view_strings};
+    ghost use Rattle.map_parts.specs.Parts.{map_of, rings_kept};
+    ghost use Rattle.map_parts.specs.Views.{view_face, view_next, view_faces, view_strings};
 
     ghost map = { λ d. map_of d };
 

@@ -6,16 +6,16 @@ ghost use Rattle.cad_map.specs.Map.{Map};
 ghost use Rattle.cad_map.specs.Outcome.{LeadsTo, MayRefuse};
 ghost use Rattle.cad_map.specs.Refusals.{first_refusal as first_refusal_of};
 ghost use Rattle.cad_map.specs.Valid.{IsValid};
-ghost use Rattle.cad_surgery.specs.Parts.{map_of};
-ghost use Rattle.cad_surgery.specs.Record.{edit_of, Belongs, weight};
+ghost use Rattle.map_parts.specs.Parts.{map_of};
+ghost use Rattle.edit_records.specs.Record.{edit_of, Belongs, weight};
 ghost use Rattle.cad_surgery.specs.InPlace.{is_in_place};
 ghost use Rattle.cad_surgery.specs.Work.{TakesWork};
 
 use crate::half_map::HalfMap;
 use crate::play::{play, play_again, play_back};
-use crate::record::{SmallRecord, are_in_range as gives_in_range};
 use cad_edit::{are_in_range, first_refusal};
 use cad_rows::{Edit, Memory, Refusal};
+use edit_records::{SmallRecord, are_in_range as gives_in_range};
 use half_table::Tally;
 
 impl<T: Tally> HalfMap<T> {

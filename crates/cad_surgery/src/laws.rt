@@ -16,13 +16,13 @@ ghost use Rattle.cad_map.specs.Merger.ChainInRings.{along};
 ghost use Rattle.cad_map.specs.Rings.{HasWholeRings};
 ghost use Rattle.cad_laws.specs.Faces.{IsDividedIn, left_of_chain, right_of_chain, uncut};
 ghost use Rattle.cad_laws.specs.Tried.{IsTried, AreChosen};
-ghost use Rattle.cad_surgery.specs.Parts.{Parts, FitTogether, map_of};
-ghost use Rattle.cad_surgery.specs.Fits.{FitRings, HasSidesOnce, with_rings};
-ghost use Rattle.cad_surgery.specs.Exchanged.{IsExchange};
-ghost use Rattle.cad_surgery.specs.GridEdits.{gone_by, come_by};
-ghost use Rattle.cad_surgery.specs.Chains.{IsChainOf, IsTakenChain};
-ghost use Rattle.cad_surgery.specs.Islands.{IsIslandOf};
-ghost use Rattle.cad_surgery.specs.Handing.{HaveTwoFaces};
+ghost use Rattle.map_parts.specs.Parts.{Parts, FitTogether, map_of};
+ghost use Rattle.map_parts.specs.Fits.{FitRings, HasSidesOnce, with_rings};
+ghost use Rattle.edit_records.specs.Exchanged.{IsExchange};
+ghost use Rattle.edit_records.specs.GridEdits.{gone_by, come_by};
+ghost use Rattle.map_parts.specs.Chains.{IsChainOf, IsTakenChain};
+ghost use Rattle.map_parts.specs.Islands.{IsIslandOf};
+ghost use Rattle.map_parts.specs.Handing.{HaveTwoFaces};
 
 /// Where the parts go half by half with the rings of a map whose rings are whole, they stand for
 /// that map.

@@ -10,12 +10,12 @@ ghost use Rattle.cad_map.specs.Valid.{IsValid};
 ghost use Rattle.cad_laws.specs.Tried.{IsTried};
 ghost use Rattle.cad_valid.specs.Near.{HoldsMap, touched_of};
 ghost use Rattle.cad_surgery.specs.AtRest.{IsAtRest};
-ghost use Rattle.cad_surgery.specs.GridEdits.{gone_by, come_by};
-ghost use Rattle.cad_surgery.specs.GridLists.{AreEntries, IsBeside};
+ghost use Rattle.edit_records.specs.GridEdits.{gone_by, come_by};
+ghost use Rattle.edit_records.specs.GridLists.{AreEntries, IsBeside};
 ghost use Rattle.cad_surgery.specs.InPlace.{is_in_place};
-ghost use Rattle.cad_surgery.specs.Parts.{map_of, kept_at};
+ghost use Rattle.map_parts.specs.Parts.{map_of, kept_at};
 ghost use Rattle.cad_surgery.specs.Proper.{IsProper};
-ghost use Rattle.cad_surgery.specs.Record.{edit_of, Holds, Belongs, IsPlaced};
+ghost use Rattle.edit_records.specs.Record.{edit_of, Holds, Belongs, IsPlaced};
 ghost use Rattle.cad_surgery.specs.RowEdits.{is_of_rows, KeepsBeside};
 ghost use Rattle.cad_surgery.specs.Work.{TakesWork};
 
@@ -23,13 +23,10 @@ use crate::draft::Draft;
 use crate::edits::try_enclose::{Enclosure, back_enclose, forward_enclose, try_enclose};
 use crate::edits::try_join::{back_join, forward_join, try_join};
 use crate::edits::try_split::{Halving, back_split, forward_split, try_split};
-use crate::grid_edits::{at, coming, going};
-use crate::grid_records::{what_comes, what_goes};
-use crate::record::SmallRecord;
-use crate::touched::touched_by;
 use cad_rows::{Edit, Memory, Refusal};
 use cad_valid::{Touched, first_broken_near};
 use cell_grid::Entries;
+use edit_records::{SmallRecord, at, coming, going, touched_by, what_comes, what_goes};
 use half_table::Tally;
 
 // Whether a point came, or lies elsewhere: of the edits of rows alone no other can break a rule.

@@ -8,8 +8,8 @@ ghost use Rattle.half_table.specs.Count.{ticked};
 ghost use Rattle.half_paths.specs.Path.{strings_of, AreIn, AreDifferent};
 ghost use Rattle.half_paths.specs.Loose.{numbers_of, is_of, AreNew, AreLoose, AddsStrings, DropsStrings};
 ghost use Rattle.cad_laws.specs.Local.{IsShown};
-ghost use Rattle.cad_surgery.specs.Parts.{map_of, FitTogether};
-ghost use Rattle.cad_surgery.specs.Shown.{KeepsShown};
+ghost use Rattle.map_parts.specs.Parts.{map_of, FitTogether};
+ghost use Rattle.map_parts.specs.Shown.{KeepsShown};
 
 use crate::draft::Draft;
 use cad_rows::{Memory, StringRow};

@@ -6,7 +6,7 @@ ghost use Rattle.cad_map.specs.Valid.{IsValid};
 ghost use Rattle.cad_laws.specs.Joining.{FarEndsAreApart};
 ghost use Rattle.cad_rows.specs.declared.edits.Edit.TheVariants.{Join};
 ghost use Rattle.cad_rows.specs.declared.rows.StringRow.{StringRow as StringOf};
-ghost use Rattle.cad_surgery.specs.Joined.{joining_of};
+ghost use Rattle.cad_surgery.specs.Joinings.{joining_of};
 
 use cad_edit::{both_sources, two_at};
 use cad_map::{MapView, far_end};

@@ -2,18 +2,18 @@
 ghost use Rattle.std.specs.Prelude.{◌≡◌, ◌<◌, length, filter, IfOk};
 ghost use Rattle.cad_map.specs.Map.{rings_at};
 ghost use Rattle.cad_map.specs.Rings.{HasWholeRings, ring_at};
-ghost use Rattle.cad_surgery.specs.Handing.{home_of};
-ghost use Rattle.cad_surgery.specs.Parts.{map_of, kept_at};
-ghost use Rattle.cad_surgery.specs.Placed.{AreOfHoles, is_hole_in, moves_in};
+ghost use Rattle.map_parts.specs.Handing.{home_of};
+ghost use Rattle.map_parts.specs.Parts.{map_of, kept_at};
+ghost use Rattle.map_parts.specs.Placed.{AreOfHoles, is_hole_in, moves_in};
 
 use crate::draft::Draft;
-use crate::kept::face_place;
 use cad_edit::is_in_ring;
 use cad_map::MapView;
 use cad_rings::Ring;
 use cad_rows::{Face, Memory};
 use cad_valid::{anchor_of, is_hole};
 use half_table::{Half, Tally};
+use map_parts::face_place;
 use std::alloc::Global;
 
 // Whether a ring of a face is a hole whose anchor is inside another ring.

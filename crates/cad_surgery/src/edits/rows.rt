@@ -4,17 +4,17 @@ ghost use Rattle.geo_exact.specs.Position.{OnTheMap};
 ghost use Rattle.cad_map.specs.Effects.{after};
 ghost use Rattle.cad_map.specs.Map.{Map};
 ghost use Rattle.cad_map.specs.Refusals.{range, unknown, taken, not_attached};
-ghost use Rattle.cad_surgery.specs.Record.{edit_of, Holds, IsMadeOf, IsPlaced};
+ghost use Rattle.edit_records.specs.Record.{edit_of, Holds, IsMadeOf, IsPlaced};
 ghost use Rattle.cad_surgery.specs.RowEdits.{is_of_rows, without_rings};
-ghost use Rattle.cad_surgery.specs.Rows.{map_in};
+ghost use Rattle.map_parts.specs.Rows.{map_in};
 
-use crate::edits::labels::rename;
-use crate::edits::points::{add_point, move_point, put_point_back, take_point};
-use crate::edits::sources::{add_source, attach, attach_at, detach, take_source};
-use crate::map_rows::MapRows;
-use crate::record::SmallRecord;
 use cad_rows::{Edit, Memory, SourceRow};
+use edit_records::SmallRecord;
 use geo_exact::Pt;
+use map_parts::{
+    MapRows, add_point, add_source, attach, attach_at, detach, move_point, put_point_back, rename,
+    take_point, take_source,
+};
 
 // The position with coordinates that are in range.
 fn at(x: i64, y: i64) -> Pt

@@ -11,28 +11,26 @@ ghost use Rattle.half_table.specs.Half.{forward_of};
 ghost use Rattle.cad_laws.specs.Tried.{IsTried};
 ghost use Rattle.cad_valid.specs.Near.{HoldsMap, touched_of};
 ghost use Rattle.cad_rows.specs.declared.names.Face.TheVariants.{Parcel};
-ghost use Rattle.cad_surgery.specs.Dividing.{HasCrossing, IsDividedBy, IsOfDivide, divided_by};
-ghost use Rattle.cad_surgery.specs.Dividing.{strings_across, parcel_across};
-ghost use Rattle.cad_surgery.specs.HeldChains.{HeldChain};
-ghost use Rattle.cad_surgery.specs.Parts.{map_of, kept_at};
+ghost use Rattle.cad_surgery.specs.Divisions.{HasCrossing, IsDividedBy, IsOfDivide, divided_by};
+ghost use Rattle.cad_surgery.specs.Divisions.{strings_across, parcel_across};
+ghost use Rattle.edit_records.specs.HeldChains.{HeldChain};
+ghost use Rattle.map_parts.specs.Parts.{map_of, kept_at};
 ghost use Rattle.cad_surgery.specs.Proper.{IsProper};
-ghost use Rattle.cad_surgery.specs.Record.{edit_of, Holds, Belongs};
+ghost use Rattle.edit_records.specs.Record.{edit_of, Holds, Belongs};
 ghost use Rattle.cad_surgery.specs.Work.{TakesWork};
 
 use crate::draft::Draft;
 use crate::edits::counted::is_work_in_range;
-use crate::edits::dividing::undivide;
-use crate::edits::dividing_tried::{begin_divide, begin_undivide};
 use crate::edits::hidden::drop_hidden;
-use crate::edits::split::forward;
-use crate::record::SmallRecord;
 use cad_edit::rows_along;
 use cad_rows::{
     Face, Label, Memory, Numbers, ParcelNo, ParcelRow, PointNo, Refusal, SourceNo, StringNo,
     StringRow,
 };
 use cad_valid::{Touched, first_broken_near};
+use edit_records::SmallRecord;
 use half_table::{Half, Tally};
+use map_parts::{begin_divide, begin_undivide, forward, undivide};
 use std::alloc::Global;
 
 /// What a division names and gives.

@@ -12,22 +12,18 @@ ghost use Rattle.cad_rows.specs.declared.edits.Edit.TheVariants.{Enclose};
 ghost use Rattle.half_table.specs.Half.{forward_of};
 ghost use Rattle.cad_laws.specs.Tried.{IsTried};
 ghost use Rattle.cad_valid.specs.Near.{HoldsMap, touched_of};
-ghost use Rattle.cad_surgery.specs.declared.record.SmallRecord.TheVariants.{Enclose as EncloseRecord};
-ghost use Rattle.cad_surgery.specs.Enclosing.{LeadsBy, enclosed_by, strings_by, parcel_by};
-ghost use Rattle.cad_surgery.specs.Parts.{map_of, kept_at};
-ghost use Rattle.cad_surgery.specs.Placed.{AreOfHoles};
+ghost use Rattle.edit_records.specs.declared.record.SmallRecord.TheVariants.{Enclose as EncloseRecord};
+ghost use Rattle.cad_surgery.specs.Enclosures.{LeadsBy, enclosed_by, strings_by, parcel_by};
+ghost use Rattle.map_parts.specs.Parts.{map_of, kept_at};
+ghost use Rattle.map_parts.specs.Placed.{AreOfHoles};
 ghost use Rattle.cad_surgery.specs.Proper.{IsProper};
-ghost use Rattle.cad_surgery.specs.Record.{edit_of, Holds};
+ghost use Rattle.edit_records.specs.Record.{edit_of, Holds};
 ghost use Rattle.cad_surgery.specs.Work.{TakesWork};
 
 use crate::draft::Draft;
 use crate::edits::counted::is_work_in_range;
-use crate::edits::enclosing::open;
-use crate::edits::enclosing_tried::{begin_enclose, begin_open};
 use crate::edits::hidden::drop_hidden;
 use crate::edits::moved::moved_halves;
-use crate::edits::split::forward;
-use crate::record::SmallRecord;
 use cad_edit::rows_along;
 use cad_rings::Ring;
 use cad_rows::{
@@ -35,7 +31,9 @@ use cad_rows::{
     StringRow,
 };
 use cad_valid::{Touched, first_broken_near};
+use edit_records::SmallRecord;
 use half_table::{Half, Tally};
+use map_parts::{begin_enclose, begin_open, forward, open};
 use std::alloc::Global;
 
 /// What an enclosure names and gives.

@@ -13,23 +13,21 @@ ghost use Rattle.cad_laws.specs.Tried.{IsTried};
 ghost use Rattle.cad_rows.specs.declared.edits.Edit.TheVariants.{Join};
 ghost use Rattle.cad_rows.specs.declared.rows.StringRow.{StringRow as StringOf};
 ghost use Rattle.cad_valid.specs.Near.{HoldsMap, touched_of};
-ghost use Rattle.cad_surgery.specs.Joined.{IsOfJoin, joining_of, join_record};
-ghost use Rattle.cad_surgery.specs.Parts.{map_of, kept_at};
+ghost use Rattle.cad_surgery.specs.Joinings.{IsOfJoin, joining_of, join_record};
+ghost use Rattle.map_parts.specs.Parts.{map_of, kept_at};
 ghost use Rattle.cad_surgery.specs.Proper.{IsProper};
-ghost use Rattle.cad_surgery.specs.Record.{edit_of, Holds, Belongs};
+ghost use Rattle.edit_records.specs.Record.{edit_of, Holds, Belongs};
 ghost use Rattle.cad_surgery.specs.Work.{TakesWork};
 
 use crate::draft::Draft;
 use crate::edits::counted::is_work_in_range;
 use crate::edits::hidden::drop_hidden;
-use crate::edits::join::{JoinedRows, half_from, half_to, unjoin};
-use crate::edits::join_tried::{begin_join, begin_unjoin};
 use crate::edits::joining::{Joining, are_far_ends_joined, joining_at};
-use crate::edits::split::forward;
-use crate::record::SmallRecord;
 use cad_rows::{Memory, PointNo, Refusal, Rule, StringNo};
 use cad_valid::{Touched, first_broken_near};
+use edit_records::SmallRecord;
 use half_table::Tally;
+use map_parts::{JoinedRows, begin_join, begin_unjoin, forward, half_from, half_to, unjoin};
 
 // Joins two strings whose far ends aren't joined, and takes it back where it breaks a rule. Gives
 // the rows that go.

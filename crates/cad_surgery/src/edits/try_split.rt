@@ -10,24 +10,22 @@ ghost use Rattle.cad_map.specs.Valid.{IsValid};
 ghost use Rattle.cad_laws.specs.Tried.{IsTried};
 ghost use Rattle.cad_rows.specs.declared.rows.StringRow.{StringRow as StringRowOf};
 ghost use Rattle.cad_valid.specs.Near.{HoldsMap, touched_of};
-ghost use Rattle.cad_surgery.specs.Parts.{map_of, kept_at};
+ghost use Rattle.map_parts.specs.Parts.{map_of, kept_at};
 ghost use Rattle.cad_surgery.specs.Proper.{IsProper};
-ghost use Rattle.cad_surgery.specs.Record.{edit_of, Holds, IsMadeOf};
-ghost use Rattle.cad_surgery.specs.Rows.{map_in};
-ghost use Rattle.cad_surgery.specs.Splitting.{split_by, split_record, split_rows};
+ghost use Rattle.edit_records.specs.Record.{edit_of, Holds, IsMadeOf};
+ghost use Rattle.map_parts.specs.Rows.{map_in};
+ghost use Rattle.cad_surgery.specs.Halvings.{split_by, split_record, split_rows};
 ghost use Rattle.cad_surgery.specs.Work.{TakesWork};
 
 use crate::draft::Draft;
 use crate::edits::counted::is_work_in_range;
 use crate::edits::hidden::drop_hidden;
-use crate::edits::split::{forward, unsplit};
-use crate::edits::split_tried::{begin_split, begin_unsplit};
-use crate::map_rows::MapRows;
-use crate::record::SmallRecord;
 use cad_rows::{Memory, Numbers, PointNo, PointRow, Refusal, StringNo, StringRow};
 use cad_valid::{Touched, first_broken_near};
+use edit_records::SmallRecord;
 use geo_exact::Pt;
 use half_table::Tally;
+use map_parts::{MapRows, begin_split, begin_unsplit, forward, unsplit};
 
 /// What a split gives: the new point, its position, and the numbers of the two strings.
 #[derive(Clone, Copy, Debug)]

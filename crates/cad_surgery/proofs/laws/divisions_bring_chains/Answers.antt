@@ -1,4 +1,4 @@
-use Rattle.cad_surgery.proofs.DividedChain.{tried-chain, tried-faces}
+use Rattle.map_parts.proofs.DividedChain.{tried-chain, tried-faces}
 use Rattle.cad_surgery.proofs.laws.divisions_bring_chains.Goals as goal
 
 pub returns-clause-chain : goal.returns-clause-chain

@@ -1,4 +1,4 @@
-use Rattle.cad_surgery.proofs.EnclosedIsland.{tried-island, tried-faces}
+use Rattle.map_parts.proofs.EnclosedIsland.{tried-island, tried-faces}
 use Rattle.cad_surgery.proofs.laws.enclosures_bring_islands.Goals as goal
 
 pub returns-clause-island : goal.returns-clause-island

@@ -1,4 +1,4 @@
-use Rattle.cad_surgery.proofs.FromHalves.{fit-together, map-is}
+use Rattle.map_parts.proofs.FromHalves.{fit-together, map-is}
 use Rattle.cad_surgery.proofs.laws.halves_make_the_map.Goals as goal
 
 pub returns-clause-fit : goal.returns-clause-fit

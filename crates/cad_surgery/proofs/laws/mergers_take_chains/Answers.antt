@@ -1,4 +1,4 @@
-use Rattle.cad_surgery.proofs.MergedChain.{merged-chain, merged-face}
+use Rattle.map_parts.proofs.MergedChain.{merged-chain, merged-face}
 use Rattle.cad_surgery.proofs.laws.mergers_take_chains.Goals as goal
 
 pub returns-clause-chain : goal.returns-clause-chain

@@ -1,7 +1,7 @@
 use Rattle.std.proofs.lemmas.Result.{on_ok_weaker}
 use Rattle.std.proofs.Common.{sym, subst}
 use Rattle.cad_map.specs.Asked.{GivesInRange}
-use Rattle.cad_surgery.specs.Parts.{map_of}
+use Rattle.map_parts.specs.Parts.{map_of}
 use Rattle.cad_surgery.proofs.GridSteps.{idle, made-by}
 use Rattle.cad_surgery.proofs.LeadsBy.{leads-by, same-lists}
 use Rattle.cad_surgery.proofs.Trials.{rows-of}

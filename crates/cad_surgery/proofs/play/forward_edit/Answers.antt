@@ -1,7 +1,7 @@
 use Rattle.std.proofs.Common.{sym, subst}
 use Rattle.cad_laws.specs.Tried.{IsTried}
 use Rattle.cad_map.specs.Valid.{IsValid}
-use Rattle.cad_surgery.specs.Parts.{map_of}
+use Rattle.map_parts.specs.Parts.{map_of}
 use Rattle.cad_surgery.proofs.GridSteps.{idle, made-by, tried-of}
 use Rattle.cad_surgery.proofs.LeadsBy.{same-lists}
 use Rattle.cad_surgery.proofs.Trials.{rows-of}

@@ -1,8 +1,8 @@
 use Rattle.std.proofs.Common.{◌∙◌, ap, subst, sym, refl}
 use Rattle.cad_map.specs.Effects.{after}
-use Rattle.cad_surgery.specs.Exchanged.{IsGridOfBoth}
-use Rattle.cad_surgery.specs.Parts.{map_of}
-use Rattle.cad_surgery.proofs.Exchanges.{exchange-back, both-back, both-holds}
+use Rattle.edit_records.specs.Exchanged.{IsGridOfBoth}
+use Rattle.map_parts.specs.Parts.{map_of}
+use Rattle.edit_records.proofs.Exchanges.{exchange-back, both-back, both-holds}
 use Rattle.cad_map.specs.Outcome.{out_of_memory}
 use Rattle.cad_map.specs.Valid.{IsValid}
 use Rattle.cad_map.specs.Touched.{IsTouched}

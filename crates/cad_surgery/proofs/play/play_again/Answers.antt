@@ -1,11 +1,11 @@
 use Rattle.std.proofs.Common.{◌∙◌, ap, subst, sym, refl, inl}
 use Rattle.cad_map.specs.Effects.{after}
-use Rattle.cad_surgery.specs.Exchanged.{IsGridOfBoth}
-use Rattle.cad_surgery.specs.Parts.{map_of}
-use Rattle.cad_surgery.proofs.Exchanges.{exchange-back, both-back}
+use Rattle.edit_records.specs.Exchanged.{IsGridOfBoth}
+use Rattle.map_parts.specs.Parts.{map_of}
+use Rattle.edit_records.proofs.Exchanges.{exchange-back, both-back}
 use Rattle.cad_map.specs.Costs.{work_bound}
 use Rattle.cad_map.specs.Map.{Map}
-use Rattle.cad_surgery.specs.Record.{edit_of, Belongs}
+use Rattle.edit_records.specs.Record.{edit_of, Belongs}
 use Rattle.cad_surgery.proofs.GridSteps.{same-map, same-proper, same-table, rests, exchange-of, tried-of, made-by, idle, worked}
 use Rattle.cad_surgery.proofs.play.play_again.Goals as goal
 

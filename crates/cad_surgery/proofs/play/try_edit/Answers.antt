@@ -6,10 +6,10 @@ use Rattle.cad_map.specs.Outcome.{MayRefuse}
 use Rattle.cad_map.specs.Touched.{IsTouched}
 use Rattle.cad_laws.specs.Tried.{IsTried}
 use Rattle.cad_valid.specs.Near.{HoldsMap, touched_of}
-use Rattle.cad_surgery.specs.Parts.{map_of}
-use Rattle.cad_surgery.specs.Record.{edit_of}
+use Rattle.map_parts.specs.Parts.{map_of}
+use Rattle.edit_records.specs.Record.{edit_of}
 use Rattle.cad_surgery.specs.Work.{TakesWork}
-use Rattle.cad_surgery.proofs.GridEdits.{on_map, split-on}
+use Rattle.edit_records.proofs.GridEdits.{on_map, split-on}
 use Rattle.cad_surgery.proofs.GridSteps.{idle}
 use Rattle.cad_surgery.proofs.Trials.{same-split, rows-left}
 use Rattle.cad_surgery.proofs.play.try_edit.Goals as goal

@@ -6,8 +6,8 @@ use Rattle.cad_map.specs.Touched.{IsTouched}
 use Rattle.cad_valid.specs.Near.{HoldsMap, touched_of}
 use Rattle.cad_map.specs.Valid.{IsValid, CanBeTested, FirstBroken, KeepsAll}
 use Rattle.cad_map.proofs.CallerLemmas.{valid-from_kept}
-use Rattle.cad_surgery.specs.Parts.{map_of}
-use Rattle.cad_surgery.specs.Record.{edit_of}
+use Rattle.map_parts.specs.Parts.{map_of}
+use Rattle.edit_records.specs.Record.{edit_of}
 use Rattle.cad_surgery.proofs.Played.{tested, valid-untouched, made-of, sure-ok}
 use Rattle.cad_surgery.proofs.play.try_rows.Goals as goal
 

@@ -1,8 +1,8 @@
 use Rattle.std.proofs.Common.{subst}
 use Rattle.std.specs.Prelude.{IfSome, IfNone}
 use Rattle.cad_map.specs.Views.{IsNoSide}
-use Rattle.cad_surgery.specs.Labels.{IsAlong}
-use Rattle.cad_surgery.specs.Parts.{Parts, rows_of, map_of}
+use Rattle.map_parts.specs.Labels.{IsAlong}
+use Rattle.map_parts.specs.Parts.{Parts, rows_of, map_of}
 use Rattle.cad_surgery.proofs.PartsStars.{half-some, half-none}
 use Rattle.cad_surgery.proofs.draft.Draft.half.Goals as goal
 

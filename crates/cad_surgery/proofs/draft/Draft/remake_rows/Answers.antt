@@ -2,11 +2,11 @@ use Rattle.std.proofs.Common.{◌≡◌, ◌∙◌, ap, subst, sym}
 use Rattle.std.proofs.lemmas.Result.{on_ok_weaker}
 use Rattle.cad_map.specs.Effects.{after}
 use Rattle.cad_map.proofs.CallerLemmas.{allowed}
-use Rattle.cad_surgery.specs.Building.{parts_of}
-use Rattle.cad_surgery.specs.Parts.{map_of}
-use Rattle.cad_surgery.specs.Record.{edit_of, IsMadeOf}
+use Rattle.map_parts.specs.Building.{parts_of}
+use Rattle.map_parts.specs.Parts.{map_of}
+use Rattle.edit_records.specs.Record.{edit_of, IsMadeOf}
 use Rattle.cad_surgery.specs.RowEdits.{KeepsBeside, with_rows}
-use Rattle.cad_surgery.specs.Rows.{map_in}
+use Rattle.map_parts.specs.Rows.{map_in}
 use Rattle.cad_surgery.proofs.RowsKept.{rows-fit}
 use Rattle.cad_surgery.proofs.DraftRows.{unknown-rows, taken-rows, not_attached-rows, made-ends, made-map, beside-rows}
 use Rattle.cad_surgery.proofs.draft.Draft.remake_rows.Goals as goal

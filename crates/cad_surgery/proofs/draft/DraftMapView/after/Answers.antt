@@ -1,7 +1,7 @@
 use Rattle.std.proofs.Common.{sym, subst}
 use Rattle.cad_map.specs.Views.{ComesAfter}
-use Rattle.cad_surgery.specs.Parts.{Parts, rows_of, map_of}
-use Rattle.cad_surgery.specs.Labels.{IsAlong}
+use Rattle.map_parts.specs.Parts.{Parts, rows_of, map_of}
+use Rattle.map_parts.specs.Labels.{IsAlong}
 use Rattle.cad_surgery.proofs.PartsStars.{along-after}
 use Rattle.cad_surgery.proofs.draft.DraftMapView.after.Goals as goal
 

@@ -1,8 +1,8 @@
 use Rattle.std.proofs.Common.{sym, subst}
 use Rattle.cad_rows.specs.declared.names.Face.{Face}
 use Rattle.cad_map.specs.Views.{HasSide}
-use Rattle.cad_surgery.specs.Parts.{Parts, rows_of, map_of}
-use Rattle.cad_surgery.specs.Labels.{IsAlong}
+use Rattle.map_parts.specs.Parts.{Parts, rows_of, map_of}
+use Rattle.map_parts.specs.Labels.{IsAlong}
 use Rattle.cad_surgery.proofs.PartsStars.{along-face}
 use Rattle.cad_surgery.proofs.draft.DraftMapView.face_of.Goals as goal
 

@@ -1,6 +1,6 @@
 use Rattle.std.proofs.Common.{rules, subst}
 use Rattle.cad_map.specs.Views.{HasFaces}
-use Rattle.cad_surgery.specs.Parts.{Parts, map_of}
+use Rattle.map_parts.specs.Parts.{Parts, map_of}
 use Rattle.cad_surgery.proofs.PartsStars.{string-faces, found-there, found-back}
 use Rattle.cad_surgery.proofs.draft.DraftMapView.left_right.Goals as goal
 

@@ -1,12 +1,12 @@
 use Rattle.std.proofs.Common.{◌≡◌, ◌∙◌, ap, sym, subst}
 use Rattle.cad_map.specs.Rings.{HasWholeRings}
-use Rattle.cad_surgery.specs.Building.{parts_of}
-use Rattle.cad_surgery.specs.Parts.{Parts, map_of}
-use Rattle.cad_surgery.specs.Rows.{map_in}
-use Rattle.cad_surgery.specs.Shown.{KeepsShown}
+use Rattle.map_parts.specs.Building.{parts_of}
+use Rattle.map_parts.specs.Parts.{Parts, map_of}
+use Rattle.map_parts.specs.Rows.{map_in}
+use Rattle.map_parts.specs.Shown.{KeepsShown}
 use Rattle.half_paths.specs.Loose.{AreNew}
-use Rattle.cad_surgery.proofs.PartsRings.{half-there}
-use Rattle.cad_surgery.proofs.KeptShown.{tried-hidden, table-fit, table-map}
+use Rattle.map_parts.proofs.PartsRings.{half-there}
+use Rattle.map_parts.proofs.KeptShown.{tried-hidden, table-fit, table-map}
 use Rattle.cad_surgery.proofs.edits.hidden.add_hidden.Goals as goal
 
 pub returns-clause-shown : goal.returns-clause-shown

@@ -1,14 +1,14 @@
 use Rattle.std.proofs.Common.{◌≡◌, ◌∙◌, false, ap, sym, subst}
 use Rattle.cad_map.specs.Rings.{HasWholeRings}
-use Rattle.cad_surgery.specs.Building.{parts_of}
-use Rattle.cad_surgery.specs.Parts.{Parts, map_of}
-use Rattle.cad_surgery.specs.Rows.{map_in}
-use Rattle.cad_surgery.specs.Shown.{KeepsShown}
+use Rattle.map_parts.specs.Building.{parts_of}
+use Rattle.map_parts.specs.Parts.{Parts, map_of}
+use Rattle.map_parts.specs.Rows.{map_in}
+use Rattle.map_parts.specs.Shown.{KeepsShown}
 use Rattle.half_table.specs.declared.half.Half.{Half}
 use Rattle.cad_laws.specs.Local.{IsShown}
 use Rattle.half_paths.specs.Path.{strings_of}
 use Rattle.half_paths.specs.Loose.{is_of}
-use Rattle.cad_surgery.proofs.KeptShown.{drops-hidden, table-fit, table-map}
+use Rattle.map_parts.proofs.KeptShown.{drops-hidden, table-fit, table-map}
 use Rattle.cad_surgery.proofs.edits.hidden.drop_hidden.Goals as goal
 
 pub returns-clause-shown : goal.returns-clause-shown

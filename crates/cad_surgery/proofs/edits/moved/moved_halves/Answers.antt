@@ -3,9 +3,9 @@ use Rattle.std.proofs.lemmas.List.{take_all}
 use Rattle.std.proofs.lemmas.Option.{slice_get_read}
 use Rattle.half_table.specs.declared.half.Half.{Half}
 use Rattle.key_lists.specs.Held.{items_at}
-use Rattle.cad_surgery.specs.Handing.{home_of}
-use Rattle.cad_surgery.specs.Parts.{Parts, FitTogether, map_of, kept_at}
-use Rattle.cad_surgery.specs.Placed.{moves_in}
+use Rattle.map_parts.specs.Handing.{home_of}
+use Rattle.map_parts.specs.Parts.{Parts, FitTogether, map_of, kept_at}
+use Rattle.map_parts.specs.Placed.{moves_in}
 use Rattle.cad_surgery.proofs.MovedHalves.{as-many, at-place, holes-are, next-passes, next-stays}
 use Rattle.cad_surgery.proofs.edits.moved.moved_halves.Goals.{then-is_hole_inside+in_ok-push, else-is_hole_inside}
 use Rattle.cad_surgery.proofs.edits.moved.moved_halves.Goals as goal

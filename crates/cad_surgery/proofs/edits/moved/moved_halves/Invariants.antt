@@ -1,7 +1,7 @@
 use Rattle.std.proofs.Common.{◌≡◌, filter, take}
-use Rattle.cad_surgery.specs.Handing.{home_of}
-use Rattle.cad_surgery.specs.Parts.{map_of, kept_at}
-use Rattle.cad_surgery.specs.Placed.{moves_in}
+use Rattle.map_parts.specs.Handing.{home_of}
+use Rattle.map_parts.specs.Parts.{map_of, kept_at}
+use Rattle.map_parts.specs.Placed.{moves_in}
 use Rattle.cad_surgery.proofs.edits.moved.moved_halves.Given as goal
 
 -- those of the halves so far

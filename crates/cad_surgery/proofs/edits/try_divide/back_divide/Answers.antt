@@ -1,5 +1,5 @@
 use Rattle.std.proofs.Common.{◌∙◌}
-use Rattle.cad_surgery.specs.Parts.{map_of}
+use Rattle.map_parts.specs.Parts.{map_of}
 use Rattle.cad_surgery.proofs.DividedBack.{by-record, ok-then}
 use Rattle.cad_surgery.proofs.edits.try_divide.back_divide.Goals as goal
 

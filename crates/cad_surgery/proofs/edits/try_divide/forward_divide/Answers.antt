@@ -2,7 +2,7 @@ use Rattle.std.proofs.Common.{◌∙◌, sym, ap, subst}
 use Rattle.cad_rows.specs.declared.edits.Edit.{Edit}
 use Rattle.cad_map.specs.Costs.{work_bound}
 use Rattle.cad_map.specs.Effects.{after}
-use Rattle.cad_surgery.specs.Parts.{map_of}
+use Rattle.map_parts.specs.Parts.{map_of}
 use Rattle.cad_surgery.specs.Work.{TakesWork}
 use Rattle.cad_surgery.proofs.DividedAgain.{again-tried, again-many, again-crossing}
 use Rattle.cad_surgery.proofs.DividedBack.{ok-then}

@@ -1,8 +1,8 @@
 use Rattle.std.proofs.Common.{◌≡◌, ◌≤◌, subst, arith}
 use Rattle.cad_rings.specs.Cycle.{Ring}
 use Rattle.cad_map.proofs.CallerLemmas.{whole_valid}
-use Rattle.cad_surgery.specs.Parts.{map_of}
-use Rattle.cad_surgery.specs.Placed.{AreOfHoles}
+use Rattle.map_parts.specs.Parts.{map_of}
+use Rattle.map_parts.specs.Placed.{AreOfHoles}
 use Rattle.cad_surgery.proofs.EnclosedDraft.{enclosure-long, enclosure-many}
 use Rattle.cad_surgery.proofs.edits.try_enclose.coming_by.Goals as goal
 

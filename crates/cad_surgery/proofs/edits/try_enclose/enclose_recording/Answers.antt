@@ -4,10 +4,10 @@ use Rattle.cad_rows.specs.declared.names.Face.TheVariants.{Parcel}
 use Rattle.cad_map.specs.Effects.{after}
 use Rattle.cad_map.specs.Outcome.{out_of_memory}
 use Rattle.cad_surgery.specs.declared.edits.try_enclose.Kept.{Kept}
-use Rattle.cad_surgery.specs.declared.record.SmallRecord.{SmallRecord}
-use Rattle.cad_surgery.specs.HeldChains.{HeldIsland}
-use Rattle.cad_surgery.specs.Parts.{FitTogether, map_of}
-use Rattle.cad_surgery.specs.Record.{edit_of, Holds}
+use Rattle.edit_records.specs.declared.record.SmallRecord.{SmallRecord}
+use Rattle.edit_records.specs.HeldChains.{HeldIsland}
+use Rattle.map_parts.specs.Parts.{FitTogether, map_of}
+use Rattle.edit_records.specs.Record.{edit_of, Holds}
 use Rattle.cad_surgery.proofs.OpenedDraft.{names}
 use Rattle.cad_surgery.proofs.edits.try_enclose.enclose_recording.Goals as goal
 

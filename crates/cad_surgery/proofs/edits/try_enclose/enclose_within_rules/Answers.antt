@@ -1,7 +1,7 @@
 use Rattle.std.proofs.Common.{◌≡◌, ◌∙◌, sym}
 use Rattle.cad_map.specs.Outcome.{out_of_memory}
 use Rattle.cad_valid.specs.Near.{touched_of}
-use Rattle.cad_surgery.specs.Parts.{map_of}
+use Rattle.map_parts.specs.Parts.{map_of}
 use Rattle.cad_surgery.proofs.EnclosedDraft as draft
 use Rattle.cad_surgery.proofs.edits.try_enclose.enclose_within_rules.Goals as goal
 

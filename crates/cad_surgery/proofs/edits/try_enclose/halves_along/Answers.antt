@@ -3,7 +3,7 @@ use Rattle.std.proofs.lemmas.List.{take_all}
 use Rattle.std.proofs.lemmas.Option.{slice_get_read}
 use Rattle.cad_map.proofs.CallerLemmas.{take-more}
 use Rattle.half_table.specs.Half.{forward_of}
-use Rattle.cad_surgery.proofs.GridRows.{map-last}
+use Rattle.edit_records.proofs.GridRows.{map-last}
 use Rattle.cad_surgery.proofs.edits.try_enclose.halves_along.Goals as goal
 
 pub loop-place-preserved : goal.loop-place-preserved

@@ -1,5 +1,5 @@
 use Rattle.std.proofs.Common.{◌≡◌, ◌∙◌, sym}
-use Rattle.cad_surgery.specs.Parts.{map_of}
+use Rattle.map_parts.specs.Parts.{map_of}
 use Rattle.cad_surgery.proofs.DraftFits.{in-err}
 use Rattle.cad_surgery.proofs.OpenedDraft as opened
 use Rattle.cad_surgery.proofs.edits.try_enclose.open_along.Goals as goal

@@ -8,8 +8,8 @@ use Rattle.cad_map.specs.Touched.{IsTouched}
 use Rattle.cad_laws.specs.Tried.{IsTried}
 use Rattle.cad_valid.specs.Near.{HoldsMap, touched_of}
 use Rattle.cad_surgery.specs.declared.edits.try_enclose.Kept.{Kept}
-use Rattle.cad_surgery.specs.Parts.{map_of}
-use Rattle.cad_surgery.specs.Record.{edit_of}
+use Rattle.map_parts.specs.Parts.{map_of}
+use Rattle.edit_records.specs.Record.{edit_of}
 use Rattle.cad_surgery.specs.Work.{TakesWork}
 use Rattle.cad_surgery.proofs.LeadsBy.{same-lists}
 use Rattle.cad_surgery.proofs.edits.try_enclose.try_enclose.Goals as goal

@@ -1,8 +1,8 @@
 use Rattle.std.proofs.Common.{◌≡◌, ◌∙◌, subst}
 use Rattle.cad_map.specs.Asked.{GivesInRange}
-use Rattle.cad_surgery.specs.declared.record.SmallRecord.{SmallRecord}
-use Rattle.cad_surgery.specs.Parts.{map_of}
-use Rattle.cad_surgery.specs.Record.{edit_of, Belongs}
+use Rattle.edit_records.specs.declared.record.SmallRecord.{SmallRecord}
+use Rattle.map_parts.specs.Parts.{map_of}
+use Rattle.edit_records.specs.Record.{edit_of, Belongs}
 use Rattle.cad_surgery.proofs.DraftFits.{in-err}
 use Rattle.cad_surgery.proofs.JoinBack as join
 use Rattle.cad_surgery.proofs.edits.try_join.back_join.Goals as goal

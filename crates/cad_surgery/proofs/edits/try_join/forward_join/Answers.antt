@@ -4,7 +4,7 @@ use Rattle.cad_rows.specs.declared.edits.Edit.TheVariants.{Join}
 use Rattle.cad_map.specs.Costs.{work_bound}
 use Rattle.cad_map.specs.Effects.{after}
 use Rattle.cad_laws.specs.Tried.{IsTried}
-use Rattle.cad_surgery.specs.Parts.{map_of}
+use Rattle.map_parts.specs.Parts.{map_of}
 use Rattle.cad_surgery.specs.Work.{TakesWork}
 use Rattle.cad_surgery.proofs.FarEnds.{leads-apart}
 use Rattle.cad_surgery.proofs.JoinDraft as draft

@@ -3,7 +3,7 @@ use Rattle.cad_rows.specs.declared.edits.Edit.TheVariants.{Join}
 use Rattle.cad_map.specs.Effects.{after}
 use Rattle.cad_map.specs.Outcome.{out_of_memory}
 use Rattle.cad_valid.specs.Near.{HoldsMap, touched_of}
-use Rattle.cad_surgery.specs.Parts.{Parts, map_of}
+use Rattle.map_parts.specs.Parts.{Parts, map_of}
 use Rattle.cad_surgery.proofs.JoinTried as join
 use Rattle.cad_surgery.proofs.NearTried as near
 use Rattle.cad_surgery.proofs.edits.try_join.join_within_rules.Goals as goal

@@ -7,7 +7,7 @@ use Rattle.cad_map.specs.Touched.{IsTouched}
 use Rattle.cad_laws.specs.Tried.{IsTried}
 use Rattle.cad_laws.proofs.CallerLemmas.{join-breaks}
 use Rattle.cad_valid.specs.Near.{HoldsMap, touched_of}
-use Rattle.cad_surgery.specs.Parts.{map_of}
+use Rattle.map_parts.specs.Parts.{map_of}
 use Rattle.cad_surgery.specs.Work.{TakesWork}
 use Rattle.cad_surgery.proofs.JoinDraft as draft
 use Rattle.cad_surgery.proofs.edits.try_join.try_join.Goals as goal

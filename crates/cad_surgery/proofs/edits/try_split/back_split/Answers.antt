@@ -3,9 +3,9 @@ use Rattle.cad_rows.specs.declared.rows.StringRow.{StringRow}
 use Rattle.cad_map.specs.Asked.{GivesInRange}
 use Rattle.cad_map.specs.Effects.{after}
 use Rattle.cad_map.specs.Map.{Map}
-use Rattle.cad_surgery.specs.Parts.{map_of}
-use Rattle.cad_surgery.specs.Record.{IsMadeOf}
-use Rattle.cad_surgery.specs.Splitting.{split_by, split_record}
+use Rattle.map_parts.specs.Parts.{map_of}
+use Rattle.edit_records.specs.Record.{IsMadeOf}
+use Rattle.cad_surgery.specs.Halvings.{split_by, split_record}
 use Rattle.cad_surgery.proofs.DraftFits.{in-err}
 use Rattle.cad_surgery.proofs.SplitDraft as draft
 use Rattle.cad_surgery.proofs.edits.try_split.back_split.Goals as goal

@@ -2,8 +2,8 @@ use Rattle.std.proofs.Common.{ℕ, ap}
 use Rattle.cad_rows.specs.declared.rows.StringRow.{StringRow}
 use Rattle.cad_map.specs.Outcome.{out_of_memory}
 use Rattle.cad_map.proofs.CallerLemmas.{found-number}
-use Rattle.cad_surgery.specs.Parts.{map_of}
-use Rattle.cad_surgery.specs.Splitting.{split_by}
+use Rattle.map_parts.specs.Parts.{map_of}
+use Rattle.cad_surgery.specs.Halvings.{split_by}
 use Rattle.cad_surgery.proofs.SplitDraft as draft
 use Rattle.cad_surgery.proofs.edits.try_split.try_split.Goals as goal
 

@@ -6,8 +6,8 @@ use Rattle.cad_map.specs.Outcome.{refused, at_once}
 use Rattle.cad_map.specs.Refusals.{first_refusal}
 use Rattle.cad_map.specs.Valid.{IsValid}
 use Rattle.cad_laws.specs.Tried.{IsTried}
-use Rattle.cad_surgery.specs.Parts.{map_of}
-use Rattle.cad_surgery.specs.Record.{weight}
+use Rattle.map_parts.specs.Parts.{map_of}
+use Rattle.edit_records.specs.Record.{weight}
 use Rattle.cad_surgery.specs.Work.{TakesWork}
 use Rattle.cad_surgery.proofs.Weights.{weight-ok}
 use Rattle.cad_surgery.proofs.half_map.HalfMap.apply.Goals as goal

@@ -2,8 +2,8 @@ use Rattle.std.proofs.Common.{◌≡◌, subst}
 use Rattle.std.specs.Prelude.{OnOk}
 use Rattle.cad_map.specs.Costs.{work_bound}
 use Rattle.cad_map.specs.Map.{Map}
-use Rattle.cad_surgery.specs.Parts.{map_of}
-use Rattle.cad_surgery.specs.Record.{Belongs}
+use Rattle.map_parts.specs.Parts.{map_of}
+use Rattle.edit_records.specs.Record.{Belongs}
 use Rattle.cad_surgery.specs.Work.{TakesWork}
 use Rattle.cad_surgery.proofs.half_map.HalfMap.back.Goals as goal
 

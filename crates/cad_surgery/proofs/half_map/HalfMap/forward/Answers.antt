@@ -1,8 +1,8 @@
 use Rattle.std.proofs.Common.{subst, sym}
 use Rattle.cad_map.specs.Costs.{work_bound}
 use Rattle.cad_map.specs.Effects.{after}
-use Rattle.cad_surgery.specs.Parts.{map_of}
-use Rattle.cad_surgery.specs.Record.{edit_of}
+use Rattle.map_parts.specs.Parts.{map_of}
+use Rattle.edit_records.specs.Record.{edit_of}
 use Rattle.cad_surgery.specs.Work.{TakesWork}
 use Rattle.cad_surgery.proofs.half_map.HalfMap.forward.Goals as goal
 

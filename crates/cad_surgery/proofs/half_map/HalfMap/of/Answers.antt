@@ -4,9 +4,9 @@ use Rattle.cad_map.specs.Rings.{HasWholeRings}
 use Rattle.cad_map.proofs.CallerLemmas.{whole_valid}
 use Rattle.half_table.specs.declared.half.Half.{Half}
 use Rattle.half_table.specs.Rows.{has}
-use Rattle.cad_surgery.specs.Parts.{rows_of, map_of, kept_at}
+use Rattle.map_parts.specs.Parts.{rows_of, map_of, kept_at}
 use Rattle.cad_surgery.specs.Proper.{IsProper}
-use Rattle.cad_surgery.specs.Gridded.{IsGridOf}
+use Rattle.edit_records.specs.Gridded.{IsGridOf}
 use Rattle.cad_surgery.proofs.ProperParts.{proper}
 use Rattle.cad_surgery.proofs.half_map.HalfMap.of.Goals as goal
 

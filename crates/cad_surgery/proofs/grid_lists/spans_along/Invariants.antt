@@ -1,8 +1,0 @@
-use Rattle.std.proofs.Common.{◌≡◌, map, take}
-use Rattle.cad_surgery.specs.GridLists.{span_of}
-use Rattle.cad_surgery.specs.HeldChains.{closed, rows_along}
-use Rattle.cad_surgery.proofs.grid_lists.spans_along.Given as goal
-
--- the strings so far
-abbrev pub invariant-loop-place : goal.invariant-loop-place
-invariant-loop-place l = l.spans.items ≡ map span_of (rows_along (take l.place l.strings) (closed l.chain))

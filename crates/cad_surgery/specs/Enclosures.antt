@@ -1,0 +1,33 @@
+-- What an enclosure names and gives, and what its record tells.
+use Rattle.std.specs.Prelude.{◌+◌, List, [], ◌∷◌, ◌++◌, map}
+use Rattle.cad_rows.specs.declared.edits.Edit.{Edit}
+use Rattle.cad_rows.specs.declared.edits.Edit.TheVariants.{Enclose}
+use Rattle.cad_rows.specs.declared.names.Face.TheVariants.{Parcel}
+use Rattle.cad_rows.specs.declared.rows.ParcelRow.{ParcelRow}
+use Rattle.cad_rows.specs.declared.rows.StringRow.{StringRow}
+use Rattle.cad_map.specs.Chain.{start_of, strings_along}
+use Rattle.cad_map.specs.Effects.{after}
+use Rattle.cad_map.specs.Map.{Map}
+use Rattle.cad_map.specs.Outcome.{LeadsTo}
+use Rattle.cad_map.specs.Valid.{IsValid}
+use Rattle.half_table.specs.declared.half.Half.{Half}
+use Rattle.cad_surgery.specs.declared.edits.try_enclose.Enclosure.{Enclosure}
+use Rattle.edit_records.specs.HeldChains.{HeldIsland}
+
+-- the edit
+abbrev pub enclosed_by : Enclosure → Edit
+enclosed_by e = Enclose e.face e.points.now e.strings.now e.parcel e.label.now e.source
+
+-- the rows of the strings round its points
+abbrev pub strings_by : Enclosure → List StringRow
+strings_by e = strings_along (e.source ∷ []) e.strings.now (e.points.now ++ start_of e.points.now ∷ [])
+
+-- the row of its parcel
+abbrev pub parcel_by : Enclosure → ParcelRow
+parcel_by e = record { number = e.parcel; label = e.label.now; sources = e.source ∷ [] }
+
+-- one map leads to the other by it, and these halves name the rings that pass over
+pub record LeadsBy (e : Enclosure) (moved : List Half) (before now : Map) : Type 0 where
+  pub valid : IsValid before
+  pub leads : LeadsTo before (enclosed_by e) now
+  pub held : HeldIsland (after before (enclosed_by e)) (Parcel e.parcel) e.points.now moved

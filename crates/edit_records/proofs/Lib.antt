@@ -1,0 +1,10 @@
+pub mod GridRows
+pub mod Exchanges
+pub mod RowExchanges
+pub mod EditExchanges
+pub mod GridLists
+pub mod GridEdits
+pub mod ChainWeights
+pub mod ChainSpans
+pub mod GridRecords
+pub mod TouchedLists

@@ -1,0 +1,36 @@
+use Rattle.std.proofs.Common.{◌≡◌, ◌≤◌, ℕ, sym, ap, subst, ◌∙◌, arith, List, [], ◌∷◌, ◌++◌, take, map, length}
+use Rattle.std.specs.List.{Contains}
+use Rattle.std.proofs.lemmas.List.Sorted.{length_permutation, Contains-permutation}
+use Rattle.cad_rows.specs.declared.rows.StringRow.{StringRow}
+use Rattle.cad_map.specs.Map.{strings_at}
+use Rattle.cad_map.proofs.CallerLemmas.{take-more, lent-some, lent-is, all-told, Contains-map}
+use Rattle.edit_records.proofs.GridRows.{map-last}
+use Rattle.edit_records.proofs.touched.strings_of.Goals as goal
+
+pub unwrap-row-requires : goal.unwrap-row-requires
+unwrap-row-requires g c =
+    let told = c.string_with.ensures in
+    let strings = g.M.MapView.view_strings c.args.map.now c.args.point in
+    let same = length_permutation (strings_at (g.M.MapView.map c.args.map.now) c.args.point) strings told.each in
+    lent-some c.string_with.result strings c.loop-place.place told.string (omega (arith, same, c.degree-place-end.ensures, c.loop-place-test.true))
+
+pub loop-place-preserved : goal.loop-place-preserved
+loop-place-preserved g c =
+    let strings = g.M.MapView.view_strings c.args.map.now c.args.point in
+    let row = c.unwrap-row.result.now in
+    let told = lent-is c.string_with.result c.unwrap-row.result strings c.loop-place.place c.string_with.ensures.string c.unwrap-row.ensures in
+    record {
+      strings = c.in_ok-push.ensures.items ∙ ap (λ (l : List ℕ). l ++ row.number ∷ []) c.loop-place.invariant.strings
+          ∙ sym (map-last (λ (s : StringRow). s.number) (take c.loop-place.place strings) row)
+          ∙ ap (map (λ (s : StringRow). s.number)) (take-more strings c.loop-place.place row told);
+      each = λ _. c.string_with.ensures.each;
+    }
+
+pub returns : goal.returns
+returns g c s there =
+    let m = g.M.MapView.map c.args.map.now in
+    let strings = g.M.MapView.view_strings c.args.map.now c.args.point in
+    let past : length (strings_at m c.args.point) ≤ c.loop-place.place = subst (λ (n : ℕ). n ≤ c.loop-place.place) c.degree-place-end.ensures c.loop-place-test.false in
+    subst (λ (l : List ℕ). Contains l s.number) (sym c.loop-place.invariant.strings)
+    (Contains-map (λ (s : StringRow). s.number) (take c.loop-place.place strings) s
+    (Contains-permutation (strings_at m c.args.point) (take c.loop-place.place strings) s (all-told m c.args.point strings c.loop-place.place past c.loop-place.invariant.each) there))

@@ -1,0 +1,6 @@
+pub mod HeldChains
+pub mod Record
+pub mod Gridded
+pub mod Exchanged
+pub mod GridEdits
+pub mod GridLists

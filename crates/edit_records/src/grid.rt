@@ -1,0 +1,76 @@
+//! The grid of a map's strings and points.
+ghost use Rattle.std.specs.Prelude.{IfOk, OnOk, OnErr};
+ghost use Rattle.cad_map.specs.Map.{Map};
+ghost use Rattle.cad_map.specs.Valid.{HasSoundRows};
+ghost use Rattle.cell_grid.specs.Kept.{HoldsNone, HoldsSame};
+ghost use Rattle.cell_grid.specs.Together.{Listed};
+ghost use Rattle.edit_records.specs.Gridded.{HoldsJust, IsGridOf, string_entries, point_entries};
+ghost use Rattle.edit_records.specs.Exchanged.{IsExchange, IsGridOfBoth, CanEnter, CanLeave};
+
+use cad_map::{MapView, PlainMap, position};
+use cad_rows::Memory;
+use cell_grid::{CellGrid, Entries};
+use std::alloc::Global;
+
+/// The side of a cell in millimetres.
+const CELL_SIDE: u64 = 100_000;
+
+// Puts the strings of a map, at the positions of their ends, into a grid that holds none.
+fn put_strings(grid: &mut CellGrid, map: &PlainMap) -> Result<(), Memory>
+    requires sound { HasSoundRows map.now }
+    requires none { HoldsNone grid.old.strings }
+    ensures strings { OnOk result (HoldsJust (string_entries map.now) grid.new.strings) }
+    ensures points { OnOk result (HoldsSame grid.old.points grid.new.points) }
+{
+    for place in 0..map.counts().strings {
+        let row = map.string_at(place).unwrap();
+        grid.put_string(row.number, position(map, row.from), position(map, row.to))?;
+    }
+    Ok(())
+}
+
+// Puts the points of a map, at their positions, into a grid that holds none.
+fn put_points(grid: &mut CellGrid, map: &PlainMap) -> Result<(), Memory>
+    requires sound { HasSoundRows map.now }
+    requires none { HoldsNone grid.old.points }
+    ensures points { OnOk result (HoldsJust (point_entries map.now) grid.new.points) }
+    ensures strings { OnOk result (HoldsSame grid.old.strings grid.new.strings) }
+{
+    for place in 0..map.counts().points {
+        let row = map.point_at(place).unwrap();
+        grid.put_point(row.number, row.position)?;
+    }
+    Ok(())
+}
+
+/// A grid that holds just a map's strings and points, at their positions.
+pub fn grid_of(alloc: Global, map: &PlainMap) -> Result<CellGrid, Memory>
+    requires { HasSoundRows map.now }
+    ensures { IfOk result (λ grid. IsGridOf grid map.now) }
+{
+    let mut grid = CellGrid::new(alloc, CELL_SIDE)?;
+    put_strings(&mut grid, map)?;
+    put_points(&mut grid, map)?;
+    Ok(grid)
+}
+
+/// Puts what comes into the grid of a map: all of it, or none where memory runs out. Then the grid
+/// is that of the map before and of the map after.
+pub fn enter(grid: &mut CellGrid, come: &Entries) -> Result<(), Memory>
+    requires { CanEnter grid.old come.now }
+    ensures both { OnOk result ((old new : Map) (gone : Listed) → IsGridOf grid.old old
+        → IsExchange old gone come.now new → IsGridOfBoth grid.new old new) }
+    ensures err { OnErr result ((old : Map) → IsGridOf grid.old old → IsGridOf grid.new old) }
+{
+    grid.put_all(come)
+}
+
+/// Takes what goes out of the grid of two maps. Then it is that of the second alone. It takes no
+/// memory.
+pub fn withdraw(grid: &mut CellGrid, gone: &Entries)
+    requires { CanLeave grid.old gone.now }
+    ensures { (old new : Map) (come : Listed) → IsGridOfBoth grid.old old new
+        → IsExchange old gone.now come new → IsGridOf grid.new new }
+{
+    grid.take_all(gone);
+}

@@ -1,0 +1,16 @@
+//! Records of edits, small ones that the edit's reach bounds: what each holds and weighs, the edit
+//! that it is of, and what that edit touches of a map and of its grid.
+#![tactic(auto)]
+
+mod grid;
+mod grid_edits;
+mod grid_lists;
+mod grid_records;
+mod record;
+mod touched;
+
+pub use grid::{enter, grid_of, withdraw};
+pub use grid_edits::{at, coming, going};
+pub use grid_records::{what_comes, what_goes};
+pub use record::{ChainString, SmallRecord, are_in_range, weight};
+pub use touched::touched_by;

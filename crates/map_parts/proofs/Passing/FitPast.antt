@@ -1,0 +1,350 @@
+-- A map's table without the point, once the string past it is in the place of the path through it.
+use Rattle.std.proofs.Common.{◌≡◌, ◌≢◌, ℕ, ◌⊎◌, inl, inr, refl, sym, ap, subst, ◌∙◌, List, length, ◌≤◌, map, false}
+use Rattle.std.proofs.lemmas.List.Sorted.{Contains-permutation}
+use Rattle.std.specs.List.{AllByRecursion, Contains}
+use Rattle.cad_rows.specs.declared.names.Face.{Face}
+use Rattle.cad_rings.specs.Cycle.{Side, sides_of, corners_of}
+use Rattle.cad_rings.specs.Surgery.{corner, without}
+use Rattle.cad_map.specs.declared.boundary.Boundary.{Boundary}
+use Rattle.cad_map.specs.Boundaries.{bounding, canonical_form, face_place}
+use Rattle.cad_map.specs.Map.{Map}
+use Rattle.cad_map.specs.Views.{HasSide}
+use Rattle.cad_map.proofs.CallerLemmas.{All-at_each, Contains-first, Contains-map, Contains-in_part, corner-sides}
+use Rattle.half_table.specs.declared.half.Half.{Half}
+use Rattle.half_table.specs.Half.{twin, is_half}
+use Rattle.half_table.specs.Rows.{HalfRows, IsLinked, next, face, cycle}
+use Rattle.half_table.specs.Surgery.{KeepsHalves, Relabels}
+use Rattle.half_table.proofs.Halves.{is_half-turned, is_half-twin}
+use Rattle.cad_laws.specs.Local.{IsShown, IsLocal, side_by}
+use Rattle.cad_laws.proofs.CallerLemmas.{one-face, two-whole}
+use Rattle.cad_laws.specs.Parting.{HasCorner}
+use Rattle.key_lists.specs.Held.{Held, items_at}
+use Rattle.map_parts.specs.KeptRings.{IsKept, KeepsRings}
+use Rattle.map_parts.specs.Parts.{HasHalves}
+use Rattle.map_parts.specs.Passing.{HasBetween, FitTable, kept_in, in_place_at}
+use Rattle.map_parts.specs.declared.edits.passing.Passing.{Passing}
+use Rattle.map_parts.proofs.Passing.OneHand.{ring-face_has}
+use Rattle.map_parts.proofs.Passing.RingsWithout as rings
+use Rattle.map_parts.proofs.Passing.Between as between
+use Rattle.map_parts.proofs.Passing.Between.{IsThrough, IsPast, IsOther, other-half}
+use Rattle.map_parts.proofs.Passing.Routes.{IsPastNow}
+use Rattle.map_parts.proofs.Passing.Past as past_point
+use Rattle.map_parts.proofs.Passing.KeptAlong.{IsKeptOn, kept-made}
+use Rattle.map_parts.proofs.Passing.Relabelled.{relabelled-local, relabelled-ends, on-cycle_faced, still-faced}
+use Rattle.map_parts.proofs.Passing.InPlace.{in-place-here, in-place-other, same-face, kept-moved}
+
+module _ (through past : Map) (p a b : ℕ) (passing : Passing)
+    (it : HasBetween through past p a b passing) (rows : HalfRows) (held : Held Half)
+    (fits : FitTable through rows held) (whole_there : HasHalves rows it.whole_row)
+    (new : HalfRows) (keeps : KeepsHalves rows new) (linked : IsLinked new)
+    (now : IsPastNow passing.first passing.second passing.whole (next rows) (next new)) where
+  abbrev x : Half
+  x = passing.first
+
+  abbrev y : Half
+  y = passing.second
+
+  abbrev z : Half
+  z = passing.whole
+
+  abbrev left : Face
+  left = face rows x
+
+  abbrev right : Face
+  right = face rows (twin y)
+
+  abbrev Other : Half → Type 0
+  Other h = IsOther through past p a b passing it h
+
+  first_there : HasHalves rows it.first_row
+  first_there = past_point.first_there through past p a b passing it rows fits.local fits.ends whole_there
+
+  second_there : HasHalves rows it.second_row
+  second_there = past_point.second_there through past p a b passing it rows fits.local fits.ends whole_there
+
+  X : side_by rows x ≡ (a, p)
+  X = between.x-side through past p a b passing it rows first_there second_there whole_there
+
+  Y : side_by rows y ≡ (p, b)
+  Y = between.y-side through past p a b passing it rows first_there second_there whole_there
+
+  Z : side_by rows z ≡ (a, b)
+  Z = between.z-side through past p a b passing it rows first_there second_there whole_there
+
+  TX : side_by rows (twin x) ≡ (p, a)
+  TX = between.tx-side through past p a b passing it rows first_there second_there whole_there
+
+  TY : side_by rows (twin y) ≡ (b, p)
+  TY = between.ty-side through past p a b passing it rows first_there second_there whole_there
+
+  TZ : side_by rows (twin z) ≡ (b, a)
+  TZ = between.tz-side through past p a b passing it rows first_there second_there whole_there
+
+  pub local : IsLocal past new
+  local = past_point.past-local through past p a b passing it rows fits.local fits.ends whole_there new keeps linked now
+
+  pub ends : AllByRecursion (HasHalves new) past.strings
+  ends = past_point.past-ends through past p a b passing it rows fits.local fits.ends whole_there new keeps linked now
+
+  new-side : (h : Half) → side_by new h ≡ side_by rows h
+  new-side h = λ i. (keeps.origin h i, keeps.origin (twin h) i)
+
+  -- ---- The faces of the sides past the point
+
+  left-has : HasSide through left (a, p)
+  left-has = subst (HasSide through left) X (fits.faces x (between.first-shown through past p a b passing it x refl))
+
+  right-has : HasSide through right (b, p)
+  right-has = subst (HasSide through right) TY (fits.faces (twin y) (between.second-shown through past p a b passing it (twin y) refl))
+
+  pub left-past : HasSide past left (side_by new z)
+  left-past = subst (HasSide past left) (sym (new-side z ∙ Z)) (it.joined.side_forth left left-has)
+
+  pub right-past : HasSide past right (side_by new (twin z))
+  right-past = subst (HasSide past right) (sym (new-side (twin z) ∙ TZ)) (it.joined.side_back right right-has)
+
+  -- the face of a half elsewhere
+  elsewhere-faced : (h : Half) → Other h → HasSide past (face new h) (side_by new h)
+  elsewhere-faced h k =
+      let zero = past_point.begins-elsewhere through past p a b passing it rows fits.local fits.ends whole_there h k in
+      let one = past_point.ends-elsewhere through past p a b passing it rows fits.local fits.ends whole_there h k in
+      subst (λ (g : Face). HasSide past g (side_by new h)) (sym (keeps.face h))
+      (subst (HasSide past (face rows h)) (sym (new-side h))
+      (it.joined.side_stays (face rows h) (side_by rows h)
+      (fits.faces h (between.other-through through past p a b passing it h k)) zero one))
+
+  -- ---- Both rings labelled
+
+  module _ (mid done : HalfRows) (mid_linked : IsLinked mid) (done_linked : IsLinked done)
+      (one : Relabels (cycle new z) left new mid) (two : Relabels (cycle mid (twin z)) right mid done) where
+    z-shown : IsShown past z
+    z-shown = between.whole-shown through past p a b passing it z refl
+
+    tz-shown : IsShown past (twin z)
+    tz-shown = between.whole-shown through past p a b passing it (twin z) refl
+
+    mid-local : IsLocal past mid
+    mid-local = relabelled-local past it.rings_past new local ends z z-shown left left-past mid mid_linked one
+
+    mid-ends : AllByRecursion (HasHalves mid) past.strings
+    mid-ends = relabelled-ends past it.rings_past new local ends z z-shown left left-past mid mid_linked one
+
+    right-mid : HasSide past right (side_by mid (twin z))
+    right-mid =
+        subst (HasSide past right) (sym (λ i. (one.origin (twin z) i, one.origin (twin (twin z)) i))) right-past
+
+    onward : (h : Half) → HasSide past (face mid h) (side_by mid h) → HasSide past (face done h) (side_by done h)
+    onward h was =
+        still-faced past it.rings_past mid mid-local mid-ends (twin z) tz-shown right right-mid done done_linked two h was
+
+    whole-faced : HasSide past (face done z) (side_by done z)
+    whole-faced =
+        onward z (on-cycle_faced past it.rings_past new local ends z z-shown left left-past mid mid_linked one z (Contains-first z _))
+
+    whole_back-faced : HasSide past (face done (twin z)) (side_by done (twin z))
+    whole_back-faced =
+        on-cycle_faced past it.rings_past mid mid-local mid-ends (twin z) tz-shown right right-mid done done_linked two (twin z) (Contains-first (twin z) _)
+
+    other-faced : (h : Half) → Other h → HasSide past (face done h) (side_by done h)
+    other-faced h k =
+        onward h (still-faced past it.rings_past new local ends z z-shown left left-past mid mid_linked one h (elsewhere-faced h k))
+
+    faced : (h : Half) → IsShown past h → HasSide past (face done h) (side_by done h)
+    faced h shown = elim (between.past-half through past p a b passing it h shown) [
+      | IsPast.is_whole e ↦ subst (λ (g : Half). HasSide past (face done g) (side_by done g)) (sym e) whole-faced
+      | IsPast.is_whole_back e ↦ subst (λ (g : Half). HasSide past (face done g) (side_by done g)) (sym e) whole_back-faced
+      | IsPast.is_elsewhere k ↦ other-faced h k
+    ]
+
+    done-side : (h : Half) → side_by done h ≡ side_by rows h
+    done-side h =
+        (λ i. (two.origin h i, two.origin (twin h) i)) ∙ (λ i. (one.origin h i, one.origin (twin h) i)) ∙ new-side h
+
+    -- ---- One half of each ring
+
+    abbrev L : ℕ
+    L = face_place left
+
+    abbrev R : ℕ
+    R = face_place right
+
+    abbrev moved : ℕ → Half → Half
+    moved n h =
+        in_place_at R (twin x) (twin z) n (in_place_at R (twin y) (twin z) n
+        (in_place_at L y z n (in_place_at L x z n h)))
+
+    -- the ring without the point
+    abbrev drop : Boundary → Boundary
+    drop r = canonical_form (bounding r.face (without p r.ring))
+
+    -- where a half isn't one of the path it stays in its place
+    stays : (n : ℕ) (h : Half) → is_half h x ≡ false → is_half h y ≡ false → is_half h (twin y) ≡ false
+        → is_half h (twin x) ≡ false → moved n h ≡ h
+    stays n h e0 e1 e2 e3 =
+        ap (λ (g : Half). in_place_at R (twin x) (twin z) n (in_place_at R (twin y) (twin z) n (in_place_at L y z n g))) (in-place-other L n x z h e0)
+        ∙ ap (λ (g : Half). in_place_at R (twin x) (twin z) n (in_place_at R (twin y) (twin z) n g)) (in-place-other L n y z h e1)
+        ∙ ap (λ (g : Half). in_place_at R (twin x) (twin z) n g) (in-place-other R n (twin y) (twin z) h e2)
+        ∙ in-place-other R n (twin x) (twin z) h e3
+
+    z-x : z.string ≢ x.string
+    z-x = between.zx through past p a b passing it
+
+    z-y : z.string ≢ y.string
+    z-y = between.zy through past p a b passing it
+
+    x-y : x.string ≢ y.string
+    x-y = between.xy through past p a b passing it
+
+    to-first : (n : ℕ) → L ≡ n → moved n x ≡ z
+    to-first n e =
+        ap (λ (g : Half). in_place_at R (twin x) (twin z) n (in_place_at R (twin y) (twin z) n (in_place_at L y z n g))) (in-place-here L n x z e)
+        ∙ ap (λ (g : Half). in_place_at R (twin x) (twin z) n (in_place_at R (twin y) (twin z) n g)) (in-place-other L n y z z (other-half z y z-y))
+        ∙ ap (λ (g : Half). in_place_at R (twin x) (twin z) n g) (in-place-other R n (twin y) (twin z) z (other-half z (twin y) z-y))
+        ∙ in-place-other R n (twin x) (twin z) z (other-half z (twin x) z-x)
+
+    to-second : (n : ℕ) → L ≡ n → moved n y ≡ z
+    to-second n e =
+        ap (λ (g : Half). in_place_at R (twin x) (twin z) n (in_place_at R (twin y) (twin z) n (in_place_at L y z n g)))
+        (in-place-other L n x z y (other-half y x (λ s. x-y (sym s))))
+        ∙ ap (λ (g : Half). in_place_at R (twin x) (twin z) n (in_place_at R (twin y) (twin z) n g)) (in-place-here L n y z e)
+        ∙ ap (λ (g : Half). in_place_at R (twin x) (twin z) n g) (in-place-other R n (twin y) (twin z) z (other-half z (twin y) z-y))
+        ∙ in-place-other R n (twin x) (twin z) z (other-half z (twin x) z-x)
+
+    to-second_back : (n : ℕ) → R ≡ n → moved n (twin y) ≡ twin z
+    to-second_back n e =
+        ap (λ (g : Half). in_place_at R (twin x) (twin z) n (in_place_at R (twin y) (twin z) n (in_place_at L y z n g)))
+        (in-place-other L n x z (twin y) (other-half (twin y) x (λ s. x-y (sym s))))
+        ∙ ap (λ (g : Half). in_place_at R (twin x) (twin z) n (in_place_at R (twin y) (twin z) n g))
+        (in-place-other L n y z (twin y) (is_half-turned y (twin y) (is_half-twin y)))
+        ∙ ap (λ (g : Half). in_place_at R (twin x) (twin z) n g) (in-place-here R n (twin y) (twin z) e)
+        ∙ in-place-other R n (twin x) (twin z) (twin z) (other-half (twin z) (twin x) z-x)
+
+    to-first_back : (n : ℕ) → R ≡ n → moved n (twin x) ≡ twin z
+    to-first_back n e =
+        ap (λ (g : Half). in_place_at R (twin x) (twin z) n (in_place_at R (twin y) (twin z) n (in_place_at L y z n g)))
+        (in-place-other L n x z (twin x) (is_half-turned x (twin x) (is_half-twin x)))
+        ∙ ap (λ (g : Half). in_place_at R (twin x) (twin z) n (in_place_at R (twin y) (twin z) n g))
+        (in-place-other L n y z (twin x) (other-half (twin x) y x-y))
+        ∙ ap (λ (g : Half). in_place_at R (twin x) (twin z) n g) (in-place-other R n (twin y) (twin z) (twin x) (other-half (twin x) (twin y) x-y))
+        ∙ in-place-here R n (twin x) (twin z) e
+
+    module _ (k : Face × Half) (isk : IsKept through rows fits.kept.homes k) where
+      abbrev c : Boundary
+      c = fits.kept.homes k.1
+
+      made-there : Contains past.boundaries (drop c)
+      made-there =
+          Contains-permutation (map drop through.boundaries) past.boundaries (drop c) it.joined.boundaries
+          (Contains-map drop through.boundaries c isk.there)
+
+      has-face : HasSide through k.0 (side_by rows k.1)
+      has-face =
+          subst (λ (f : Face). HasSide through f (side_by rows k.1)) isk.face
+          (ring-face_has through c isk.there (side_by rows k.1) isk.has)
+
+      kept-on : (h : Half) → moved (face_place k.0) k.1 ≡ h → IsShown past h
+          → Contains (sides_of (drop c).ring) (side_by rows h)
+          → IsKeptOn past done it.rings_past (k.0, moved (face_place k.0) k.1) (drop c)
+      kept-on h e shown side = record {
+        shown = subst (IsShown past) (sym e) shown;
+        there = made-there;
+        side =
+            subst (λ (g : Half). Contains (sides_of (drop c).ring) (side_by done g)) (sym e)
+            (subst (Contains (sides_of (drop c).ring)) (sym (done-side h)) side);
+        face = isk.face;
+      }
+
+      -- the face of a half of the path, by its side
+      mine : (f : Face) (s : Side) → side_by rows k.1 ≡ s → HasSide through f s → f ≡ k.0
+      mine f s is has = one-face through it.rings f k.0 s has (subst (HasSide through k.0) is has-face)
+
+      -- the sides of a ring's corner have one face
+      beyond-faced : (f : Face) (u v : ℕ) → HasCorner through (corner u p v) → HasSide through f (u, p)
+          → HasSide through f (p, v)
+      beyond-faced f u v at has =
+          let part = Contains-in_part (λ (r : Boundary). corners_of r.ring) through.boundaries (corner u p v) at in
+          let long = All-at_each (λ r. 2 ≤ length r.ring) through.boundaries part.0 (two-whole through it.rings) part.1 in
+          let both = corner-sides part.0.ring long (corner u p v) part.2 in
+          let same = one-face through it.rings part.0.face f (u, p) (ring-face_has through part.0 part.1 (u, p) both.0) has in
+          subst (λ (g : Face). HasSide through g (p, v)) same (ring-face_has through part.0 part.1 (p, v) both.1)
+
+      left-second : HasSide through left (p, b)
+      left-second = beyond-faced left a b it.joined.first_there left-has
+
+      right-first : HasSide through right (p, a)
+      right-first = beyond-faced right b a it.joined.second_there right-has
+
+      a-p : a ≢ p
+      a-p = between.a-p through past p a b passing it
+
+      b-p : b ≢ p
+      b-p = between.b-p through past p a b passing it
+
+      on-left : Contains (sides_of c.ring) (a, p) ⊎ Contains (sides_of c.ring) (p, b) → Contains (sides_of (drop c).ring) (side_by rows z)
+      on-left on = subst (Contains (sides_of (drop c).ring)) (sym Z) (rings.first-past through past p a b it.joined it.rings a-p b-p c isk.there on)
+
+      on-right : Contains (sides_of c.ring) (b, p) ⊎ Contains (sides_of c.ring) (p, a) → Contains (sides_of (drop c).ring) (side_by rows (twin z))
+      on-right on = subst (Contains (sides_of (drop c).ring)) (sym TZ) (rings.second-past through past p a b it.joined it.rings a-p b-p c isk.there on)
+
+      of-first : k.1 ≡ x → IsKeptOn past done it.rings_past (k.0, moved (face_place k.0) k.1) (drop c)
+      of-first e =
+          let is : side_by rows k.1 ≡ (a, p) = ap (side_by rows) e ∙ X in
+          kept-on z (ap (moved (face_place k.0)) e ∙ to-first (face_place k.0) (ap face_place (mine left (a, p) is left-has)))
+          z-shown (on-left (inl (subst (Contains (sides_of c.ring)) is isk.has)))
+
+      of-second : k.1 ≡ y → IsKeptOn past done it.rings_past (k.0, moved (face_place k.0) k.1) (drop c)
+      of-second e =
+          let is : side_by rows k.1 ≡ (p, b) = ap (side_by rows) e ∙ Y in
+          kept-on z (ap (moved (face_place k.0)) e ∙ to-second (face_place k.0) (ap face_place (mine left (p, b) is left-second)))
+          z-shown (on-left (inr (subst (Contains (sides_of c.ring)) is isk.has)))
+
+      of-second_back : k.1 ≡ twin y → IsKeptOn past done it.rings_past (k.0, moved (face_place k.0) k.1) (drop c)
+      of-second_back e =
+          let is : side_by rows k.1 ≡ (b, p) = ap (side_by rows) e ∙ TY in
+          kept-on (twin z) (ap (moved (face_place k.0)) e ∙ to-second_back (face_place k.0) (ap face_place (mine right (b, p) is right-has)))
+          tz-shown (on-right (inl (subst (Contains (sides_of c.ring)) is isk.has)))
+
+      of-first_back : k.1 ≡ twin x → IsKeptOn past done it.rings_past (k.0, moved (face_place k.0) k.1) (drop c)
+      of-first_back e =
+          let is : side_by rows k.1 ≡ (p, a) = ap (side_by rows) e ∙ TX in
+          kept-on (twin z) (ap (moved (face_place k.0)) e ∙ to-first_back (face_place k.0) (ap face_place (mine right (p, a) is right-first)))
+          tz-shown (on-right (inr (subst (Contains (sides_of c.ring)) is isk.has)))
+
+      of-other : Other k.1 → IsKeptOn past done it.rings_past (k.0, moved (face_place k.0) k.1) (drop c)
+      of-other o =
+          let nx = between.not-first through past p a b passing it k.1 o in
+          let ny = between.not-second through past p a b passing it k.1 o in
+          kept-on k.1
+          (stays (face_place k.0) k.1 (other-half k.1 x nx) (other-half k.1 y ny) (other-half k.1 (twin y) ny) (other-half k.1 (twin x) nx))
+          (between.other-past through past p a b passing it k.1 o)
+          (rings.side-stays through past p a b it.joined it.rings c isk.there (side_by rows k.1) isk.has
+          (past_point.begins-elsewhere through past p a b passing it rows fits.local fits.ends whole_there k.1 o)
+          (past_point.ends-elsewhere through past p a b passing it rows fits.local fits.ends whole_there k.1 o))
+
+      moved-on : IsKeptOn past done it.rings_past (k.0, moved (face_place k.0) k.1) (drop c)
+      moved-on = elim (between.through-half through past p a b passing it k.1 isk.is_shown) [
+        | IsThrough.is_first e ↦ of-first e
+        | IsThrough.is_first_back e ↦ of-first_back e
+        | IsThrough.is_second e ↦ of-second e
+        | IsThrough.is_second_back e ↦ of-second_back e
+        | IsThrough.is_other o ↦ of-other o
+      ]
+
+    module _ (then_held : Held Half) (each : (n : ℕ) → items_at then_held n ≡ map (moved n) (items_at held n)) where
+      keeps-rings : KeepsRings past done (kept_in past then_held)
+      keeps-rings =
+          subst (KeepsRings past done) (sym (kept-moved through past (sym it.parcels) held then_held moved each))
+          (kept-made past done it.rings_past through rows (kept_in through held) fits.kept
+          (λ (k : Face × Half). moved (face_place k.0) k.1) drop it.joined.boundaries
+          (λ k among. moved-on k (All-at_each (IsKept through rows fits.kept.homes) (kept_in through held) k fits.kept.each among)))
+
+      pub fit-past : FitTable past done then_held
+      fit-past = record {
+        local = relabelled-local past it.rings_past mid mid-local mid-ends (twin z) tz-shown right right-mid done done_linked two;
+        ends = relabelled-ends past it.rings_past mid mid-local mid-ends (twin z) tz-shown right right-mid done done_linked two;
+        faces = faced;
+        kept = keeps-rings;
+        no_face = λ f none.
+            each (face_place f)
+            ∙ ap (map (moved (face_place f))) (fits.no_face f (same-face through past (sym it.parcels) f ∙ none));
+      }

@@ -1,0 +1,330 @@
+-- A map's table with the point, once the path through it is in the place of the string past it.
+use Rattle.std.proofs.Common.{◌≡◌, ◌≢◌, ℕ, ◌⊎◌, inl, inr, refl, sym, ap, subst, ◌∙◌, List, [], ◌∷◌, map, Bool, true, false}
+use Rattle.std.specs.Prelude.{IsPermutation}
+use Rattle.std.specs.List.{AllByRecursion, Contains}
+use Rattle.cad_rows.specs.declared.names.Face.{Face}
+use Rattle.cad_rings.specs.Cycle.{Side, sides_of}
+use Rattle.cad_rings.specs.Surgery.{without}
+use Rattle.cad_map.specs.declared.boundary.Boundary.{Boundary}
+use Rattle.cad_map.specs.Boundaries.{bounding, canonical_form, face_place}
+use Rattle.cad_map.specs.Map.{Map, all_sides, has_face}
+use Rattle.cad_map.specs.Views.{HasSide}
+use Rattle.cad_map.proofs.CallerLemmas.{All-at_each, Contains-first, Contains-flat_map}
+use Rattle.half_table.specs.declared.half.Half.{Half}
+use Rattle.half_table.specs.Half.{twin, is_half}
+use Rattle.half_table.specs.Rows.{HalfRows, IsLinked, next, face, cycle}
+use Rattle.half_table.specs.Surgery.{KeepsHalves, Relabels}
+use Rattle.half_table.proofs.Halves.{is_half-turned, is_half-twin}
+use Rattle.cad_laws.specs.Local.{IsShown, IsLocal, side_by}
+use Rattle.cad_laws.proofs.CallerLemmas.{side-face, one-face}
+use Rattle.key_lists.specs.Held.{Held, items_at}
+use Rattle.map_parts.specs.KeptRings.{IsKept, KeepsRings}
+use Rattle.map_parts.specs.Parts.{HasHalves}
+use Rattle.map_parts.specs.Passing.{HasBetween, FitTable, kept_in, in_place_at}
+use Rattle.map_parts.specs.declared.edits.passing.Passing.{Passing}
+use Rattle.map_parts.proofs.CycleRings.{cycle-next}
+use Rattle.map_parts.proofs.Passing.OneHand.{ring-face_has}
+use Rattle.map_parts.proofs.Passing.RingsWithout as rings
+use Rattle.map_parts.proofs.Passing.Between as between
+use Rattle.map_parts.proofs.Passing.Between.{IsThrough, IsPast, IsOther, other-half}
+use Rattle.map_parts.proofs.Passing.Routes.{IsThroughNow}
+use Rattle.map_parts.proofs.Passing.Local.{string-half_side}
+use Rattle.map_parts.proofs.Passing.Through as through_point
+use Rattle.map_parts.proofs.Passing.KeptAlong.{IsKeptOn, kept-back}
+use Rattle.map_parts.proofs.Passing.Relabelled.{relabelled-local, relabelled-ends, on-cycle_faced, still-faced}
+use Rattle.map_parts.proofs.Passing.InPlace.{in-place-here, in-place-other, same-face, kept-moved}
+
+module _ (through past : Map) (p a b : ℕ) (passing : Passing)
+    (it : HasBetween through past p a b passing) (rows : HalfRows) (held : Held Half)
+    (fits : FitTable past rows held) (first_there : HasHalves rows it.first_row)
+    (second_there : HasHalves rows it.second_row)
+    (new : HalfRows) (keeps : KeepsHalves rows new) (linked : IsLinked new)
+    (now : IsThroughNow passing.first passing.second passing.whole (next rows) (next new)) where
+  abbrev x : Half
+  x = passing.first
+
+  abbrev y : Half
+  y = passing.second
+
+  abbrev z : Half
+  z = passing.whole
+
+  abbrev left : Face
+  left = face rows z
+
+  abbrev right : Face
+  right = face rows (twin z)
+
+  abbrev Other : Half → Type 0
+  Other h = IsOther through past p a b passing it h
+
+  whole_there : HasHalves rows it.whole_row
+  whole_there = through_point.whole_there through past p a b passing it rows fits.local fits.ends first_there second_there
+
+  X : side_by rows x ≡ (a, p)
+  X = between.x-side through past p a b passing it rows first_there second_there whole_there
+
+  Z : side_by rows z ≡ (a, b)
+  Z = between.z-side through past p a b passing it rows first_there second_there whole_there
+
+  TY : side_by rows (twin y) ≡ (b, p)
+  TY = between.ty-side through past p a b passing it rows first_there second_there whole_there
+
+  TZ : side_by rows (twin z) ≡ (b, a)
+  TZ = between.tz-side through past p a b passing it rows first_there second_there whole_there
+
+  pub local : IsLocal through new
+  local = through_point.through-local through past p a b passing it rows fits.local fits.ends first_there second_there new keeps linked now
+
+  pub ends : AllByRecursion (HasHalves new) through.strings
+  ends = through_point.through-ends through past p a b passing it rows fits.local fits.ends first_there second_there new keeps linked now
+
+  new-side : (h : Half) → side_by new h ≡ side_by rows h
+  new-side h = λ i. (keeps.origin h i, keeps.origin (twin h) i)
+
+  -- ---- The faces of the sides through the point
+
+  left-past : HasSide past left (a, b)
+  left-past = subst (HasSide past left) Z (fits.faces z (between.whole-shown through past p a b passing it z refl))
+
+  right-past : HasSide past right (b, a)
+  right-past = subst (HasSide past right) TZ (fits.faces (twin z) (between.whole-shown through past p a b passing it (twin z) refl))
+
+  first-among : Contains (all_sides through) (a, p)
+  first-among =
+      subst (Contains (all_sides through)) X
+      (string-half_side through it.rings rows it.first_row (between.first-in through past p a b passing it) first_there x (sym it.first_along.string))
+
+  second-among : Contains (all_sides through) (b, p)
+  second-among =
+      subst (Contains (all_sides through)) TY
+      (string-half_side through it.rings rows it.second_row (between.second-in through past p a b passing it) second_there (twin y) (sym it.second_along.string))
+
+  pub left-through : HasSide through left (side_by new x)
+  left-through =
+      let k = side-face through it.rings (a, p) first-among in
+      let same : k.0 ≡ left = one-face past it.rings_past k.0 left (a, b) (it.joined.side_forth k.0 k.2) left-past in
+      subst (HasSide through left) (sym (new-side x ∙ X)) (subst (λ (f : Face). HasSide through f (a, p)) same k.2)
+
+  pub right-through : HasSide through right (side_by new (twin y))
+  right-through =
+      let k = side-face through it.rings (b, p) second-among in
+      let same : k.0 ≡ right = one-face past it.rings_past k.0 right (b, a) (it.joined.side_back k.0 k.2) right-past in
+      subst (HasSide through right) (sym (new-side (twin y) ∙ TY)) (subst (λ (f : Face). HasSide through f (b, p)) same k.2)
+
+  -- the face of a half elsewhere
+  elsewhere-faced : (h : Half) → Other h → HasSide through (face new h) (side_by new h)
+  elsewhere-faced h k =
+      let shown = between.other-past through past p a b passing it h k in
+      let away = it.joined.gone _ (fits.local.corners h shown) in
+      let among =
+      string-half_side through it.rings rows k.row (between.other-in_through through past p a b passing it k.row k.there)
+      (All-at_each (HasHalves rows) past.strings k.row fits.ends (between.other-in_past through past p a b passing it k.row k.there)) h k.number in
+      let f = side-face through it.rings (side_by rows h) among in
+      let same : f.0 ≡ face rows h =
+      one-face past it.rings_past f.0 (face rows h) (side_by rows h)
+      (it.joined.side_stays f.0 (side_by rows h) f.2 away.0 away.1) (fits.faces h shown) in
+      subst (λ (g : Face). HasSide through g (side_by new h)) (sym (keeps.face h))
+      (subst (HasSide through (face rows h)) (sym (new-side h))
+      (subst (λ (g : Face). HasSide through g (side_by rows h)) same f.2))
+
+  -- ---- Both rings labelled
+
+  module _ (mid done : HalfRows) (mid_linked : IsLinked mid) (done_linked : IsLinked done)
+      (one : Relabels (cycle new x) left new mid) (two : Relabels (cycle mid (twin y)) right mid done) where
+    x-shown : IsShown through x
+    x-shown = between.first-shown through past p a b passing it x refl
+
+    ty-shown : IsShown through (twin y)
+    ty-shown = between.second-shown through past p a b passing it (twin y) refl
+
+    mid-local : IsLocal through mid
+    mid-local = relabelled-local through it.rings new local ends x x-shown left left-through mid mid_linked one
+
+    mid-ends : AllByRecursion (HasHalves mid) through.strings
+    mid-ends = relabelled-ends through it.rings new local ends x x-shown left left-through mid mid_linked one
+
+    right-mid : HasSide through right (side_by mid (twin y))
+    right-mid =
+        subst (HasSide through right) (sym (λ i. (one.origin (twin y) i, one.origin (twin (twin y)) i))) right-through
+
+    in-first : (h : Half) → Contains (cycle new x) h → HasSide through (face mid h) (side_by mid h)
+    in-first h among = on-cycle_faced through it.rings new local ends x x-shown left left-through mid mid_linked one h among
+
+    in-second : (h : Half) → Contains (cycle mid (twin y)) h → HasSide through (face done h) (side_by done h)
+    in-second h among =
+        on-cycle_faced through it.rings mid mid-local mid-ends (twin y) ty-shown right right-mid done done_linked two h among
+
+    onward : (h : Half) → HasSide through (face mid h) (side_by mid h) → HasSide through (face done h) (side_by done h)
+    onward h was =
+        still-faced through it.rings mid mid-local mid-ends (twin y) ty-shown right right-mid done done_linked two h was
+
+    first-faced : HasSide through (face done x) (side_by done x)
+    first-faced = onward x (in-first x (Contains-first x _))
+
+    second-faced : HasSide through (face done y) (side_by done y)
+    second-faced =
+        onward y (in-first y
+        (subst (Contains (cycle new x)) now.first
+        (cycle-next new linked x (local.there x x-shown) x (Contains-first x _))))
+
+    second_back-faced : HasSide through (face done (twin y)) (side_by done (twin y))
+    second_back-faced = in-second (twin y) (Contains-first (twin y) _)
+
+    first_back-faced : HasSide through (face done (twin x)) (side_by done (twin x))
+    first_back-faced =
+        in-second (twin x)
+        (subst (Contains (cycle mid (twin y))) (one.next (twin y) ∙ now.second_back)
+        (cycle-next mid mid_linked (twin y) (mid-local.there (twin y) ty-shown) (twin y) (Contains-first (twin y) _)))
+
+    other-faced : (h : Half) → Other h → HasSide through (face done h) (side_by done h)
+    other-faced h k =
+        onward h (still-faced through it.rings new local ends x x-shown left left-through mid mid_linked one h (elsewhere-faced h k))
+
+    faced : (h : Half) → IsShown through h → HasSide through (face done h) (side_by done h)
+    faced h shown = elim (between.through-half through past p a b passing it h shown) [
+      | IsThrough.is_first e ↦ subst (λ (g : Half). HasSide through (face done g) (side_by done g)) (sym e) first-faced
+      | IsThrough.is_first_back e ↦ subst (λ (g : Half). HasSide through (face done g) (side_by done g)) (sym e) first_back-faced
+      | IsThrough.is_second e ↦ subst (λ (g : Half). HasSide through (face done g) (side_by done g)) (sym e) second-faced
+      | IsThrough.is_second_back e ↦ subst (λ (g : Half). HasSide through (face done g) (side_by done g)) (sym e) second_back-faced
+      | IsThrough.is_other k ↦ other-faced h k
+    ]
+
+    done-side : (h : Half) → side_by done h ≡ side_by rows h
+    done-side h =
+        (λ i. (two.origin h i, two.origin (twin h) i)) ∙ (λ i. (one.origin h i, one.origin (twin h) i)) ∙ new-side h
+
+    -- ---- One half of each ring
+
+    abbrev L : ℕ
+    L = face_place left
+
+    abbrev R : ℕ
+    R = face_place right
+
+    abbrev moved : ℕ → Half → Half
+    moved n h = in_place_at R (twin z) (twin y) n (in_place_at L z x n h)
+
+    -- the ring without the point
+    abbrev drop : Boundary → Boundary
+    drop r = canonical_form (bounding r.face (without p r.ring))
+
+    module _ (k : Face × Half) (c : Boundary) (isk : IsKept past rows fits.kept.homes k)
+        (there : Contains through.boundaries c) (same : drop c ≡ fits.kept.homes k.1) where
+      of-face : c.face ≡ k.0
+      of-face = ap (λ (r : Boundary). r.face) same ∙ isk.face
+
+      was : Contains (sides_of (drop c).ring) (side_by rows k.1)
+      was = subst (λ (r : Boundary). Contains (sides_of r.ring) (side_by rows k.1)) (sym same) isk.has
+
+      has-face : HasSide past k.0 (side_by rows k.1)
+      has-face =
+          subst (λ (f : Face). HasSide past f (side_by rows k.1)) isk.face
+          (ring-face_has past (fits.kept.homes k.1) isk.there (side_by rows k.1) isk.has)
+
+      kept-on : (h : Half) → moved (face_place k.0) k.1 ≡ h → IsShown through h
+          → Contains (sides_of c.ring) (side_by rows h)
+          → IsKeptOn through done it.rings (k.0, moved (face_place k.0) k.1) c
+      kept-on h e shown side = record {
+        shown = subst (IsShown through) (sym e) shown;
+        there = there;
+        side =
+            subst (λ (g : Half). Contains (sides_of c.ring) (side_by done g)) (sym e)
+            (subst (Contains (sides_of c.ring)) (sym (done-side h)) side);
+        face = of-face;
+      }
+
+      none : (u v : ℕ) → u ≢ v → side_by rows k.1 ≡ (u, v) → side_by rows k.1 ≡ (v, u) → ⊥
+      none u v apart one two = apart (ap (λ (s : Side). s.0) (sym one ∙ two))
+
+      split : Contains (sides_of c.ring) (side_by rows k.1)
+          ⊎ (((side_by rows k.1 ≡ (a, b)) × Contains (sides_of c.ring) (a, p))
+          ⊎ ((side_by rows k.1 ≡ (b, a)) × Contains (sides_of c.ring) (b, p)))
+      split = rings.side-was through past p a b it.joined it.rings c there (side_by rows k.1) was
+
+      in-map : (s : Side) → Contains (sides_of c.ring) s → Contains (all_sides through) s
+      in-map s has = Contains-flat_map (λ (r : Boundary). sides_of r.ring) through.boundaries c s there has
+
+      of-whole : k.1 ≡ z → IsKeptOn through done it.rings (k.0, moved (face_place k.0) k.1) c
+      of-whole e =
+          let is : side_by rows k.1 ≡ (a, b) = ap (side_by rows) e ∙ Z in
+          let mine : k.0 ≡ left =
+          one-face past it.rings_past k.0 left (a, b) (subst (HasSide past k.0) is has-face) left-past in
+          let to : moved (face_place k.0) k.1 ≡ x =
+          ap (moved (face_place k.0)) e
+          ∙ ap (in_place_at R (twin z) (twin y) (face_place k.0)) (in-place-here L (face_place k.0) z x (ap face_place (sym mine)))
+          ∙ in-place-other R (face_place k.0) (twin z) (twin y) x
+          (other-half x (twin z) (λ s. between.zx through past p a b passing it (sym s))) in
+          kept-on x to x-shown
+          (subst (Contains (sides_of c.ring)) (sym X) (elim split [
+            | inl has ↦ absurd (it.look.forth (subst (Contains (all_sides through)) is (in-map (side_by rows k.1) has)))
+            | inr new ↦ elim new [
+              | inl forth ↦ forth.1
+              | inr back ↦ absurd (none a b it.joined.apart is back.0)
+            ]
+          ]))
+
+      of-whole_back : k.1 ≡ twin z → IsKeptOn through done it.rings (k.0, moved (face_place k.0) k.1) c
+      of-whole_back e =
+          let is : side_by rows k.1 ≡ (b, a) = ap (side_by rows) e ∙ TZ in
+          let mine : k.0 ≡ right =
+          one-face past it.rings_past k.0 right (b, a) (subst (HasSide past k.0) is has-face) right-past in
+          let to : moved (face_place k.0) k.1 ≡ twin y =
+          ap (moved (face_place k.0)) e
+          ∙ ap (in_place_at R (twin z) (twin y) (face_place k.0))
+          (in-place-other L (face_place k.0) z x (twin z) (is_half-turned z (twin z) (is_half-twin z)))
+          ∙ in-place-here R (face_place k.0) (twin z) (twin y) (ap face_place (sym mine)) in
+          kept-on (twin y) to ty-shown
+          (subst (Contains (sides_of c.ring)) (sym TY) (elim split [
+            | inl has ↦ absurd (it.look.back (subst (Contains (all_sides through)) is (in-map (side_by rows k.1) has)))
+            | inr new ↦ elim new [
+              | inl forth ↦ absurd (none a b it.joined.apart forth.0 is)
+              | inr back ↦ back.1
+            ]
+          ]))
+
+      of-other : Other k.1 → IsKeptOn through done it.rings (k.0, moved (face_place k.0) k.1) c
+      of-other o =
+          let apart = between.not-whole through past p a b passing it k.1 o in
+          let shown = between.other-past through past p a b passing it k.1 o in
+          let to : moved (face_place k.0) k.1 ≡ k.1 =
+          ap (in_place_at R (twin z) (twin y) (face_place k.0)) (in-place-other L (face_place k.0) z x k.1 (other-half k.1 z apart))
+          ∙ in-place-other R (face_place k.0) (twin z) (twin y) k.1 (other-half k.1 (twin z) apart) in
+          kept-on k.1 to (between.other-through through past p a b passing it k.1 o) (elim split [
+            | inl has ↦ has
+            | inr new ↦ elim new [
+              | inl forth ↦
+                  absurd (apart (ap (λ (q : Half). q.string)
+                  (fits.local.apart k.1 z shown (between.whole-shown through past p a b passing it z refl) (forth.0 ∙ sym Z))))
+              | inr back ↦
+                  absurd (apart (ap (λ (q : Half). q.string)
+                  (fits.local.apart k.1 (twin z) shown (between.whole-shown through past p a b passing it (twin z) refl) (back.0 ∙ sym TZ))))
+            ]
+          ])
+
+      moved-on : IsKeptOn through done it.rings (k.0, moved (face_place k.0) k.1) c
+      moved-on = elim (between.past-half through past p a b passing it k.1 isk.is_shown) [
+        | IsPast.is_whole e ↦ of-whole e
+        | IsPast.is_whole_back e ↦ of-whole_back e
+        | IsPast.is_elsewhere o ↦ of-other o
+      ]
+
+    module _ (then_held : Held Half) (each : (n : ℕ) → items_at then_held n ≡ map (moved n) (items_at held n)) where
+      keeps-rings : KeepsRings through done (kept_in through then_held)
+      keeps-rings =
+          subst (KeepsRings through done) (sym (kept-moved past through it.parcels held then_held moved each))
+          (kept-back through done it.rings past rows (kept_in past held) fits.kept
+          (λ (k : Face × Half). moved (face_place k.0) k.1) drop it.joined.boundaries
+          (λ k c among there same. moved-on k c
+          (All-at_each (IsKept past rows fits.kept.homes) (kept_in past held) k fits.kept.each among) there same))
+
+      pub fit-through : FitTable through done then_held
+      fit-through = record {
+        local = relabelled-local through it.rings mid mid-local mid-ends (twin y) ty-shown right right-mid done done_linked two;
+        ends = relabelled-ends through it.rings mid mid-local mid-ends (twin y) ty-shown right right-mid done done_linked two;
+        faces = faced;
+        kept = keeps-rings;
+        no_face = λ f none.
+            each (face_place f)
+            ∙ ap (map (moved (face_place f))) (fits.no_face f (same-face past through it.parcels f ∙ none));
+      }

@@ -1,0 +1,300 @@
+-- The table of a map with a point, and then without it: the string past the point is in the place of
+-- the path through it.
+use Rattle.std.proofs.Common.{◌≡◌, ◌≢◌, ℕ, ◌⊎◌, inl, inr, refl, sym, ap, subst, ◌∙◌, List, [], ◌∷◌, true, false}
+use Rattle.std.specs.List.{AllByRecursion, Contains}
+use Rattle.std.proofs.lemmas.List.Sorted.{Contains-permutation}
+use Rattle.cad_rows.specs.declared.rows.StringRow.{StringRow}
+use Rattle.cad_rings.specs.Cycle.{Side, Corner}
+use Rattle.cad_rings.specs.Surgery.{corner}
+use Rattle.cad_map.specs.Map.{Map, all_sides}
+use Rattle.cad_map.specs.Views.{ComesAfter}
+use Rattle.cad_map.proofs.CallerLemmas.{Contains-cases, All-at_each, All-from_each}
+use Rattle.half_table.specs.declared.half.Half.{Half}
+use Rattle.half_table.specs.Half.{twin}
+use Rattle.half_table.specs.Rows.{HalfRows, IsLinked, has, next, origin_of}
+use Rattle.half_table.specs.Surgery.{KeepsHalves}
+use Rattle.half_table.proofs.Halves.{is_half-other, other-is_half, twin-twin}
+use Rattle.half_paths.specs.Rerouted.{LeadsOn}
+use Rattle.cad_laws.specs.Local.{IsShown, IsLocal, side_by, beyond}
+use Rattle.cad_laws.specs.Tables.{GoesOnJoined}
+use Rattle.cad_laws.proofs.CallerLemmas.{goes-on_joined, to-point}
+use Rattle.map_parts.specs.Parts.{HasHalves}
+use Rattle.map_parts.specs.Passing.{HasBetween}
+use Rattle.map_parts.specs.declared.edits.passing.Passing.{Passing}
+use Rattle.map_parts.proofs.Passing.OneHand.{no-return}
+use Rattle.map_parts.proofs.Passing.Routes.{IsPastNow}
+use Rattle.map_parts.proofs.Passing.Local.{GoesOn, goes-on, halves-kept, local-from, string-half_side}
+use Rattle.map_parts.proofs.Passing.Between as between
+use Rattle.map_parts.proofs.Passing.Between.{IsThrough, IsPast, IsOther, twin-side}
+
+module _ (through past : Map) (p a b : ℕ) (passing : Passing)
+    (it : HasBetween through past p a b passing) (rows : HalfRows) (local : IsLocal through rows)
+    (ends : AllByRecursion (HasHalves rows) through.strings)
+    (whole_there : HasHalves rows it.whole_row) where
+  abbrev x : Half
+  x = passing.first
+
+  abbrev y : Half
+  y = passing.second
+
+  abbrev z : Half
+  z = passing.whole
+
+  abbrev f : Half → Half
+  f = next rows
+
+  abbrev o : Half → ℕ
+  o = origin_of rows
+
+  abbrev Other : Half → Type 0
+  Other h = IsOther through past p a b passing it h
+
+  pub first_there : HasHalves rows it.first_row
+  first_there =
+      All-at_each (HasHalves rows) through.strings it.first_row ends
+      (between.first-in through past p a b passing it)
+
+  pub second_there : HasHalves rows it.second_row
+  second_there =
+      All-at_each (HasHalves rows) through.strings it.second_row ends
+      (between.second-in through past p a b passing it)
+
+  X : side_by rows x ≡ (a, p)
+  X = between.x-side through past p a b passing it rows first_there second_there whole_there
+
+  Y : side_by rows y ≡ (p, b)
+  Y = between.y-side through past p a b passing it rows first_there second_there whole_there
+
+  Z : side_by rows z ≡ (a, b)
+  Z = between.z-side through past p a b passing it rows first_there second_there whole_there
+
+  TX : side_by rows (twin x) ≡ (p, a)
+  TX = between.tx-side through past p a b passing it rows first_there second_there whole_there
+
+  TY : side_by rows (twin y) ≡ (b, p)
+  TY = between.ty-side through past p a b passing it rows first_there second_there whole_there
+
+  TZ : side_by rows (twin z) ≡ (b, a)
+  TZ = between.tz-side through past p a b passing it rows first_there second_there whole_there
+
+  x-shown : IsShown through x
+  x-shown = between.first-shown through past p a b passing it x refl
+
+  tx-shown : IsShown through (twin x)
+  tx-shown = between.first-shown through past p a b passing it (twin x) refl
+
+  y-shown : IsShown through y
+  y-shown = between.second-shown through past p a b passing it y refl
+
+  ty-shown : IsShown through (twin y)
+  ty-shown = between.second-shown through past p a b passing it (twin y) refl
+
+  -- ---- The path leads on, there and back
+
+  -- the corner at the point after the first half, and after the second one's way back
+  at-point : (h : Half) (u v : ℕ) → IsShown through h → side_by rows h ≡ (u, p)
+      → ((u ≡ a) × (v ≡ b)) ⊎ ((u ≡ b) × (v ≡ a)) → beyond rows h ≡ v
+  at-point h u v shown is which =
+      let c = subst (λ (s : Side). ComesAfter through s (beyond rows h)) is (local.corners h shown) in
+      elim (it.joined.at_point (corner u p (beyond rows h)) c refl) [
+        | inl e ↦ elim which [
+          | inl w ↦ ap (λ (d : Corner). d.after) e ∙ sym w.1
+          | inr w ↦ absurd (it.joined.apart (sym (ap (λ (d : Corner). d.before) e) ∙ w.0))
+        ]
+        | inr e ↦ elim which [
+          | inl w ↦ absurd (it.joined.apart (sym w.0 ∙ ap (λ (d : Corner). d.before) e))
+          | inr w ↦ ap (λ (d : Corner). d.after) e ∙ sym w.1
+        ]
+      ]
+
+  pub on-path : f x ≡ y
+  on-path =
+      let at : o (f x) ≡ p = local.meets x x-shown ∙ ap (λ (s : Side). s.1) X in
+      local.apart (f x) y (local.inside x x-shown) y-shown
+      ((λ i. (at i, at-point x a b x-shown X (inl (refl, refl)) i)) ∙ sym Y)
+
+  pub back-path : f (twin y) ≡ twin x
+  back-path =
+      let at : o (f (twin y)) ≡ p = local.meets (twin y) ty-shown ∙ ap (λ (s : Side). s.1) TY in
+      local.apart (f (twin y)) (twin x) (local.inside (twin y) ty-shown) tx-shown
+      ((λ i. (at i, at-point (twin y) b a ty-shown TY (inr (refl, refl)) i)) ∙ sym TX)
+
+  -- a half begins where the one before it ends
+  begins : (h g : Half) → IsShown through h → f h ≡ g → (side_by rows g).0 ≡ (side_by rows h).1
+  begins h g shown e = sym (ap o e) ∙ local.meets h shown
+
+  turns : (h : Half) → IsShown through h → f h ≢ twin h
+  turns h shown e =
+      no-return through it.rings (side_by rows h)
+      (subst (λ (w : ℕ). ComesAfter through (side_by rows h) w)
+      (ap (λ (q : Half). o (twin q)) e ∙ ap o (twin-twin h)) (local.corners h shown))
+
+  a-p : a ≢ p
+  a-p = between.a-p through past p a b passing it
+
+  b-p : b ≢ p
+  b-p = between.b-p through past p a b passing it
+
+  not-y_x : f y ≢ x
+  not-y_x e = it.joined.apart (sym (ap (λ (s : Side). s.0) X) ∙ begins y x y-shown e ∙ ap (λ (s : Side). s.1) Y)
+
+  not-tx_ty : f (twin x) ≢ twin y
+  not-tx_ty e = it.joined.apart (sym (sym (ap (λ (s : Side). s.0) TY) ∙ begins (twin x) (twin y) tx-shown e ∙ ap (λ (s : Side). s.1) TX))
+
+  not-tx_x : f (twin x) ≢ x
+  not-tx_x e = turns (twin x) tx-shown (e ∙ sym (twin-twin x))
+
+  pub leads : LeadsOn x y f
+  leads = record {
+    goes_on = is_half-other (f y) (twin y) (turns y y-shown);
+    no_ring = is_half-other (f y) x not-y_x;
+    goes_back = is_half-other (f (twin x)) x not-tx_x;
+    no_ring_back = is_half-other (f (twin x)) (twin y) not-tx_ty;
+  }
+
+  -- ---- A half elsewhere has nothing of the point
+
+  module _ (h : Half) (k : Other h) where
+    shown : IsShown through h
+    shown = between.other-through through past p a b passing it h k
+
+    among : Contains (all_sides through) (side_by rows h)
+    among =
+        string-half_side through it.rings rows k.row
+        (between.other-in_through through past p a b passing it k.row k.there)
+        (All-at_each (HasHalves rows) through.strings k.row ends
+        (between.other-in_through through past p a b passing it k.row k.there)) h k.number
+
+    pub ends-elsewhere : (side_by rows h).1 ≢ p
+    ends-elsewhere e =
+        let s : side_by rows h ≡ (o h, p) = λ i. (o h, e i) in
+        elim (to-point through past p a b it.joined it.rings (o h) (subst (Contains (all_sides through)) s among)) [
+          | inl is ↦
+              between.not-first through past p a b passing it h k
+              (ap (λ (q : Half). q.string) (local.apart h x shown x-shown (s ∙ (λ i. (is i, p)) ∙ sym X)))
+          | inr is ↦
+              between.not-second through past p a b passing it h k
+              (ap (λ (q : Half). q.string) (local.apart h (twin y) shown ty-shown (s ∙ (λ i. (is i, p)) ∙ sym TY)))
+        ]
+
+  other-twin : (h : Half) → Other h → Other (twin h)
+  other-twin h k = record { row = k.row; there = k.there; number = k.number }
+
+  pub begins-elsewhere : (h : Half) → Other h → (side_by rows h).0 ≢ p
+  begins-elsewhere h k e =
+      ends-elsewhere (twin h) (other-twin h k) (ap (λ (s : Side). s.1) (twin-side rows h) ∙ e)
+
+  -- ---- The string in its place
+
+  module _ (new : HalfRows) (keeps : KeepsHalves rows new) (linked : IsLinked new)
+      (now : IsPastNow x y z f (next new)) where
+    gone : GoesOnJoined through past rows p a b
+    gone = goes-on_joined through past rows local p a b it.joined
+
+    abbrev Goes : Half → Type 0
+    Goes h = GoesOn rows new keeps past h
+
+    -- what comes after the path
+    after-y : Other (f y)
+    after-y = elim (between.through-half through past p a b passing it (f y) (local.inside y y-shown)) [
+      | IsThrough.is_first e ↦ absurd (not-y_x e)
+      | IsThrough.is_first_back e ↦
+          absurd (b-p (sym (ap (λ (s : Side). s.1) Y) ∙ sym (begins y (twin x) y-shown e) ∙ ap (λ (s : Side). s.0) TX))
+      | IsThrough.is_second e ↦
+          absurd (b-p (sym (ap (λ (s : Side). s.1) Y) ∙ sym (begins y y y-shown e) ∙ ap (λ (s : Side). s.0) Y))
+      | IsThrough.is_second_back e ↦ absurd (turns y y-shown e)
+      | IsThrough.is_other k ↦ k
+    ]
+
+    after-tx : Other (f (twin x))
+    after-tx = elim (between.through-half through past p a b passing it (f (twin x)) (local.inside (twin x) tx-shown)) [
+      | IsThrough.is_first e ↦ absurd (not-tx_x e)
+      | IsThrough.is_first_back e ↦
+          absurd (a-p (sym (ap (λ (s : Side). s.1) TX) ∙ sym (begins (twin x) (twin x) tx-shown e) ∙ ap (λ (s : Side). s.0) TX))
+      | IsThrough.is_second e ↦
+          absurd (a-p (sym (ap (λ (s : Side). s.1) TX) ∙ sym (begins (twin x) y tx-shown e) ∙ ap (λ (s : Side). s.0) Y))
+      | IsThrough.is_second_back e ↦ absurd (not-tx_ty e)
+      | IsThrough.is_other k ↦ k
+    ]
+
+    goes-whole : Goes z
+    goes-whole =
+        goes-on rows new keeps past z (f y) now.whole
+        (between.other-past through past p a b passing it (f y) after-y)
+        (local.meets y y-shown ∙ ap (λ (s : Side). s.1) Y ∙ sym (ap (λ (s : Side). s.1) Z))
+        (subst (λ (s : Side). ComesAfter past s (beyond rows y)) (sym Z) (gone.from_second y y-shown Y))
+
+    goes-whole_back : Goes (twin z)
+    goes-whole_back =
+        goes-on rows new keeps past (twin z) (f (twin x)) now.whole_back
+        (between.other-past through past p a b passing it (f (twin x)) after-tx)
+        (local.meets (twin x) tx-shown ∙ ap (λ (s : Side). s.1) TX ∙ sym (ap (λ (s : Side). s.1) TZ))
+        (subst (λ (s : Side). ComesAfter past s (beyond rows (twin x))) (sym TZ)
+        (gone.from_first (twin x) tx-shown TX))
+
+    module _ (h : Half) (k : Other h) where
+      to-string : f h ≡ x → Goes h
+      to-string e =
+          goes-on rows new keeps past h z (now.enters h e)
+          (between.whole-shown through past p a b passing it z refl)
+          (ap (λ (s : Side). s.0) Z ∙ sym (ap (λ (s : Side). s.0) X) ∙ begins h x (shown h k) e)
+          (subst (λ (w : ℕ). ComesAfter past (side_by rows h) w) (sym (ap (λ (s : Side). s.1) Z))
+          (gone.to_first h (shown h k) (ap (side_by rows) e ∙ X)))
+
+      to-string_back : f h ≡ twin y → Goes h
+      to-string_back e =
+          goes-on rows new keeps past h (twin z) (now.returns h e)
+          (between.whole-shown through past p a b passing it (twin z) refl)
+          (ap (λ (s : Side). s.0) TZ ∙ sym (ap (λ (s : Side). s.0) TY) ∙ begins h (twin y) (shown h k) e)
+          (subst (λ (w : ℕ). ComesAfter past (side_by rows h) w) (sym (ap (λ (s : Side). s.1) TZ))
+          (gone.to_second h (shown h k) (ap (side_by rows) e ∙ TY)))
+
+      to-other : Other (f h) → Goes h
+      to-other far =
+          let not-x = between.not-first through past p a b passing it (f h) far in
+          let not-y = between.not-second through past p a b passing it (f h) far in
+          goes-on rows new keeps past h (f h)
+          (now.others h (between.not-first through past p a b passing it h k)
+          (between.not-second through past p a b passing it h k)
+          (between.not-whole through past p a b passing it h k)
+          (λ e. not-x (ap (λ (q : Half). q.string) e)) (λ e. not-y (ap (λ (q : Half). q.string) e)))
+          (between.other-past through past p a b passing it (f h) far) (local.meets h (shown h k))
+          (gone.stays h (shown h k) (begins-elsewhere h k) (ends-elsewhere h k)
+          (ends-elsewhere (f h) far))
+
+      goes-other : Goes h
+      goes-other =
+          elim (between.through-half through past p a b passing it (f h) (local.inside h (shown h k))) [
+            | IsThrough.is_first e ↦ to-string e
+            | IsThrough.is_first_back e ↦
+                absurd (ends-elsewhere h k (sym (begins h (twin x) (shown h k) e) ∙ ap (λ (s : Side). s.0) TX))
+            | IsThrough.is_second e ↦
+                absurd (ends-elsewhere h k (sym (begins h y (shown h k) e) ∙ ap (λ (s : Side). s.0) Y))
+            | IsThrough.is_second_back e ↦ to-string_back e
+            | IsThrough.is_other far ↦ to-other far
+          ]
+
+    goes : (h : Half) → IsShown past h → Goes h
+    goes h shown = elim (between.past-half through past p a b passing it h shown) [
+      | IsPast.is_whole e ↦ subst Goes (sym e) goes-whole
+      | IsPast.is_whole_back e ↦ subst Goes (sym e) goes-whole_back
+      | IsPast.is_elsewhere k ↦ goes-other h k
+    ]
+
+    ends-row : (s : StringRow) → Contains past.strings s → HasHalves rows s
+    ends-row s among =
+        elim (Contains-cases it.whole_row it.others s
+        (Contains-permutation past.strings (it.whole_row ∷ it.others) s it.strings_past among)) [
+          | inl e ↦ subst (HasHalves rows) e whole_there
+          | inr later ↦
+              All-at_each (HasHalves rows) through.strings s ends
+              (between.other-in_through through past p a b passing it s later)
+        ]
+
+    pub past-ends : AllByRecursion (HasHalves new) past.strings
+    past-ends =
+        All-from_each (HasHalves new) past.strings
+        (λ s among. halves-kept rows new keeps s (ends-row s among))
+
+    pub past-local : IsLocal past new
+    past-local = local-from rows new keeps past it.rings_past linked past-ends goes

@@ -1,0 +1,139 @@
+-- What the two steps at a point between two others ask of the table, and what they leave of it.
+use Rattle.std.proofs.Common.{◌≡◌, ◌+◌, ℕ, refl, sym, ap, subst, ◌∙◌, List, [], ◌∷◌, ◌++◌, length, true, false, nat_eq, arith}
+use Rattle.std.specs.List.{IsDistinct}
+use Rattle.half_table.specs.declared.half.Half.{Half}
+use Rattle.half_table.specs.Count.{ticked}
+use Rattle.half_table.specs.Half.{twin}
+use Rattle.half_table.specs.Cycle.{orbit}
+use Rattle.half_table.specs.Rows.{HalfRows, IsLinked, strings, has, next, prev, halves_of, cycle}
+use Rattle.half_table.proofs.Loose.{nat_eq-symm}
+use Rattle.half_paths.proofs.Along.{ticked-add}
+use Rattle.half_paths.specs.Path.{AreDifferent}
+use Rattle.half_paths.specs.Redirect.{redirect}
+use Rattle.half_paths.specs.Rerouted.{rerouted, CanReroute}
+use Rattle.key_lists.specs.Held.{Held}
+use Rattle.map_parts.specs.Parts.{HasHalves}
+use Rattle.map_parts.specs.Passing.{HasBetween, CanGoThrough, CanGoPast}
+use Rattle.map_parts.specs.declared.edits.passing.Passing.{Passing}
+use Rattle.map_parts.proofs.Passing.Between as between
+use Rattle.map_parts.proofs.Passing.Routes.{IsThroughNow, IsPastNow, through-now, past-now}
+use Rattle.map_parts.proofs.Passing.Through as through_point
+use Rattle.map_parts.proofs.Passing.Past as past_point
+
+-- a cycle is the same where the same halves follow
+pub same-cycle : (old new : HalfRows) → strings new ≡ strings old
+    → ((g : Half) → next new g ≡ next old g) → (h : Half) → cycle new h ≡ cycle old h
+same-cycle old new same on h =
+    λ i. h ∷ orbit (λ g. on g i) (length (halves_of (same i))) h (on h i)
+
+-- three numbers of ticks
+pub ticked-three : (n m k w : ℕ) → ticked n (ticked m (ticked k w)) ≡ ticked (m + n + k) w
+ticked-three n m k w =
+    sym (ticked-add m n (ticked k w)) ∙ sym (ticked-add k (m + n) w)
+    ∙ (let e : k + (m + n) ≡ m + n + k = omega arith in ap (λ (j : ℕ). ticked j w) e)
+
+module _ (passing : Passing) (rows : HalfRows) (held : Held Half) (can : CanGoThrough passing rows held) where
+  abbrev x : Half
+  x = passing.first
+
+  abbrev y : Half
+  y = passing.second
+
+  abbrev z : Half
+  z = passing.whole
+
+  whole_there : HasHalves rows can.between.whole_row
+  whole_there =
+      through_point.whole_there can.through can.past can.p can.a can.b passing can.between rows can.fits.local can.fits.ends can.first_there can.second_there
+
+  pub through-whole_in : has rows z ≡ true
+  through-whole_in =
+      between.z-in can.through can.past can.p can.a can.b passing can.between rows can.first_there can.second_there whole_there
+
+  pub through-first_in : has rows x ≡ true
+  through-first_in =
+      between.x-in can.through can.past can.p can.a can.b passing can.between rows can.first_there can.second_there whole_there
+
+  pub through-second_in : has rows y ≡ true
+  through-second_in =
+      between.y-in can.through can.past can.p can.a can.b passing can.between rows can.first_there can.second_there whole_there
+
+  pub through-can : CanReroute z [] x (y ∷ []) (next rows)
+  through-can = record {
+    strung = tt;
+    leads_on =
+        through_point.leads can.through can.past can.p can.a can.b passing can.between rows can.fits.local can.fits.ends can.first_there can.second_there;
+    loose = can.loose;
+  }
+
+  pub through-then : (new : HalfRows)
+      → ((g : Half) → next new g
+      ≡ redirect (rerouted (prev rows z) (prev rows (twin z)) z [] x (y ∷ []) (next rows)) (next rows) g)
+      → IsThroughNow x y z (next rows) (next new)
+  through-then new is =
+      through-now rows can.fits.local.linked x y z
+      (between.xy can.through can.past can.p can.a can.b passing can.between)
+      (between.zx can.through can.past can.p can.a can.b passing can.between)
+      (between.zy can.through can.past can.p can.a can.b passing can.between) through-can.leads_on
+      can.loose (next new) is
+
+module _ (passing : Passing) (rows : HalfRows) (held : Held Half) (can : CanGoPast passing rows held) where
+  abbrev first : Half
+  first = passing.first
+
+  abbrev second : Half
+  second = passing.second
+
+  abbrev whole : Half
+  whole = passing.whole
+
+  first_there : HasHalves rows can.between.first_row
+  first_there =
+      past_point.first_there can.through can.past can.p can.a can.b passing can.between rows can.fits.local can.fits.ends can.whole_there
+
+  second_there : HasHalves rows can.between.second_row
+  second_there =
+      past_point.second_there can.through can.past can.p can.a can.b passing can.between rows can.fits.local can.fits.ends can.whole_there
+
+  pub past-first_in : has rows first ≡ true
+  past-first_in =
+      between.x-in can.through can.past can.p can.a can.b passing can.between rows first_there second_there can.whole_there
+
+  pub past-second_in : has rows second ≡ true
+  past-second_in =
+      between.y-in can.through can.past can.p can.a can.b passing can.between rows first_there second_there can.whole_there
+
+  pub past-whole_in : has rows whole ≡ true
+  past-whole_in =
+      between.z-in can.through can.past can.p can.a can.b passing can.between rows first_there second_there can.whole_there
+
+  pub past-different : AreDifferent ((first ∷ second ∷ []) ++ whole ∷ [])
+  unfolding IsDistinct
+  past-different =
+      let d = can.between.different in
+      let xz : nat_eq first.string whole.string ≡ false = nat_eq-symm first.string whole.string ∙ d.0.0 in
+      let yz : nat_eq second.string whole.string ≡ false = nat_eq-symm second.string whole.string ∙ d.0.1.0 in
+      ((d.1.0.0, (xz, tt)), ((yz, tt), (tt, tt)))
+
+  pub past-can : CanReroute first (second ∷ []) whole [] (next rows)
+  past-can = record {
+    strung = (
+      past_point.on-path can.through can.past can.p can.a can.b passing can.between rows can.fits.local can.fits.ends can.whole_there,
+      past_point.back-path can.through can.past can.p can.a can.b passing can.between rows can.fits.local can.fits.ends can.whole_there,
+      tt,
+    );
+    leads_on =
+        past_point.leads can.through can.past can.p can.a can.b passing can.between rows can.fits.local can.fits.ends can.whole_there;
+    loose = can.loose;
+  }
+
+  pub past-then : (new : HalfRows)
+      → ((g : Half) → next new g
+      ≡ redirect (rerouted (prev rows first) (prev rows (twin second)) first (second ∷ []) whole [] (next rows)) (next rows) g)
+      → IsPastNow first second whole (next rows) (next new)
+  past-then new is =
+      past-now rows can.fits.local.linked first second whole
+      (between.xy can.through can.past can.p can.a can.b passing can.between)
+      (between.zx can.through can.past can.p can.a can.b passing can.between)
+      (between.zy can.through can.past can.p can.a can.b passing can.between)
+      past-can.strung.0 past-can.strung.1 past-can.leads_on can.loose (next new) is

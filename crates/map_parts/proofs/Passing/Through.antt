@@ -1,0 +1,239 @@
+-- The table of a map without a point, and then with it: the path through the point is in the place
+-- of the string past it.
+use Rattle.std.proofs.Common.{◌≡◌, ◌≢◌, ℕ, ◌⊎◌, inl, inr, refl, sym, ap, subst, ◌∙◌, List, [], ◌∷◌, true, false}
+use Rattle.std.specs.List.{AllByRecursion, Contains}
+use Rattle.std.proofs.lemmas.List.Sorted.{Contains-permutation}
+use Rattle.cad_rows.specs.declared.rows.StringRow.{StringRow}
+use Rattle.cad_rings.specs.Cycle.{Side}
+use Rattle.cad_map.specs.Map.{Map, all_sides}
+use Rattle.cad_map.specs.Views.{ComesAfter}
+use Rattle.cad_map.proofs.CallerLemmas.{Contains-cases, All-at_each, All-from_each}
+use Rattle.half_table.specs.declared.half.Half.{Half}
+use Rattle.half_table.specs.Half.{twin}
+use Rattle.half_table.specs.Rows.{HalfRows, IsLinked, has, next, origin_of}
+use Rattle.half_table.specs.Surgery.{KeepsHalves}
+use Rattle.half_table.proofs.Halves.{is_half-other, other-is_half, twin-twin}
+use Rattle.half_paths.specs.Rerouted.{LeadsOn}
+use Rattle.cad_laws.specs.Local.{IsShown, IsLocal, side_by, beyond}
+use Rattle.cad_laws.specs.Tables.{GoesOnSplit}
+use Rattle.cad_laws.proofs.CallerLemmas.{goes-on_split}
+use Rattle.map_parts.specs.Parts.{HasHalves}
+use Rattle.map_parts.specs.Passing.{HasBetween}
+use Rattle.map_parts.specs.declared.edits.passing.Passing.{Passing}
+use Rattle.map_parts.proofs.Passing.OneHand.{no-return}
+use Rattle.map_parts.proofs.Passing.Routes.{IsThroughNow}
+use Rattle.map_parts.proofs.Passing.Local.{GoesOn, goes-on, halves-kept, local-from, string-half_side}
+use Rattle.map_parts.proofs.Passing.Between as between
+use Rattle.map_parts.proofs.Passing.Between.{IsThrough, IsPast, IsOther}
+
+module _ (through past : Map) (p a b : ℕ) (passing : Passing)
+    (it : HasBetween through past p a b passing) (rows : HalfRows) (local : IsLocal past rows)
+    (ends : AllByRecursion (HasHalves rows) past.strings) (first_there : HasHalves rows it.first_row)
+    (second_there : HasHalves rows it.second_row) where
+  abbrev x : Half
+  x = passing.first
+
+  abbrev y : Half
+  y = passing.second
+
+  abbrev z : Half
+  z = passing.whole
+
+  abbrev f : Half → Half
+  f = next rows
+
+  abbrev o : Half → ℕ
+  o = origin_of rows
+
+  abbrev Other : Half → Type 0
+  Other h = IsOther through past p a b passing it h
+
+  pub whole_there : HasHalves rows it.whole_row
+  whole_there =
+      All-at_each (HasHalves rows) past.strings it.whole_row ends
+      (between.whole-in through past p a b passing it)
+
+  X : side_by rows x ≡ (a, p)
+  X = between.x-side through past p a b passing it rows first_there second_there whole_there
+
+  Y : side_by rows y ≡ (p, b)
+  Y = between.y-side through past p a b passing it rows first_there second_there whole_there
+
+  Z : side_by rows z ≡ (a, b)
+  Z = between.z-side through past p a b passing it rows first_there second_there whole_there
+
+  TX : side_by rows (twin x) ≡ (p, a)
+  TX = between.tx-side through past p a b passing it rows first_there second_there whole_there
+
+  TY : side_by rows (twin y) ≡ (b, p)
+  TY = between.ty-side through past p a b passing it rows first_there second_there whole_there
+
+  TZ : side_by rows (twin z) ≡ (b, a)
+  TZ = between.tz-side through past p a b passing it rows first_there second_there whole_there
+
+  z-shown : IsShown past z
+  z-shown = between.whole-shown through past p a b passing it z refl
+
+  tz-shown : IsShown past (twin z)
+  tz-shown = between.whole-shown through past p a b passing it (twin z) refl
+
+  -- ---- The string past the point leads on to others
+
+  turns : (h : Half) → IsShown past h → f h ≢ twin h
+  turns h shown e =
+      no-return past it.rings_past (side_by rows h)
+      (subst (λ (w : ℕ). ComesAfter past (side_by rows h) w)
+      (ap (λ (q : Half). o (twin q)) e ∙ ap o (twin-twin h)) (local.corners h shown))
+
+  stands : (h : Half) → IsShown past h → (side_by rows h).0 ≢ (side_by rows h).1 → f h ≢ h
+  stands h shown two e = two (sym (ap o e) ∙ local.meets h shown)
+
+  pub leads : LeadsOn z z f
+  leads = record {
+    goes_on = is_half-other (f z) (twin z) (turns z z-shown);
+    no_ring =
+        is_half-other (f z) z
+        (stands z z-shown (λ e. it.joined.apart (sym (ap (λ (s : Side). s.0) Z) ∙ e ∙ ap (λ (s : Side). s.1) Z)));
+    goes_back =
+        is_half-other (f (twin z)) z
+        (λ e. turns (twin z) tz-shown (e ∙ sym (twin-twin z)));
+    no_ring_back =
+        is_half-other (f (twin z)) (twin z)
+        (stands (twin z) tz-shown (λ e. it.joined.apart (sym (sym (ap (λ (s : Side). s.0) TZ) ∙ e ∙ ap (λ (s : Side). s.1) TZ))));
+  }
+
+  -- ---- The path in its place
+
+  module _ (new : HalfRows) (keeps : KeepsHalves rows new) (linked : IsLinked new)
+      (now : IsThroughNow x y z f (next new)) where
+    gone : GoesOnSplit through past rows p a b
+    gone = goes-on_split through past rows local p a b it.joined it.rings it.rings_past it.look
+
+    abbrev Goes : Half → Type 0
+    Goes h = GoesOn rows new keeps through h
+
+    -- what comes after the string, one way or the other, is elsewhere
+    elsewhere : (h : Half) → (f h ≡ z → ⊥) → (f h ≡ twin z → ⊥) → IsShown past h → Other (f h)
+    elsewhere h not_z not_tz shown =
+        elim (between.past-half through past p a b passing it (f h) (local.inside h shown)) [
+          | IsPast.is_whole e ↦ absurd (not_z e)
+          | IsPast.is_whole_back e ↦ absurd (not_tz e)
+          | IsPast.is_elsewhere k ↦ k
+        ]
+
+    goes-first : Goes x
+    goes-first =
+        goes-on rows new keeps through x y now.first
+        (between.second-shown through past p a b passing it y refl)
+        (ap (λ (s : Side). s.0) Y ∙ sym (ap (λ (s : Side). s.1) X))
+        (subst (λ (t : Side × ℕ). ComesAfter through t.0 t.1)
+        (λ i. (sym X i, sym (ap (λ (s : Side). s.1) Y) i)) it.joined.first_there)
+
+    goes-second_back : Goes (twin y)
+    goes-second_back =
+        goes-on rows new keeps through (twin y) (twin x) now.second_back
+        (between.first-shown through past p a b passing it (twin x) refl)
+        (ap (λ (s : Side). s.0) TX ∙ sym (ap (λ (s : Side). s.1) TY))
+        (subst (λ (t : Side × ℕ). ComesAfter through t.0 t.1)
+        (λ i. (sym TY i, sym (ap (λ (s : Side). s.1) TX) i)) it.joined.second_there)
+
+    goes-second : Goes y
+    goes-second =
+        let k =
+        elsewhere z (λ e. other-is_half (f z) z leads.no_ring e)
+        (λ e. other-is_half (f z) (twin z) leads.goes_on e) z-shown in
+        goes-on rows new keeps through y (f z) now.second
+        (between.other-through through past p a b passing it (f z) k)
+        (local.meets z z-shown ∙ ap (λ (s : Side). s.1) Z ∙ sym (ap (λ (s : Side). s.1) Y))
+        (subst (λ (s : Side). ComesAfter through s (beyond rows z)) (sym Y) (gone.from_second z z-shown Z))
+
+    goes-first_back : Goes (twin x)
+    goes-first_back =
+        let k =
+        elsewhere (twin z) (λ e. other-is_half (f (twin z)) z leads.goes_back e)
+        (λ e. other-is_half (f (twin z)) (twin z) leads.no_ring_back e) tz-shown in
+        goes-on rows new keeps through (twin x) (f (twin z)) now.first_back
+        (between.other-through through past p a b passing it (f (twin z)) k)
+        (local.meets (twin z) tz-shown ∙ ap (λ (s : Side). s.1) TZ ∙ sym (ap (λ (s : Side). s.1) TX))
+        (subst (λ (s : Side). ComesAfter through s (beyond rows (twin z))) (sym TX)
+        (gone.from_first (twin z) tz-shown TZ))
+
+    module _ (h : Half) (k : Other h) where
+      shown : IsShown past h
+      shown = between.other-past through past p a b passing it h k
+
+      there : Contains (all_sides through) (side_by rows h)
+      there =
+          string-half_side through it.rings rows k.row
+          (between.other-in_through through past p a b passing it k.row k.there)
+          (All-at_each (HasHalves rows) past.strings k.row ends
+          (between.other-in_past through past p a b passing it k.row k.there)) h k.number
+
+      to-path : f h ≡ z → Goes h
+      to-path e =
+          goes-on rows new keeps through h x (now.enters h e)
+          (between.first-shown through past p a b passing it x refl)
+          (ap (λ (s : Side). s.0) X ∙ sym (ap (λ (s : Side). s.0) Z) ∙ sym (ap o e) ∙ local.meets h shown)
+          (subst (λ (w : ℕ). ComesAfter through (side_by rows h) w) (sym (ap (λ (s : Side). s.1) X))
+          (gone.to_first h shown there (ap (side_by rows) e ∙ Z)))
+
+      to-path_back : f h ≡ twin z → Goes h
+      to-path_back e =
+          goes-on rows new keeps through h (twin y) (now.returns h e)
+          (between.second-shown through past p a b passing it (twin y) refl)
+          (ap (λ (s : Side). s.0) TY ∙ sym (ap (λ (s : Side). s.0) TZ) ∙ sym (ap o e) ∙ local.meets h shown)
+          (subst (λ (w : ℕ). ComesAfter through (side_by rows h) w) (sym (ap (λ (s : Side). s.1) TY))
+          (gone.to_second h shown there (ap (side_by rows) e ∙ TZ)))
+
+      to-other : Other (f h) → Goes h
+      to-other far =
+          let apart = between.not-whole through past p a b passing it (f h) far in
+          let not_z : f h ≢ z = λ e. apart (ap (λ (q : Half). q.string) e) in
+          let not_tz : f h ≢ twin z = λ e. apart (ap (λ (q : Half). q.string) e) in
+          let inside = local.inside h shown in
+          goes-on rows new keeps through h (f h)
+          (now.others h (between.not-first through past p a b passing it h k)
+          (between.not-second through past p a b passing it h k)
+          (between.not-whole through past p a b passing it h k) not_z not_tz)
+          (between.other-through through past p a b passing it (f h) far) (local.meets h shown)
+          (gone.stays h shown there
+          (λ e. not_z (local.apart (f h) z inside z-shown (e ∙ sym Z)))
+          (λ e. not_tz (local.apart (f h) (twin z) inside tz-shown (e ∙ sym TZ))))
+
+      goes-other : Goes h
+      goes-other =
+          elim (between.past-half through past p a b passing it (f h) (local.inside h shown)) [
+            | IsPast.is_whole e ↦ to-path e
+            | IsPast.is_whole_back e ↦ to-path_back e
+            | IsPast.is_elsewhere far ↦ to-other far
+          ]
+
+    goes : (h : Half) → IsShown through h → Goes h
+    goes h shown = elim (between.through-half through past p a b passing it h shown) [
+      | IsThrough.is_first e ↦ subst Goes (sym e) goes-first
+      | IsThrough.is_first_back e ↦ subst Goes (sym e) goes-first_back
+      | IsThrough.is_second e ↦ subst Goes (sym e) goes-second
+      | IsThrough.is_second_back e ↦ subst Goes (sym e) goes-second_back
+      | IsThrough.is_other k ↦ goes-other h k
+    ]
+
+    ends-row : (s : StringRow) → Contains through.strings s → HasHalves rows s
+    ends-row s among =
+        elim (Contains-cases it.first_row (it.second_row ∷ it.others) s
+        (Contains-permutation through.strings (it.first_row ∷ it.second_row ∷ it.others) s it.strings among)) [
+          | inl e ↦ subst (HasHalves rows) e first_there
+          | inr later ↦ elim (Contains-cases it.second_row it.others s later) [
+            | inl e ↦ subst (HasHalves rows) e second_there
+            | inr last ↦
+                All-at_each (HasHalves rows) past.strings s ends
+                (between.other-in_past through past p a b passing it s last)
+          ]
+        ]
+
+    pub through-ends : AllByRecursion (HasHalves new) through.strings
+    through-ends =
+        All-from_each (HasHalves new) through.strings
+        (λ s among. halves-kept rows new keeps s (ends-row s among))
+
+    pub through-local : IsLocal through new
+    through-local = local-from rows new keeps through it.rings linked through-ends goes

@@ -1,0 +1,13 @@
+use Rattle.std.proofs.Common.{◌≡◌, ◌<◌, ℕ, Some, slice_get}
+use Rattle.cad_map.specs.declared.boundary.Boundary.{Boundary}
+use Rattle.cad_laws.specs.Local.{IsLocal}
+use Rattle.map_parts.specs.Labels.{IsLabelled}
+use Rattle.map_parts.specs.Building.{HoldsStrings}
+use Rattle.map_parts.proofs.building.label_rings.Given as goal
+
+abbrev pub invariant-loop-boundary : goal.invariant-loop-boundary
+invariant-loop-boundary g l = record {
+  strings : HoldsStrings l.map l.table.rows l.stars;
+  local : IsLocal l.map l.table.rows;
+  labelled : (i : ℕ) (b : Boundary) → i < l.boundary-index → slice_get l.map.boundaries i ≡ Some b → IsLabelled l.map l.table.rows b;
+}

@@ -1,0 +1,148 @@
+use Rattle.std.proofs.Common.{◌≡◌, ◌+◌, ◌*◌, ◌∷◌, [], ℕ, List, length, sym, ap, ◌∙◌, subst, if◌then◌else◌, arith}
+use Rattle.cad_map.specs.Boundaries.{face_place}
+use Rattle.cad_rings.specs.Surgery.{sides_of_chain}
+use Rattle.half_table.specs.declared.half.Half.{Half}
+use Rattle.half_table.specs.Half.{twin}
+use Rattle.half_table.specs.Count.{ticked}
+use Rattle.half_table.specs.Cycle.{holds}
+use Rattle.half_table.specs.Rows.{next, face, cycle}
+use Rattle.half_paths.specs.Path.{strings_of, last_of, AreIn, AreElsewhere}
+use Rattle.half_paths.specs.Loose.{is_of}
+use Rattle.half_paths.specs.Strung.{IsStrung}
+use Rattle.half_paths.proofs.Along.{ticked-add}
+use Rattle.key_lists.specs.Held.{items_at}
+use Rattle.map_parts.specs.Handing.{KeepsOne}
+use Rattle.map_parts.specs.Relabelled.{on_cycles, cycles_length}
+use Rattle.map_parts.proofs.KeptShown.{local-kept}
+use Rattle.map_parts.proofs.RelabelledEach.{cycle-same, in-relabelled}
+use Rattle.map_parts.proofs.Handed.{in-handed}
+use Rattle.map_parts.proofs.KeptIsland.{items-of, put-capacity, room-handed}
+use Rattle.map_parts.proofs.IslandFits.{side-same, along-same}
+use Rattle.map_parts.proofs.ChainGone.{fits-cut, start-on, chain-gone}
+use Rattle.map_parts.proofs.edits.divide.take_across.Goals as goal
+
+pub hand_over-requires-clause-differ : goal.hand_over-requires-clause-differ
+hand_over-requires-clause-differ g c = λ e. c.requires.faces (sym e)
+
+pub hand_over-requires-clause-within : goal.hand_over-requires-clause-within
+hand_over-requires-clause-within g c =
+    in-relabelled c.args.table.now.rows c.relabel_each.new.table.rows (items_at c.args.kept.now (face_place c.args.inner.now)) c.relabel_each.ensures.relabels.has c.requires.inner_in
+
+pub hand_over-requires-clause-room : goal.hand_over-requires-clause-room
+hand_over-requires-clause-room g c = let room = c.requires.outer_room in omega (arith, room)
+
+pub next-start-requires : goal.next-start-requires
+next-start-requires g c = c.twin-back.ensures.inside ∙ c.relabel_each.ensures.relabels.has c.args.first.now ∙ c.requires.within.0
+
+pub take_left-requires-clause-within : goal.take_left-requires-clause-within
+take_left-requires-clause-within g c =
+    in-relabelled c.args.table.now.rows c.relabel_each.new.table.rows (c.args.first.now ∷ c.args.rest.now) c.relabel_each.ensures.relabels.has c.requires.within
+
+pub take_left-requires-clause-strung : goal.take_left-requires-clause-strung
+take_left-requires-clause-strung g c =
+    subst (λ (n : Half → Half). IsStrung n c.args.first.now c.args.rest.now) (λ i h. sym (c.relabel_each.ensures.relabels.next h) i) c.requires.strung
+
+pub take_left-requires-clause-on_away : goal.take_left-requires-clause-on_away
+take_left-requires-clause-on_away g c =
+    subst (λ (h : Half). AreElsewhere h (c.args.first.now ∷ c.args.rest.now)) (sym (c.relabel_each.ensures.relabels.next (last_of c.args.first.now c.args.rest.now))) c.requires.on_away
+
+pub take_left-requires-clause-back_away : goal.take_left-requires-clause-back_away
+take_left-requires-clause-back_away g c =
+    subst (λ (h : Half). AreElsewhere h (c.args.first.now ∷ c.args.rest.now)) (sym (c.relabel_each.ensures.relabels.next (twin c.args.first.now))) c.requires.back_away
+
+pub hand_over-requires-2-clause-within : goal.hand_over-requires-2-clause-within
+hand_over-requires-2-clause-within g c =
+    let outer : ℕ = face_place c.args.outer.now in
+    let inner : ℕ = face_place c.args.inner.now in
+    let old = c.args.table.now.rows in
+    let new = c.take_left.new.table.rows in
+    let away : ¬ (c.face_place.result ≡ outer) = λ e. c.requires.faces (sym (sym c.face_place.ensures ∙ e)) in
+    let items = items-of c.face_place.result outer c.hand_over.new.kept c.clear.new.kept c.clear.ensures.others away in
+    subst (AreIn new) (sym items)
+    (in-relabelled old new (items_at c.hand_over.new.kept outer) (λ h. c.take_left.ensures.has h ∙ c.relabel_each.ensures.relabels.has h)
+    (in-handed old c.relabel_each.new.table.rows inner outer c.args.kept.now c.hand_over.new.kept c.hand_over.ensures.hands c.requires.inner_in c.requires.outer_in))
+
+pub hand_over-requires-2-clause-room : goal.hand_over-requires-2-clause-room
+hand_over-requires-2-clause-room g c =
+    let outer : ℕ = face_place c.args.outer.now in
+    let inner : ℕ = face_place c.args.inner.now in
+    let key = c.face_place.ensures in
+    let away : ¬ (c.face_place.result ≡ outer) = λ e. c.requires.faces (sym (sym key ∙ e)) in
+    let items = ap length (items-of c.face_place.result outer c.hand_over.new.kept c.clear.new.kept c.clear.ensures.others away) in
+    let gone = ap length (subst (λ (k : ℕ). items_at c.clear.new.kept k ≡ []) key c.clear.ensures.none) in
+    let cap = put-capacity c.face_place.result inner c.hand_over.new.kept c.clear.new.kept c.clear.ensures.others c.clear.ensures.capacity in
+    let cap_one = c.hand_over.ensures.capacity inner in
+    let handed = (room-handed c.relabel_each.new.table.rows inner outer c.args.kept.now c.hand_over.new.kept c.hand_over.ensures.hands).1 in
+    let room = c.requires.inner_room in
+    omega (arith, items, gone, cap, cap_one, handed, room)
+
+pub keep_one-requires-clause-room : goal.keep_one-requires-clause-room
+keep_one-requires-clause-room g c =
+    let outer : ℕ = face_place c.args.outer.now in
+    let inner : ℕ = face_place c.args.inner.now in
+    let key = c.face_place.ensures in
+    let away : ¬ (c.face_place.result ≡ outer) = λ e. c.requires.faces (sym (sym key ∙ e)) in
+    let items = ap length (items-of c.face_place.result outer c.hand_over.new.kept c.clear.new.kept c.clear.ensures.others away) in
+    let cap = put-capacity c.face_place.result outer c.hand_over.new.kept c.clear.new.kept c.clear.ensures.others c.clear.ensures.capacity in
+    let cap_one = c.hand_over.ensures.capacity outer in
+    let cap_two = c.hand_over-2.ensures.capacity outer in
+    let handed = (room-handed c.relabel_each.new.table.rows inner outer c.args.kept.now c.hand_over.new.kept c.hand_over.ensures.hands).1 in
+    let again = (room-handed c.take_left.new.table.rows outer inner c.clear.new.kept c.hand_over-2.new.kept c.hand_over-2.ensures.hands).0 in
+    let room = c.requires.outer_room in
+    omega (arith, items, cap, cap_one, cap_two, handed, again, room)
+
+pub returns-clause-has : goal.returns-clause-has
+returns-clause-has g c = λ h. c.take_left.ensures.has h ∙ c.relabel_each.ensures.relabels.has h
+
+pub returns-clause-origin : goal.returns-clause-origin
+returns-clause-origin g c = λ h. c.take_left.ensures.origin h ∙ c.relabel_each.ensures.relabels.origin h
+
+pub returns-clause-capacity : goal.returns-clause-capacity
+returns-clause-capacity g c = λ n.
+    c.keep_one.ensures.capacity n ∙ c.hand_over-2.ensures.capacity n
+    ∙ put-capacity c.face_place.result n c.hand_over.new.kept c.clear.new.kept c.clear.ensures.others c.clear.ensures.capacity
+    ∙ c.hand_over.ensures.capacity n
+
+pub returns-clause-work : goal.returns-clause-work
+returns-clause-work g c =
+    let old = c.args.table.now.rows in
+    let back = c.relabel_each.new.table.rows in
+    let labels = c.relabel_each.ensures.relabels in
+    let first : Half = c.args.first.now in
+    let w = c.args.table.now.work in
+    let q = cycles_length old c.args.moved.now in
+    let n = length c.args.rest.now + 2 in
+    let p = 2 + 2 * length c.args.rest.now in
+    let r = length (cycle back first) in
+    let is_r : r ≡ length (cycle old first) = ap (λ (f : Half → List Half). length (f first)) (cycle-same old back labels.strings labels.next) in
+    c.take_left.ensures.work ∙ ap (ticked (r + n + p)) c.relabel_each.ensures.work ∙ sym (ticked-add q (r + n + p) w) ∙ (λ i. ticked (q + (is_r i + n + p)) w)
+
+pub returns-clause-chain : goal.returns-clause-chain
+returns-clause-chain g c = λ whole parted chain fc lc one left right others rings parts long it two more along first_side last_side ends of fits keeps.
+    let outer = c.args.outer.now in
+    let inner = c.args.inner.now in
+    let first : Half = c.args.first.now in
+    let rest = c.args.rest.now in
+    let moved = c.args.moved.now in
+    let old = c.args.table.now.rows in
+    let back = c.relabel_each.new.table.rows in
+    let new = c.take_left.new.table.rows in
+    let labels = c.relabel_each.ensures.relabels in
+    let key = c.face_place.ensures in
+    let origins : (h : Half) → _ = returns-clause-origin g c in
+    let faces_new : (h : Half) → face new h ≡ (if is_of (strings_of (first ∷ rest)) h then inner else if holds (cycle old first) h then outer else if on_cycles old moved h then outer else face old h) =
+    λ h. c.take_left.ensures.faces h ∙ (λ i. if is_of (strings_of (first ∷ rest)) h then inner else if holds (cycle-same old back labels.strings labels.next i first) h then outer else labels.face h i) in
+    let local_back = local-kept parted old back (λ h shown. labels.has h) (λ h shown. labels.next h) (λ h shown. labels.origin h) c.relabel_each.ensures.linked fits.local in
+    let local = c.take_left.ensures.local whole parted chain fc lc parts long it.corners more (along-same old back labels.origin (first ∷ rest) (sides_of_chain chain) along)
+    (side-same old back labels.origin first ∙ first_side) (side-same old back labels.origin (last_of first rest) ∙ last_side) local_back in
+    let is_start : c.next-start.result ≡ next old (twin first) = c.next-start.ensures.is ∙ labels.next c.twin-back.result ∙ ap (next old) c.twin-back.ensures.is in
+    let on = start-on whole parted outer inner chain fc lc one left right others it rings parts long first rest more moved old new origins fits of along first_side last_side faces_new c.requires.back_away in
+    let one_kept = subst (λ (h : Half). KeepsOne (face_place inner) (face_place outer) h c.hand_over-2.new.kept c.keep_one.new.kept) is_start c.keep_one.ensures.one in (
+      fits-cut whole parted outer inner chain fc lc one left right others it rings parts long first rest more moved old new origins fits of along first_side last_side faces_new
+          local (returns-clause-has g c) ends,
+      chain-gone whole parted outer inner chain fc lc one left right others it rings parts long first rest more moved old new origins fits of along first_side last_side faces_new
+          two back labels.face c.args.kept.now c.hand_over.new.kept c.clear.new.kept c.hand_over-2.new.kept c.keep_one.new.kept (next old (twin first)) keeps c.hand_over.ensures.hands
+          (subst (λ (k : ℕ). items_at c.clear.new.kept k ≡ []) key c.clear.ensures.none)
+          (λ n away. items-of c.face_place.result n c.hand_over.new.kept c.clear.new.kept c.clear.ensures.others (λ e. away (sym key ∙ e)))
+          c.hand_over-2.ensures.hands one_kept on.1,
+    )

@@ -1,0 +1,91 @@
+use Rattle.std.proofs.Common.{◌≡◌, ◌∙◌, ap, sym, subst, Some}
+use Rattle.std.proofs.lemmas.Option.{same_Some}
+use Rattle.cad_rows.specs.declared.rows.StringRow.{StringRow}
+use Rattle.cad_map.specs.Map.{string_of}
+use Rattle.map_parts.specs.declared.edits.passing.Passing.{Passing}
+use Rattle.map_parts.specs.Passing.{CanGoPast, path_at}
+use Rattle.map_parts.specs.Rows.{map_in}
+use Rattle.map_parts.specs.Splitting.{CanMeet}
+use Rattle.map_parts.proofs.RowLists.{some-copied}
+use Rattle.map_parts.proofs.Passing.JoinMade as made
+use Rattle.map_parts.proofs.edits.join.join.Goals as goal
+
+pub unwrap-first_row-requires : goal.unwrap-first_row-requires
+unwrap-first_row-requires g c =
+    some-copied c.get-2.result _ ((rw c.get.ensures.value at c.get-2.ensures) ∙ made.join-first c.args.point c.args.first c.args.second c.args.row c.args.rows.now c.args.table.now.rows c.args.kept.now c.args.stars.now c.requires)
+
+pub unwrap-second_row-requires : goal.unwrap-second_row-requires
+unwrap-second_row-requires g c =
+    some-copied c.get-4.result _ ((rw c.get-3.ensures.value at c.get-4.ensures) ∙ made.join-second c.args.point c.args.first c.args.second c.args.row c.args.rows.now c.args.table.now.rows c.args.kept.now c.args.stars.now c.requires)
+
+pub go_past-requires : goal.go_past-requires
+go_past-requires g c =
+    let one_at : Some c.unwrap-first_row.result.now ≡ string_of (map_in c.args.rows.now) c.args.first =
+    rw (c.unwrap-first_row.ensures, c.get.ensures.value) at c.get-2.ensures in
+    let other_at : Some c.unwrap-second_row.result.now ≡ string_of (map_in c.args.rows.now) c.args.second =
+    rw (c.unwrap-second_row.ensures, c.get-3.ensures.value) at c.get-4.ensures in
+    let one = same_Some c.unwrap-first_row.result.now c.requires.one (one_at ∙ made.join-first c.args.point c.args.first c.args.second c.args.row c.args.rows.now c.args.table.now.rows c.args.kept.now c.args.stars.now c.requires) in
+    let other = same_Some c.unwrap-second_row.result.now c.requires.other (other_at ∙ made.join-second c.args.point c.args.first c.args.second c.args.row c.args.rows.now c.args.table.now.rows c.args.kept.now c.args.stars.now c.requires) in
+    subst (λ (q : Passing). CanGoPast q c.args.table.now.rows c.args.kept.now)
+    (sym (c.path-halves.ensures ∙ (λ i. path_at c.args.point (one i) (other i) c.args.row.number)))
+    (made.join-can c.args.point c.args.first c.args.second c.args.row c.args.rows.now c.args.table.now.rows c.args.kept.now c.args.stars.now c.requires)
+
+pub join_spokes-requires : goal.join_spokes-requires
+join_spokes-requires g c =
+    let one_at : Some c.unwrap-first_row.result.now ≡ string_of (map_in c.args.rows.now) c.args.first =
+    rw (c.unwrap-first_row.ensures, c.get.ensures.value) at c.get-2.ensures in
+    let other_at : Some c.unwrap-second_row.result.now ≡ string_of (map_in c.args.rows.now) c.args.second =
+    rw (c.unwrap-second_row.ensures, c.get-3.ensures.value) at c.get-4.ensures in
+    let one = same_Some c.unwrap-first_row.result.now c.requires.one (one_at ∙ made.join-first c.args.point c.args.first c.args.second c.args.row c.args.rows.now c.args.table.now.rows c.args.kept.now c.args.stars.now c.requires) in
+    let other = same_Some c.unwrap-second_row.result.now c.requires.other (other_at ∙ made.join-second c.args.point c.args.first c.args.second c.args.row c.args.rows.now c.args.table.now.rows c.args.kept.now c.args.stars.now c.requires) in
+    subst (λ (v : StringRow × StringRow). CanMeet c.args.row v.0 v.1 c.args.stars.now) (λ i. (sym one i, sym other i))
+    (made.join-meet c.args.point c.args.first c.args.second c.args.row c.args.rows.now c.args.table.now.rows c.args.kept.now c.args.stars.now c.requires)
+
+pub join_rows-requires-clause-point : goal.join_rows-requires-clause-point
+join_rows-requires-clause-point g c = made.join-point c.args.point c.args.first c.args.second c.args.row c.args.rows.now c.args.table.now.rows c.args.kept.now c.args.stars.now c.requires
+
+pub join_rows-requires-clause-differ : goal.join_rows-requires-clause-differ
+join_rows-requires-clause-differ g c = made.join-differ c.args.point c.args.first c.args.second c.args.row c.args.rows.now c.args.table.now.rows c.args.kept.now c.args.stars.now c.requires
+
+pub join_rows-requires-clause-absent : goal.join_rows-requires-clause-absent
+join_rows-requires-clause-absent g c = made.join-absent c.args.point c.args.first c.args.second c.args.row c.args.rows.now c.args.table.now.rows c.args.kept.now c.args.stars.now c.requires
+
+pub returns-clause-fits : goal.returns-clause-fits
+returns-clause-fits g c = λ can.
+    let one_at : Some c.unwrap-first_row.result.now ≡ string_of (map_in c.args.rows.now) c.args.first =
+    rw (c.unwrap-first_row.ensures, c.get.ensures.value) at c.get-2.ensures in
+    let other_at : Some c.unwrap-second_row.result.now ≡ string_of (map_in c.args.rows.now) c.args.second =
+    rw (c.unwrap-second_row.ensures, c.get-3.ensures.value) at c.get-4.ensures in
+    let one = same_Some c.unwrap-first_row.result.now can.one (one_at ∙ made.join-first c.args.point c.args.first c.args.second c.args.row c.args.rows.now c.args.table.now.rows c.args.kept.now c.args.stars.now can) in
+    let other = same_Some c.unwrap-second_row.result.now can.other (other_at ∙ made.join-second c.args.point c.args.first c.args.second c.args.row c.args.rows.now c.args.table.now.rows c.args.kept.now c.args.stars.now can) in
+    record {
+      rows_are = made.join-rows_are c.args.point c.args.first c.args.second c.args.row c.args.rows.now c.args.table.now.rows c.args.kept.now c.args.stars.now can (map_in c.join_rows.new.rows) c.join_rows.ensures.rows;
+      fits =
+          made.join-fits c.args.point c.args.first c.args.second c.args.row c.args.rows.now c.args.table.now.rows c.args.kept.now c.args.stars.now can c.path-halves.result
+          (c.path-halves.ensures ∙ (λ i. path_at c.args.point (one i) (other i) c.args.row.number))
+          c.go_past.new.table.rows c.go_past.new.kept c.go_past.ensures.fits;
+      are_stars =
+          made.join-stars c.args.point c.args.first c.args.second c.args.row c.args.rows.now c.args.table.now.rows c.args.kept.now c.args.stars.now can c.unwrap-first_row.result.now c.unwrap-second_row.result.now one other
+          c.join_spokes.new.stars c.join_spokes.ensures.stars;
+    }
+
+pub returns-clause-first_there : goal.returns-clause-first_there
+returns-clause-first_there g c =
+    made.join-whole c.args.point c.args.first c.args.second c.args.row c.args.rows.now c.args.table.now.rows c.args.kept.now c.args.stars.now c.requires
+    c.args.first c.join_rows.result.first c.join_rows.ensures.first_found c.go_past.new.table.rows c.go_past.ensures.has c.go_past.ensures.origin
+
+pub returns-clause-second_there : goal.returns-clause-second_there
+returns-clause-second_there g c =
+    made.join-whole c.args.point c.args.first c.args.second c.args.row c.args.rows.now c.args.table.now.rows c.args.kept.now c.args.stars.now c.requires
+    c.args.second c.join_rows.result.second c.join_rows.ensures.second_found c.go_past.new.table.rows c.go_past.ensures.has c.go_past.ensures.origin
+
+pub returns-clause-room : goal.returns-clause-room
+returns-clause-room g c =
+    let one_at : Some c.unwrap-first_row.result.now ≡ string_of (map_in c.args.rows.now) c.args.first =
+    rw (c.unwrap-first_row.ensures, c.get.ensures.value) at c.get-2.ensures in
+    let other_at : Some c.unwrap-second_row.result.now ≡ string_of (map_in c.args.rows.now) c.args.second =
+    rw (c.unwrap-second_row.ensures, c.get-3.ensures.value) at c.get-4.ensures in
+    let one = same_Some c.unwrap-first_row.result.now c.requires.one (one_at ∙ made.join-first c.args.point c.args.first c.args.second c.args.row c.args.rows.now c.args.table.now.rows c.args.kept.now c.args.stars.now c.requires) in
+    let other = same_Some c.unwrap-second_row.result.now c.requires.other (other_at ∙ made.join-second c.args.point c.args.first c.args.second c.args.row c.args.rows.now c.args.table.now.rows c.args.kept.now c.args.stars.now c.requires) in
+    made.join-room c.args.point c.args.first c.args.second c.args.row c.args.rows.now c.args.table.now.rows c.args.kept.now c.args.stars.now c.requires
+    c.unwrap-first_row.result.now c.unwrap-second_row.result.now one other c.join_spokes.new.stars c.join_spokes.ensures.room

@@ -1,0 +1,111 @@
+use Rattle.std.proofs.Common.{◌≡◌, ◌+◌, ◌∙◌, ℕ, ap, sym, subst, map, length}
+use Rattle.cad_map.specs.Boundaries.{face_place}
+use Rattle.cad_rows.specs.declared.names.Face.{Face}
+use Rattle.half_table.specs.declared.half.Half.{Half}
+use Rattle.half_table.specs.Count.{ticked}
+use Rattle.half_table.specs.Half.{twin}
+use Rattle.half_table.specs.Rows.{next, has, face, cycle}
+use Rattle.half_table.specs.Surgery.{Relabels}
+use Rattle.key_lists.specs.Held.{items_at}
+use Rattle.map_parts.specs.Passing.{in_place_at}
+use Rattle.map_parts.proofs.CycleRings.{map-map}
+use Rattle.map_parts.proofs.Passing.FitThrough.{fit-through}
+use Rattle.map_parts.proofs.Passing.Ready.{through-whole_in, through-first_in, through-second_in, through-can, through-then, same-cycle, ticked-three}
+use Rattle.map_parts.proofs.edits.passing.go_through.Goals as goal
+
+pub face-requires : goal.face-requires
+face-requires g c = through-whole_in c.args.passing.now c.args.table.now.rows c.args.kept.now c.requires
+
+pub face-requires-2 : goal.face-requires-2
+face-requires-2 g c =
+    c.twin.ensures.inside
+    ∙ through-whole_in c.args.passing.now c.args.table.now.rows c.args.kept.now c.requires
+
+pub reroute-requires-clause-old_in : goal.reroute-requires-clause-old_in
+reroute-requires-clause-old_in g c =
+    (through-whole_in c.args.passing.now c.args.table.now.rows c.args.kept.now c.requires, tt)
+
+pub reroute-requires-clause-can : goal.reroute-requires-clause-can
+reroute-requires-clause-can g c =
+    through-can c.args.passing.now c.args.table.now.rows c.args.kept.now c.requires
+
+pub relabel-requires : goal.relabel-requires
+relabel-requires g c =
+    c.reroute.ensures.halves.has c.args.passing.now.first
+    ∙ through-first_in c.args.passing.now c.args.table.now.rows c.args.kept.now c.requires
+
+pub relabel-requires-2 : goal.relabel-requires-2
+relabel-requires-2 g c =
+    c.relabel.ensures.relabels.has c.twin-2.result
+    ∙ c.reroute.ensures.halves.has c.twin-2.result ∙ c.twin-2.ensures.inside
+    ∙ through-second_in c.args.passing.now c.args.table.now.rows c.args.kept.now c.requires
+
+pub returns-clause-fits : goal.returns-clause-fits
+returns-clause-fits g c = λ can.
+    let rows = c.args.table.now.rows in
+    let held = c.args.kept.now in
+    let passing = c.args.passing.now in
+    let new = c.reroute.new.table.rows in
+    let mid = c.relabel.new.self.rows in
+    let done = c.relabel-2.new.self.rows in
+    let z : Half = c.args.passing.now.whole in
+    let back = c.twin.ensures.is in
+    let on = c.twin-2.ensures.is in
+    let left : c.face.result ≡ face rows z = c.face.ensures in
+    let right : c.face-2.result ≡ face rows (twin z) = c.face-2.ensures ∙ ap (face rows) back in
+    let one =
+    subst (λ (f : Face). Relabels (cycle new c.args.passing.now.first) f new mid) left
+    c.relabel.ensures.relabels in
+    let two =
+    subst (λ (t : Half × Face). Relabels (cycle mid t.0) t.1 mid done) (λ j. (on j, right j))
+    c.relabel-2.ensures.relabels in
+    fit-through can.through can.past can.p can.a can.b passing can.between rows held can.fits
+    can.first_there can.second_there new c.reroute.ensures.halves c.reroute.ensures.linked
+    (through-then passing rows held can new c.reroute.ensures.next) mid done c.relabel.ensures.linked
+    c.relabel-2.ensures.linked one two c.replace_kept-2.new.kept
+    (λ n.
+    c.replace_kept-2.ensures n
+    ∙ ap (map (in_place_at (face_place c.face-2.result) c.twin.result c.twin-2.result n))
+    (c.replace_kept.ensures n)
+    ∙ (λ j. map (in_place_at (face_place (right j)) (back j) (on j) n)
+    (map (in_place_at (face_place (left j)) z c.args.passing.now.first n) (items_at held n)))
+    ∙ map-map (in_place_at (face_place (face rows (twin z))) (twin z) (twin c.args.passing.now.second) n)
+    (in_place_at (face_place (face rows z)) z c.args.passing.now.first n) (items_at held n))
+
+pub returns-clause-loose : goal.returns-clause-loose
+returns-clause-loose g c =
+    let now = through-then c.args.passing.now c.args.table.now.rows c.args.kept.now c.requires
+    c.reroute.new.table.rows c.reroute.ensures.next in
+    let on : (h : Half) → next c.relabel-2.new.self.rows h ≡ next c.reroute.new.table.rows h = λ h.
+    c.relabel-2.ensures.relabels.next h ∙ c.relabel.ensures.relabels.next h in
+    let z : Half = c.args.passing.now.whole in
+    ((on z ∙ now.whole, on (twin z) ∙ now.whole_back), tt)
+
+pub returns-clause-has : goal.returns-clause-has
+returns-clause-has g c = λ h.
+    c.relabel-2.ensures.relabels.has h ∙ c.relabel.ensures.relabels.has h
+    ∙ c.reroute.ensures.halves.has h
+
+pub returns-clause-origin : goal.returns-clause-origin
+returns-clause-origin g c = λ h.
+    c.relabel-2.ensures.relabels.origin h ∙ c.relabel.ensures.relabels.origin h
+    ∙ c.reroute.ensures.halves.origin h
+
+pub returns-clause-work : goal.returns-clause-work
+returns-clause-work g c =
+    let new = c.reroute.new.table.rows in
+    let mid = c.relabel.new.self.rows in
+    let done = c.relabel-2.new.self.rows in
+    let x : Half = c.args.passing.now.first in
+    let first : cycle done x ≡ cycle new x =
+    same-cycle mid done c.relabel-2.ensures.relabels.strings c.relabel-2.ensures.relabels.next x
+    ∙ same-cycle new mid c.relabel.ensures.relabels.strings c.relabel.ensures.relabels.next x in
+    let second : cycle done (twin c.args.passing.now.second) ≡ cycle mid c.twin-2.result =
+    same-cycle mid done c.relabel-2.ensures.relabels.strings c.relabel-2.ensures.relabels.next
+    (twin c.args.passing.now.second)
+    ∙ ap (cycle mid) (sym c.twin-2.ensures.is) in
+    c.relabel-2.ensures.work
+    ∙ ap (ticked (length (cycle mid c.twin-2.result)))
+    (c.relabel.ensures.work ∙ ap (ticked (length (cycle new x))) c.reroute.ensures.work)
+    ∙ ticked-three (length (cycle mid c.twin-2.result)) (length (cycle new x)) 5 c.args.table.now.work
+    ∙ (λ j. ticked (length (sym first j) + length (sym second j) + 5) c.args.table.now.work)

@@ -1,0 +1,30 @@
+use Rattle.std.proofs.Common.{◌≡◌, ◌≢◌, ◌∙◌, ◌++◌, ◌∷◌, [], ap, sym, subst, refl, map, ℕ, List}
+use Rattle.cad_map.proofs.CallerLemmas.{take-more, map-push, row_with-earlier}
+use Rattle.cad_map.specs.Table.{row_with}
+use Rattle.cad_map.specs.Valid.{EachPair}
+use Rattle.map_parts.specs.declared.map_rows.RetiredRow.{RetiredRow}
+use Rattle.map_parts.specs.Rows.{rows_in}
+use Rattle.map_parts.proofs.RowLists.{none-by_numbers}
+use Rattle.map_parts.proofs.map_rows.retired_rows.Goals as goal
+
+map-itself : (xs : List ℕ) → map (λ (n : ℕ). n) xs ≡ xs
+map-itself [] = refl
+map-itself (x ∷ xs) = ap (λ (l : List ℕ). x ∷ l) (map-itself xs)
+
+pub push-requires : goal.push-requires
+push-requires c =
+    let at = rw c.unwrap-number.ensures at c.retired_at.ensures in
+    let retired = c.args.map.now.retired in
+    let distinct = subst (EachPair (λ a b. a ≢ b)) (sym (map-itself retired)) c.requires.retired.distinct in
+    none-by_numbers (λ (r : RetiredRow). r.number) c.unwrap-number.result (rows_in c.loop-place.rows)
+    (ap (row_with (λ (n : ℕ). n) c.unwrap-number.result) c.loop-place.invariant
+    ∙ row_with-earlier (λ (n : ℕ). n) retired c.loop-place.place c.unwrap-number.result distinct (sym at))
+
+pub loop-place-preserved : goal.loop-place-preserved
+loop-place-preserved c =
+    let at = rw c.unwrap-number.ensures at c.retired_at.ensures in
+    let n = c.unwrap-number.result in
+    ap (map (λ (r : RetiredRow). r.number)) c.in_ok-push.ensures.ok
+    ∙ map-push (λ (r : RetiredRow). r.number) (rows_in c.loop-place.rows) (record { number = n })
+    ∙ ap (λ (l : List ℕ). l ++ n ∷ []) c.loop-place.invariant
+    ∙ take-more c.args.map.now.retired c.loop-place.place n (sym at)

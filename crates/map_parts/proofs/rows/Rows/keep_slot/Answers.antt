@@ -1,0 +1,9 @@
+use Rattle.std.proofs.Common.{◌∙◌, ap, subst, sym}
+use Rattle.std.specs.Map.{values_of}
+use Rattle.entry_list.specs.Slots.{rows_of}
+use Rattle.cad_map.specs.Table.{AreNumbered}
+use Rattle.map_parts.specs.Rows.{rows_in}
+use Rattle.map_parts.proofs.rows.Rows.keep_slot.Goals as goal
+
+pub invariant_of-self : goal.invariant_of-self
+invariant_of-self g c = subst (AreNumbered g.R.Numbered.number_of) (sym c.keep_slot.ensures.rows) c.self.invariant

@@ -1,0 +1,267 @@
+//! A chain that comes across a face, and goes again, with the faces of the rings on both its hands.
+ghost use Rattle.std.specs.Prelude.{◌≡◌, ◌≢◌, ◌≤◌, ◌∷◌, ◌+◌, ◌*◌, ℕ, List, length, true, false};
+ghost use Rattle.std.specs.Prelude.{if◌then◌else◌};
+ghost use Rattle.std.specs.List.{AllByRecursion};
+ghost use Rattle.cad_rings.specs.Cycle.{Corner};
+ghost use Rattle.cad_rings.specs.Surgery.{sides_of_chain};
+ghost use Rattle.cad_map.specs.declared.boundary.Boundary.{Boundary as BoundaryOf};
+ghost use Rattle.cad_map.specs.Boundaries.{face_place as face_place_of};
+ghost use Rattle.cad_map.specs.Chain.{start_of, next_of, end_of, last_but_one, leaving};
+ghost use Rattle.cad_map.specs.Map.{Map, has_face};
+ghost use Rattle.cad_map.specs.Rings.{HasWholeRings};
+ghost use Rattle.half_table.specs.declared.half.Half.{Half as HalfOf};
+ghost use Rattle.half_table.specs.Count.{ticked};
+ghost use Rattle.half_table.specs.Cycle.{holds};
+ghost use Rattle.half_table.specs.Half.{twin};
+ghost use Rattle.half_table.specs.Rows.{IsLinked, has, next, origin_of, face, cycle};
+ghost use Rattle.half_paths.specs.Path.{strings_of, AreIn, AreDifferent, AreElsewhere, last_of};
+ghost use Rattle.half_paths.specs.Loose.{is_of, AreLoose};
+ghost use Rattle.half_paths.specs.Strung.{IsStrung};
+ghost use Rattle.cad_laws.specs.Local.{IsShown, IsLocal, side_by};
+ghost use Rattle.cad_laws.specs.Parting.{IsParted};
+ghost use Rattle.map_parts.specs.Parts.{HasHalves};
+ghost use Rattle.map_parts.specs.Paths.{AreAlong, HasStringsMore};
+ghost use Rattle.map_parts.specs.Relabelled.{cycles_length};
+ghost use Rattle.map_parts.specs.Islands.{FitsTable, AreOfRings};
+ghost use Rattle.map_parts.specs.Handing.{KeepsEach, HaveTwoFaces};
+ghost use Rattle.map_parts.specs.Chains.{IsChainOf};
+ghost use Rattle.key_lists.specs.Held.{items_at, HasRoomAt, capacity_at};
+
+use crate::edits::chain::{bring_chain, take_chain};
+use crate::edits::faces::{relabel_each, relabel_path};
+use crate::edits::handing::{clear, hand_over, keep_both, keep_one};
+use crate::kept::face_place;
+use cad_rows::Face;
+use half_table::{Half, HalfTable, Tally};
+use key_lists::KeyLists;
+
+/// Brings a chain of loose strings across the outer face. The ring left of it is the inner face's.
+/// Three ticks for each string, one more, and one for each half of that ring.
+pub(crate) fn bring_left<T: Tally>(
+    table: &mut HalfTable<T>,
+    first: &Half,
+    rest: &[Half],
+    start: &Half,
+    end: &Half,
+    outer: &Face,
+    inner: &Face,
+)
+    requires linked { IsLinked table.old.rows }
+    requires within { AreIn table.old.rows (first.now ∷ rest.now) }
+    requires different { AreDifferent (first.now ∷ rest.now) }
+    requires loose { AreLoose (next table.old.rows) (first.now ∷ rest.now) }
+    requires start_in { has table.old.rows start.now ≡ true }
+    requires end_in { has table.old.rows end.now ≡ true }
+    requires start_away { AreElsewhere start.now (first.now ∷ rest.now) }
+    requires end_away { AreElsewhere end.now (first.now ∷ rest.now) }
+    requires differ { start.now ≢ end.now }
+    ensures faces { (g : HalfOf) → face table.new.rows g
+        ≡ (if holds (cycle table.new.rows first.now) g then inner.now
+        else if is_of (strings_of (first.now ∷ rest.now)) g then outer.now
+        else face table.old.rows g) }
+
+    // A table that is local to a map is local to the map that has the chain more.
+    ensures local { (whole parted : Map) (chain : List ℕ) (first_corner last_corner : Corner)
+        → HasWholeRings whole → HasWholeRings parted
+        → IsParted whole parted chain first_corner last_corner
+        → HasStringsMore whole parted (first.now ∷ rest.now)
+        → AreAlong table.old.rows (first.now ∷ rest.now) (sides_of_chain chain)
+        → side_by table.old.rows first.now ≡ (start_of chain, next_of chain)
+        → side_by table.old.rows (last_of first.now rest.now) ≡ (last_but_one chain, end_of chain)
+        → AllByRecursion (HasHalves table.old.rows) parted.strings
+        → IsShown whole start.now → side_by table.old.rows start.now ≡ leaving first_corner
+        → IsShown whole end.now → side_by table.old.rows end.now ≡ leaving last_corner
+        → IsLocal whole table.old.rows → IsLocal parted table.new.rows }
+
+    ensures has { (g : HalfOf) → has table.new.rows g ≡ has table.old.rows g }
+    ensures origin { (g : HalfOf) → origin_of table.new.rows g ≡ origin_of table.old.rows g }
+    ensures linked { IsLinked table.new.rows }
+    ensures work { table.new.work ≡ ticked (2 + 2 * length rest.now + (length rest.now + 2)
+        + length (cycle table.new.rows first.now)) table.old.work }
+{
+    relabel_path(table, first, rest, outer);
+    bring_chain(table, first, rest, start, end);
+    table.relabel(*first, *inner);
+}
+
+/// Takes a chain out, whose left ring is the inner face's: what it parted is the outer face's, and
+/// its strings are loose. They have the inner face then, so that they are told by it. Three ticks
+/// for each string, one more, and one for each half of the left ring.
+pub(crate) fn take_left<T: Tally>(
+    table: &mut HalfTable<T>,
+    first: &Half,
+    rest: &[Half],
+    outer: &Face,
+    inner: &Face,
+)
+    requires linked { IsLinked table.old.rows }
+    requires within { AreIn table.old.rows (first.now ∷ rest.now) }
+    requires different { AreDifferent (first.now ∷ rest.now) }
+    requires strung { IsStrung (next table.old.rows) first.now rest.now }
+    requires on_away { AreElsewhere (next table.old.rows (last_of first.now rest.now))
+        (first.now ∷ rest.now) }
+    requires back_away { AreElsewhere (next table.old.rows (twin first.now))
+        (first.now ∷ rest.now) }
+    ensures faces { (g : HalfOf) → face table.new.rows g
+        ≡ (if is_of (strings_of (first.now ∷ rest.now)) g then inner.now
+        else if holds (cycle table.old.rows first.now) g then outer.now
+        else face table.old.rows g) }
+
+    // A table that is local to a map with a chain more is local to the map without it.
+    ensures local { (whole parted : Map) (chain : List ℕ) (first_corner last_corner : Corner)
+        → HasWholeRings parted → 2 ≤ length chain
+        → IsParted whole parted chain first_corner last_corner
+        → HasStringsMore whole parted (first.now ∷ rest.now)
+        → AreAlong table.old.rows (first.now ∷ rest.now) (sides_of_chain chain)
+        → side_by table.old.rows first.now ≡ (start_of chain, next_of chain)
+        → side_by table.old.rows (last_of first.now rest.now) ≡ (last_but_one chain, end_of chain)
+        → IsLocal parted table.old.rows → IsLocal whole table.new.rows }
+
+    ensures loose { AreLoose (next table.new.rows) (first.now ∷ rest.now) }
+    ensures has { (g : HalfOf) → has table.new.rows g ≡ has table.old.rows g }
+    ensures origin { (g : HalfOf) → origin_of table.new.rows g ≡ origin_of table.old.rows g }
+    ensures linked { IsLinked table.new.rows }
+    ensures work { table.new.work ≡ ticked (length (cycle table.old.rows first.now)
+        + (length rest.now + 2) + (2 + 2 * length rest.now)) table.old.work }
+{
+    table.relabel(*first, *outer);
+    take_chain(table, first, rest);
+    relabel_path(table, first, rest, inner);
+}
+
+/// Brings a chain of loose strings across the outer face: left of it is a ring of the inner face,
+/// and the rings of the moved halves are the inner face's too. One half is kept of each ring. It
+/// takes no memory. Three ticks for each string, one more, and one for each half of a ring that gets
+/// the inner face.
+pub(crate) fn bring_across<T: Tally>(
+    table: &mut HalfTable<T>,
+    kept: &mut KeyLists<Half>,
+    first: &Half,
+    rest: &[Half],
+    start: &Half,
+    end: &Half,
+    outer: &Face,
+    inner: &Face,
+    moved: &[Half],
+)
+    requires linked { IsLinked table.old.rows }
+    requires within { AreIn table.old.rows (first.now ∷ rest.now) }
+    requires different { AreDifferent (first.now ∷ rest.now) }
+    requires loose { AreLoose (next table.old.rows) (first.now ∷ rest.now) }
+    requires start_in { has table.old.rows start.now ≡ true }
+    requires end_in { has table.old.rows end.now ≡ true }
+    requires start_away { AreElsewhere start.now (first.now ∷ rest.now) }
+    requires end_away { AreElsewhere end.now (first.now ∷ rest.now) }
+    requires differ { start.now ≢ end.now }
+    requires moved_in { AreIn table.old.rows moved.now }
+    requires kept_in { AreIn table.old.rows (items_at kept.old (face_place_of outer.now)) }
+    requires faces { face_place_of outer.now ≢ face_place_of inner.now }
+    requires inner_room { HasRoomAt kept.old (face_place_of inner.now)
+        (length (items_at kept.old (face_place_of outer.now)) + 1) }
+    requires outer_room { HasRoomAt kept.old (face_place_of outer.now) 1 }
+
+    // A table that goes with a map goes with the map that has the chain more, and so do the kept
+    // halves.
+    ensures chain { (whole parted : Map) (chain : List ℕ) (first_corner last_corner : Corner)
+        (one left right : BoundaryOf) (others : List BoundaryOf)
+        → HasWholeRings whole → HasWholeRings parted → 2 ≤ length chain
+        → IsChainOf whole parted outer.now inner.now chain first_corner last_corner one left right
+        others
+        → HaveTwoFaces whole parted outer.now inner.now → has_face whole inner.now ≡ false
+        → HasStringsMore whole parted (first.now ∷ rest.now)
+        → AreAlong table.old.rows (first.now ∷ rest.now) (sides_of_chain chain)
+        → side_by table.old.rows first.now ≡ (start_of chain, next_of chain)
+        → side_by table.old.rows (last_of first.now rest.now) ≡ (last_but_one chain, end_of chain)
+        → AllByRecursion (HasHalves table.old.rows) parted.strings
+        → IsShown whole start.now → side_by table.old.rows start.now ≡ leaving first_corner
+        → IsShown whole end.now → side_by table.old.rows end.now ≡ leaving last_corner
+        → AreOfRings parted table.old.rows moved.now inner.now others
+        → FitsTable whole table.old.rows → KeepsEach whole table.old.rows kept.old
+        → FitsTable parted table.new.rows × KeepsEach parted table.new.rows kept.new }
+
+    ensures has { (g : HalfOf) → has table.new.rows g ≡ has table.old.rows g }
+    ensures origin { (g : HalfOf) → origin_of table.new.rows g ≡ origin_of table.old.rows g }
+    ensures linked { IsLinked table.new.rows }
+    ensures work { table.new.work ≡ ticked (2 + 2 * length rest.now + (length rest.now + 2)
+        + (length (cycle table.new.rows first.now) + cycles_length table.new.rows moved.now))
+        table.old.work }
+    ensures count { length (items_at kept.new (face_place_of inner.now))
+        + length (items_at kept.new (face_place_of outer.now))
+        ≡ length (items_at kept.old (face_place_of inner.now))
+        + length (items_at kept.old (face_place_of outer.now)) + 1 }
+    ensures capacity { (n : ℕ) → capacity_at kept.new n ≡ capacity_at kept.old n }
+{
+    bring_left(table, first, rest, start, end, outer, inner);
+    hand_over(table, kept, outer, inner);
+    let back = table.twin(*first);
+    keep_both(kept, first, &back, inner, outer);
+    relabel_each(table, moved, inner);
+    hand_over(table, kept, outer, inner);
+}
+
+/// Takes a chain out, which has a ring of the inner face left of it: its strings are loose, what it
+/// parted is one ring of the outer face, and the rings of the moved halves are the outer face's too.
+/// One half is kept of each ring. It takes no memory. Three ticks for each string, one more, and one
+/// for each half of a ring that gets the outer face.
+pub(crate) fn take_across<T: Tally>(
+    table: &mut HalfTable<T>,
+    kept: &mut KeyLists<Half>,
+    first: &Half,
+    rest: &[Half],
+    outer: &Face,
+    inner: &Face,
+    moved: &[Half],
+)
+    requires linked { IsLinked table.old.rows }
+    requires within { AreIn table.old.rows (first.now ∷ rest.now) }
+    requires different { AreDifferent (first.now ∷ rest.now) }
+    requires strung { IsStrung (next table.old.rows) first.now rest.now }
+    requires on_away { AreElsewhere (next table.old.rows (last_of first.now rest.now))
+        (first.now ∷ rest.now) }
+    requires back_away { AreElsewhere (next table.old.rows (twin first.now))
+        (first.now ∷ rest.now) }
+    requires moved_in { AreIn table.old.rows moved.now }
+    requires outer_in { AreIn table.old.rows (items_at kept.old (face_place_of outer.now)) }
+    requires inner_in { AreIn table.old.rows (items_at kept.old (face_place_of inner.now)) }
+    requires faces { face_place_of outer.now ≢ face_place_of inner.now }
+    requires inner_room { HasRoomAt kept.old (face_place_of inner.now)
+        (length (items_at kept.old (face_place_of outer.now))) }
+    requires outer_room { HasRoomAt kept.old (face_place_of outer.now)
+        (length (items_at kept.old (face_place_of inner.now)) + 1) }
+
+    // A table that goes with a map with a chain more goes with the map without it, and so do the
+    // kept halves.
+    ensures chain { (whole parted : Map) (chain : List ℕ) (first_corner last_corner : Corner)
+        (one left right : BoundaryOf) (others : List BoundaryOf)
+        → HasWholeRings whole → HasWholeRings parted → 2 ≤ length chain
+        → IsChainOf whole parted outer.now inner.now chain first_corner last_corner one left right
+        others
+        → HaveTwoFaces whole parted outer.now inner.now
+        → HasStringsMore whole parted (first.now ∷ rest.now)
+        → AreAlong table.old.rows (first.now ∷ rest.now) (sides_of_chain chain)
+        → side_by table.old.rows first.now ≡ (start_of chain, next_of chain)
+        → side_by table.old.rows (last_of first.now rest.now) ≡ (last_but_one chain, end_of chain)
+        → AllByRecursion (HasHalves table.old.rows) whole.strings
+        → AreOfRings parted table.old.rows moved.now inner.now others
+        → FitsTable parted table.old.rows → KeepsEach parted table.old.rows kept.old
+        → FitsTable whole table.new.rows × KeepsEach whole table.new.rows kept.new }
+
+    ensures loose { AreLoose (next table.new.rows) (first.now ∷ rest.now) }
+    ensures has { (g : HalfOf) → has table.new.rows g ≡ has table.old.rows g }
+    ensures origin { (g : HalfOf) → origin_of table.new.rows g ≡ origin_of table.old.rows g }
+    ensures linked { IsLinked table.new.rows }
+    ensures work { table.new.work ≡ ticked (cycles_length table.old.rows moved.now
+        + (length (cycle table.old.rows first.now) + (length rest.now + 2)
+        + (2 + 2 * length rest.now)))
+        table.old.work }
+    ensures capacity { (n : ℕ) → capacity_at kept.new n ≡ capacity_at kept.old n }
+{
+    relabel_each(table, moved, outer);
+    hand_over(table, kept, inner, outer);
+    clear(kept, face_place(*inner));
+    let back = table.twin(*first);
+    let start = table.next(back);
+    take_left(table, first, rest, outer, inner);
+    hand_over(table, kept, outer, inner);
+    keep_one(kept, &start, inner, outer);
+}

@@ -1,0 +1,136 @@
+//! An island in a face, with the halves that are kept of its rings: it comes where a face is
+//! enclosed, and goes where two faces are merged round it.
+ghost use Rattle.std.specs.Prelude.{◌≡◌, ◌≢◌, ◌≤◌, ◌∷◌, ◌+◌, ℕ, List, length, false};
+ghost use Rattle.std.specs.List.{AllByRecursion};
+ghost use Rattle.cad_rings.specs.Cycle.{Ring, sides_of};
+ghost use Rattle.cad_map.specs.declared.boundary.Boundary.{Boundary as BoundaryOf};
+ghost use Rattle.cad_map.specs.Boundaries.{face_place as face_place_of};
+ghost use Rattle.cad_map.specs.Map.{Map, has_face};
+ghost use Rattle.cad_map.specs.Rings.{HasWholeRings};
+ghost use Rattle.half_table.specs.declared.half.Half.{Half as HalfOf};
+ghost use Rattle.half_table.specs.Half.{twin};
+ghost use Rattle.half_table.specs.Rows.{IsLinked, has, next, origin_of, cycle};
+ghost use Rattle.half_table.specs.Count.{ticked};
+ghost use Rattle.half_paths.specs.Path.{AreIn, AreDifferent};
+ghost use Rattle.half_paths.specs.Loose.{AreLoose};
+ghost use Rattle.half_paths.specs.Round.{IsRound};
+ghost use Rattle.key_lists.specs.Held.{items_at, HasRoomAt, capacity_at};
+ghost use Rattle.map_parts.specs.Parts.{HasHalves};
+ghost use Rattle.map_parts.specs.Paths.{AreAlong, HasStringsMore};
+ghost use Rattle.map_parts.specs.Relabelled.{cycles_length};
+ghost use Rattle.map_parts.specs.Islands.{FitsTable, AreOfRings, IsIslandOf};
+ghost use Rattle.map_parts.specs.Handing.{KeepsEach, HaveTwoFaces};
+
+use crate::edits::handing::{clear, hand_over};
+use crate::edits::island::{bring_island, take_island};
+use crate::kept::face_place;
+use cad_rows::Face;
+use half_table::{Half, HalfTable, Tally};
+use key_lists::KeyLists;
+
+/// Brings an island into the outer face: its ring along the path is the inner face's, and the rings
+/// of the moved halves are too. One half is kept of each of the two rings, and those of the moved
+/// rings pass over. It takes no memory. One tick for each string, and for each half of a ring that
+/// gets a face.
+pub(crate) fn bring_in<T: Tally>(
+    table: &mut HalfTable<T>,
+    kept: &mut KeyLists<Half>,
+    first: &Half,
+    rest: &[Half],
+    outer: &Face,
+    inner: &Face,
+    moved: &[Half],
+)
+    requires linked { IsLinked table.old.rows }
+    requires within { AreIn table.old.rows (first.now ∷ rest.now) }
+    requires different { AreDifferent (first.now ∷ rest.now) }
+    requires loose { AreLoose (next table.old.rows) (first.now ∷ rest.now) }
+    requires moved_in { AreIn table.old.rows moved.now }
+    requires kept_in { AreIn table.old.rows (items_at kept.old (face_place_of outer.now)) }
+    requires differ { face_place_of outer.now ≢ face_place_of inner.now }
+    requires inner_room { HasRoomAt kept.old (face_place_of inner.now)
+        (length (items_at kept.old (face_place_of outer.now)) + 1) }
+    requires outer_room { HasRoomAt kept.old (face_place_of outer.now) 1 }
+
+    // A table that goes with a map goes with that map and the island, and so do the kept halves.
+    ensures island { (whole parted : Map) (ring : Ring) (left right : BoundaryOf) (others : List BoundaryOf)
+        → HasWholeRings whole → HasWholeRings parted
+        → IsIslandOf whole parted outer.now inner.now ring left right others
+        → HaveTwoFaces whole parted outer.now inner.now → has_face whole inner.now ≡ false
+        → HasStringsMore whole parted (first.now ∷ rest.now)
+        → AreAlong table.old.rows (first.now ∷ rest.now) (sides_of ring)
+        → AllByRecursion (HasHalves table.old.rows) parted.strings
+        → AreOfRings parted table.old.rows moved.now inner.now others
+        → FitsTable whole table.old.rows → KeepsEach whole table.old.rows kept.old
+        → FitsTable parted table.new.rows × KeepsEach parted table.new.rows kept.new }
+
+    ensures has { (g : HalfOf) → has table.new.rows g ≡ has table.old.rows g }
+    ensures origin { (g : HalfOf) → origin_of table.new.rows g ≡ origin_of table.old.rows g }
+    ensures linked { IsLinked table.new.rows }
+    ensures work { table.new.work ≡ ticked (length rest.now + 1 + (length (cycle table.new.rows first.now)
+        + (length (cycle table.new.rows (twin first.now)) + cycles_length table.new.rows moved.now))) table.old.work }
+    ensures capacity { (n : ℕ) → capacity_at kept.new n ≡ capacity_at kept.old n }
+    // Two halves more are kept of the rings of the two faces.
+    ensures count { length (items_at kept.new (face_place_of inner.now)) + length (items_at kept.new (face_place_of outer.now))
+        ≡ length (items_at kept.old (face_place_of inner.now)) + length (items_at kept.old (face_place_of outer.now)) + 2 }
+{
+    bring_island(table, first, rest, outer, inner, moved);
+    hand_over(table, kept, outer, inner);
+    let inner_key = face_place(*inner);
+    let outer_key = face_place(*outer);
+    let back = table.twin(*first);
+    kept.put(inner_key, *first);
+    kept.put(outer_key, back);
+}
+
+/// Takes an island out of the outer face: its strings are loose, the rings of the moved halves are
+/// the outer face's, and so are all halves that were kept for the inner face, but the island's own.
+/// It takes no memory. One tick for each string, and for each half of a ring that gets a face.
+pub(crate) fn take_out<T: Tally>(
+    table: &mut HalfTable<T>,
+    kept: &mut KeyLists<Half>,
+    first: &Half,
+    rest: &[Half],
+    outer: &Face,
+    inner: &Face,
+    moved: &[Half],
+)
+    requires linked { IsLinked table.old.rows }
+    requires within { AreIn table.old.rows (first.now ∷ rest.now) }
+    requires different { AreDifferent (first.now ∷ rest.now) }
+    requires round { IsRound (next table.old.rows) first.now rest.now }
+    requires moved_in { AreIn table.old.rows moved.now }
+    requires outer_in { AreIn table.old.rows (items_at kept.old (face_place_of outer.now)) }
+    requires inner_in { AreIn table.old.rows (items_at kept.old (face_place_of inner.now)) }
+    requires differ { face_place_of outer.now ≢ face_place_of inner.now }
+    requires inner_room { HasRoomAt kept.old (face_place_of inner.now)
+        (length (items_at kept.old (face_place_of outer.now))) }
+    requires outer_room { HasRoomAt kept.old (face_place_of outer.now)
+        (length (items_at kept.old (face_place_of inner.now))) }
+
+    // A table that goes with a map and an island goes with the map without it, and so do the kept
+    // halves.
+    ensures island { (whole parted : Map) (ring : Ring) (left right : BoundaryOf) (others : List BoundaryOf)
+        → HasWholeRings whole → HasWholeRings parted → 2 ≤ length ring
+        → IsIslandOf whole parted outer.now inner.now ring left right others
+        → HaveTwoFaces whole parted outer.now inner.now
+        → HasStringsMore whole parted (first.now ∷ rest.now)
+        → AreAlong table.old.rows (first.now ∷ rest.now) (sides_of ring)
+        → AllByRecursion (HasHalves table.old.rows) whole.strings
+        → AreOfRings parted table.old.rows moved.now inner.now others
+        → FitsTable parted table.old.rows → KeepsEach parted table.old.rows kept.old
+        → FitsTable whole table.new.rows × KeepsEach whole table.new.rows kept.new }
+
+    ensures loose { AreLoose (next table.new.rows) (first.now ∷ rest.now) }
+    ensures has { (g : HalfOf) → has table.new.rows g ≡ has table.old.rows g }
+    ensures origin { (g : HalfOf) → origin_of table.new.rows g ≡ origin_of table.old.rows g }
+    ensures linked { IsLinked table.new.rows }
+    ensures work { table.new.work ≡ ticked (cycles_length table.old.rows moved.now
+        + (length (cycle table.old.rows (twin first.now)) + (length rest.now + 1))) table.old.work }
+    ensures capacity { (n : ℕ) → capacity_at kept.new n ≡ capacity_at kept.old n }
+{
+    take_island(table, first, rest, outer, inner, moved);
+    hand_over(table, kept, inner, outer);
+    hand_over(table, kept, outer, inner);
+    clear(kept, face_place(*inner));
+}

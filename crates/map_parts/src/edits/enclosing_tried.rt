@@ -1,0 +1,118 @@
+//! An enclosure with its room and its strings in the table: made, and taken back.
+ghost use Rattle.std.specs.Prelude.{◌≡◌, ◌≤◌, ◌+◌, ◌*◌, ◌∷◌, ℕ, true, length, if◌then◌else◌, OnOk, OnErr};
+ghost use Rattle.cad_map.specs.Boundaries.{face_place as face_place_of};
+ghost use Rattle.cad_rows.specs.declared.names.Face.TheVariants.{Parcel};
+ghost use Rattle.half_table.specs.declared.half.Half.{Half as HalfOf};
+ghost use Rattle.half_table.specs.Count.{ticked};
+ghost use Rattle.half_table.specs.Half.{twin};
+ghost use Rattle.half_table.specs.Rows.{next, has, cycle};
+ghost use Rattle.half_paths.specs.Loose.{numbers_of, is_of, AreLoose};
+ghost use Rattle.key_lists.specs.Held.{items_at, HasRoomAt};
+ghost use Rattle.cad_laws.specs.Local.{IsShown, side_by};
+ghost use Rattle.map_parts.specs.Relabelled.{cycles_length};
+ghost use Rattle.map_parts.specs.Enclosing.{CanBeginEnclose, CanBeginOpen, enclosed, rings_placed};
+ghost use Rattle.map_parts.specs.Islands.{AreOfRings};
+ghost use Rattle.map_parts.specs.Splitting.{FitMap};
+
+use crate::edits::enclosing::{enclose, open};
+use crate::edits::island_rooms::{keep_slots, make_exchange_room, make_kept_room, make_star_room};
+use crate::map_rows::MapRows;
+use crate::stars::Spoke;
+use cad_rows::{Face, Memory, ParcelNo, ParcelRow, StringNo, StringRow};
+use half_paths::add_strings;
+use half_table::{Half, HalfTable, Tally};
+use key_lists::KeyLists;
+
+/// Encloses a part of a face, with the room that it takes. All that comes can be taken out again
+/// without memory.
+///
+/// # Errors
+///
+/// Where memory runs out the map stays, and the table has the strings that it had.
+pub fn begin_enclose<T: Tally>(
+    rows: &mut MapRows,
+    table: &mut HalfTable<T>,
+    kept: &mut KeyLists<Half>,
+    stars: &mut KeyLists<Spoke>,
+    face: &Face,
+    strings: Vec<StringRow>,
+    parcel: ParcelRow,
+    first: &Half,
+    rest: &[Half],
+    moved: &[Half],
+) -> Result<(), Memory>
+    requires { CanBeginEnclose face.now strings.items parcel (first.now ∷ rest.now) moved.now
+        rows.old table.old.rows kept.old stars.old }
+    ensures fits { (can : CanBeginEnclose face.now strings.items parcel (first.now ∷ rest.now) moved.now
+        rows.old table.old.rows kept.old stars.old)
+        → OnOk result (FitMap (enclosed can.is) rows.new table.new.rows kept.new stars.new) }
+    ensures err { (can : CanBeginEnclose face.now strings.items parcel (first.now ∷ rest.now) moved.now
+        rows.old table.old.rows kept.old stars.old)
+        → OnErr result (FitMap can.map rows.new table.new.rows kept.new stars.new) }
+    ensures err_table { OnErr result (table.new.rows ≡ table.old.rows) }
+    ensures moved { (can : CanBeginEnclose face.now strings.items parcel (first.now ∷ rest.now) moved.now
+        rows.old table.old.rows kept.old stars.old) → OnOk result
+        (AreOfRings (enclosed can.is) table.new.rows moved.now (Parcel parcel.number) (rings_placed can.is)) }
+    ensures inner_room { OnOk result (HasRoomAt kept.new (face_place_of (Parcel parcel.number))
+        (length (items_at kept.new (face_place_of face.now)))) }
+    ensures outer_room { OnOk result (HasRoomAt kept.new (face_place_of face.now)
+        (length (items_at kept.new (face_place_of (Parcel parcel.number))))) }
+    ensures has { OnOk result ((h : HalfOf) → has table.new.rows h
+        ≡ (if is_of (numbers_of strings.items) h then true else has table.old.rows h)) }
+    ensures origin { (can : CanBeginEnclose face.now strings.items parcel (first.now ∷ rest.now) moved.now
+        rows.old table.old.rows kept.old stars.old) → OnOk result
+        ((h : HalfOf) → IsShown can.map h → side_by table.new.rows h ≡ side_by table.old.rows h) }
+    ensures work { OnOk result (table.new.work ≡ ticked (length strings.items + (length rest.now + 1
+        + (length (cycle table.new.rows first.now) + (length (cycle table.new.rows (twin first.now))
+        + cycles_length table.new.rows moved.now)))) table.old.work) }
+    ensures err_work { OnErr result ((count : ℕ) × (count ≤ 2 * length strings.items)
+        × (table.new.work ≡ ticked count table.old.work)) }
+{
+    keep_slots(rows, strings.as_slice())?;
+    rows.parcels.keep_slot(parcel.number.get())?;
+    make_star_room(stars, strings.as_slice())?;
+    make_kept_room(kept, face, parcel.number)?;
+    add_strings(table, strings.as_slice())?;
+    enclose(
+        rows, table, kept, stars, face, strings, parcel, first, rest, moved,
+    );
+    Ok(())
+}
+
+/// Takes an enclosure back, with the room that it takes. The strings stay in the table, loose.
+///
+/// # Errors
+///
+/// Where memory runs out the map stays.
+pub fn begin_open<T: Tally>(
+    rows: &mut MapRows,
+    table: &mut HalfTable<T>,
+    kept: &mut KeyLists<Half>,
+    stars: &mut KeyLists<Spoke>,
+    face: &Face,
+    strings: &[StringNo],
+    parcel: ParcelNo,
+    first: &Half,
+    rest: &[Half],
+    moved: &[Half],
+) -> Result<(), Memory>
+    requires { CanBeginOpen face.now strings.now parcel (first.now ∷ rest.now) moved.now
+        rows.old table.old.rows kept.old stars.old }
+    ensures fits { (can : CanBeginOpen face.now strings.now parcel (first.now ∷ rest.now) moved.now
+        rows.old table.old.rows kept.old stars.old)
+        → OnOk result (FitMap can.map rows.new table.new.rows kept.new stars.new) }
+    ensures err { (can : CanBeginOpen face.now strings.now parcel (first.now ∷ rest.now) moved.now
+        rows.old table.old.rows kept.old stars.old)
+        → OnErr result (FitMap (enclosed can.is) rows.new table.new.rows kept.new stars.new) }
+    ensures loose { OnOk result (AreLoose (next table.new.rows) (first.now ∷ rest.now)) }
+    ensures has { (h : HalfOf) → has table.new.rows h ≡ has table.old.rows h }
+    ensures work { OnOk result (table.new.work ≡ ticked (cycles_length table.old.rows moved.now
+        + (length (cycle table.old.rows (twin first.now)) + (length rest.now + 1))) table.old.work) }
+    ensures err_table { OnErr result (table.new ≡ table.old) }
+{
+    make_exchange_room(kept, &Face::Parcel(parcel), face)?;
+    open(
+        rows, table, kept, stars, face, strings, parcel, first, rest, moved,
+    );
+    Ok(())
+}

@@ -1,0 +1,225 @@
+//! Two strings joined at a point, and the join taken back, in place.
+ghost use Rattle.std.specs.Prelude.{◌≡◌, ◌≢◌, ◌≤◌, ◌+◌, ◌++◌, ◌∷◌, ◌==◌, [], not, Some, None, IsSome, length, insert, slice_get};
+ghost use Rattle.half_table.specs.declared.half.Half.{Half as HalfOf};
+ghost use Rattle.half_table.specs.Count.{ticked};
+ghost use Rattle.half_table.specs.Half.{half_of, twin, forward_of, backward_of};
+ghost use Rattle.half_table.specs.Rows.{next, has, origin_of, strings, cycle};
+ghost use Rattle.half_paths.specs.Loose.{AreLoose};
+ghost use Rattle.entry_list.specs.Slots.{HasSlot};
+ghost use Rattle.key_lists.specs.Held.{HasRoomAt};
+ghost use Rattle.cad_map.specs.Map.{point_of, string_of};
+ghost use Rattle.cad_map.specs.Table.{without_row};
+ghost use Rattle.map_parts.specs.Joined.{CanJoin, CanUnjoin, after_join};
+ghost use Rattle.map_parts.specs.Parts.{HasHalves};
+ghost use Rattle.map_parts.specs.Passing.{path_at};
+ghost use Rattle.map_parts.specs.Rows.{map_in};
+ghost use Rattle.map_parts.specs.Splitting.{FitMap};
+
+use crate::edits::passing::{Passing, go_past, go_through};
+use crate::edits::spokes::{join_spokes, part_spokes};
+use crate::map_rows::MapRows;
+use crate::stars::Spoke;
+use cad_rows::{PointNo, PointRow, StringNo, StringRow};
+use half_table::{Half, HalfTable, Tally};
+use key_lists::KeyLists;
+
+/// What a join takes out of the map: the point's row and the rows of its two strings, the
+/// lower-numbered first, each with the place where it stood, the second where the first was out.
+#[derive(Debug, Drop)]
+pub struct JoinedRows {
+    pub point: PointRow,
+    pub point_place: usize,
+    pub first: StringRow,
+    pub first_place: usize,
+    pub second: StringRow,
+    pub second_place: usize,
+}
+
+/// The half of a string that leads to the point where it ends.
+pub fn half_to(row: &StringRow, point: &PointNo) -> Half
+    ensures { result ≡ half_of row.now.number (not (row.now.from == point.now)) }
+{
+    Half {
+        string: row.number,
+        forward: row.from != *point,
+    }
+}
+
+/// The half of a string that leads from the point where it ends.
+pub fn half_from(row: &StringRow, point: &PointNo) -> Half
+    ensures { result ≡ half_of row.now.number (row.now.from == point.now) }
+{
+    Half {
+        string: row.number,
+        forward: row.from == *point,
+    }
+}
+
+// The halves of a path of two strings through a point, and of the string in its place.
+fn path(first: &StringRow, second: &StringRow, point: &PointNo, whole: &StringNo) -> Passing
+    ensures { result ≡ path_at point.now first.now second.now whole.now }
+{
+    Passing {
+        first: half_to(first, point),
+        second: half_from(second, point),
+        whole: Half {
+            string: *whole,
+            forward: true,
+        },
+    }
+}
+
+// The rows of a point and of two strings out, with their places, and that of one string in.
+fn join_rows(
+    rows: &mut MapRows,
+    point: PointNo,
+    first: StringNo,
+    second: StringNo,
+    row: StringRow,
+) -> JoinedRows
+    requires point { IsSome (point_of (map_in rows.old) point) }
+    requires first { IsSome (string_of (map_in rows.old) first) }
+    requires second { IsSome (string_of (map_in rows.old) second) }
+    requires differ { first ≢ second }
+    requires absent { string_of (map_in rows.old) row.number ≡ None }
+    requires slot { HasSlot rows.old.strings row.number }
+    ensures rows { map_in rows.new ≡ record (map_in rows.old) {
+      points = without_row (λ r. r.number) point (map_in rows.old).points;
+      strings = without_row (λ r. r.number) second
+          (without_row (λ r. r.number) first (map_in rows.old).strings) ++ row ∷ [];
+    } }
+    ensures point { slice_get (map_in rows.old).points result.point_place ≡ Some result.point }
+    ensures point_found { point_of (map_in rows.old) point ≡ Some result.point }
+    ensures first { slice_get (map_in rows.old).strings result.first_place ≡ Some result.first }
+    ensures first_found { string_of (map_in rows.old) first ≡ Some result.first }
+    ensures second { slice_get (without_row (λ r. r.number) first (map_in rows.old).strings)
+        result.second_place ≡ Some result.second }
+    ensures second_found { string_of (map_in rows.old) second ≡ Some result.second }
+    ensures point_slot { HasSlot rows.new.points result.point.number }
+    ensures first_slot { HasSlot rows.new.strings result.first.number }
+    ensures second_slot { HasSlot rows.new.strings result.second.number }
+{
+    let (first_place, first) = rows.strings.take_there(first.get());
+    let (second_place, second) = rows.strings.take_there(second.get());
+    let (point_place, point) = rows.points.take_there(point.get());
+    rows.strings.put_last(row);
+    JoinedRows {
+        point,
+        point_place,
+        first,
+        first_place,
+        second,
+        second_place,
+    }
+}
+
+/// Joins the two strings that end at a point, the lower-numbered first, into one whose row it is
+/// given, and gives the rows that go, with their places. The two strings are loose in the table
+/// then. It takes no memory, and time by the two rings through the point, by the rings of their
+/// faces, and by the strings at the three points.
+pub(crate) fn join<T: Tally>(
+    rows: &mut MapRows,
+    table: &mut HalfTable<T>,
+    kept: &mut KeyLists<Half>,
+    stars: &mut KeyLists<Spoke>,
+    point: PointNo,
+    first: StringNo,
+    second: StringNo,
+    row: StringRow,
+) -> JoinedRows
+    requires { CanJoin point first second row rows.old table.old.rows kept.old stars.old }
+    ensures fits { (can : CanJoin point first second row rows.old table.old.rows kept.old stars.old)
+        → FitMap (after_join can) rows.new table.new.rows kept.new stars.new }
+    ensures point { slice_get (map_in rows.old).points result.point_place ≡ Some result.point }
+    ensures point_found { point_of (map_in rows.old) point ≡ Some result.point }
+    ensures first { slice_get (map_in rows.old).strings result.first_place ≡ Some result.first }
+    ensures first_found { string_of (map_in rows.old) first ≡ Some result.first }
+    ensures second { slice_get (without_row (λ r. r.number) first (map_in rows.old).strings)
+        result.second_place ≡ Some result.second }
+    ensures second_found { string_of (map_in rows.old) second ≡ Some result.second }
+    ensures point_slot { HasSlot rows.new.points result.point.number }
+    ensures first_slot { HasSlot rows.new.strings result.first.number }
+    ensures second_slot { HasSlot rows.new.strings result.second.number }
+    ensures room { HasRoomAt stars.new point 2 }
+    ensures first_there { HasHalves table.new.rows result.first }
+    ensures second_there { HasHalves table.new.rows result.second }
+    ensures loose { AreLoose (next table.new.rows)
+        ((path_at point result.first result.second row.number).first
+        ∷ (path_at point result.first result.second row.number).second ∷ []) }
+    ensures has { (h : HalfOf) → has table.new.rows h ≡ has table.old.rows h }
+    ensures origin { (h : HalfOf) → origin_of table.new.rows h ≡ origin_of table.old.rows h }
+    ensures strings { strings table.new.rows ≡ strings table.old.rows }
+    ensures work { table.new.work ≡ ticked (length (cycle table.new.rows (forward_of row.number))
+        + length (cycle table.new.rows (backward_of row.number)) + 5) table.old.work }
+{
+    let first_row = rows.strings.get(first.get()).unwrap();
+    let second_row = rows.strings.get(second.get()).unwrap();
+    let halves = path(first_row, second_row, &point, &row.number);
+    go_past(table, kept, &halves);
+    join_spokes(stars, &row, first_row, second_row);
+    join_rows(rows, point, first, second, row)
+}
+
+// The row of a string out, and those of two strings and of a point in at their places.
+fn unjoin_rows(rows: &mut MapRows, joined: JoinedRows, new: StringNo)
+    requires new { IsSome (string_of (map_in rows.old) new) }
+    requires no_point { point_of (map_in rows.old) joined.point.number ≡ None }
+    requires no_first { string_of (map_in rows.old) joined.first.number ≡ None }
+    requires no_second { string_of (map_in rows.old) joined.second.number ≡ None }
+    requires differ { joined.first.number ≢ joined.second.number }
+    requires point_place { joined.point_place ≤ length (map_in rows.old).points }
+    requires second_place { joined.second_place
+        ≤ length (without_row (λ r. r.number) new (map_in rows.old).strings) }
+    requires first_place { joined.first_place ≤ length (insert
+        (without_row (λ r. r.number) new (map_in rows.old).strings) joined.second_place joined.second) }
+    requires point_slot { HasSlot rows.old.points joined.point.number }
+    requires first_slot { HasSlot rows.old.strings joined.first.number }
+    requires second_slot { HasSlot rows.old.strings joined.second.number }
+    ensures { map_in rows.new ≡ record (map_in rows.old) {
+      points = insert (map_in rows.old).points joined.point_place joined.point;
+      strings = insert (insert (without_row (λ r. r.number) new (map_in rows.old).strings)
+          joined.second_place joined.second) joined.first_place joined.first;
+    } }
+{
+    let JoinedRows {
+        point,
+        point_place,
+        first,
+        first_place,
+        second,
+        second_place,
+    } = joined;
+    rows.strings.take_there(new.get());
+    rows.strings.put_at(second, second_place);
+    rows.strings.put_at(first, first_place);
+    rows.points.put_at(point, point_place);
+}
+
+/// Takes a join back: puts the point and the two strings in at their places again, and takes the
+/// new string out, which is loose in the table then. It takes no memory, and time by the two rings
+/// through the point, by the rings of their faces, and by the strings at the far ends.
+pub fn unjoin<T: Tally>(
+    rows: &mut MapRows,
+    table: &mut HalfTable<T>,
+    kept: &mut KeyLists<Half>,
+    stars: &mut KeyLists<Spoke>,
+    joined: JoinedRows,
+    new: StringNo,
+)
+    requires { CanUnjoin joined new rows.old table.old.rows kept.old stars.old }
+    ensures fits { (can : CanUnjoin joined new rows.old table.old.rows kept.old stars.old)
+        → FitMap can.map rows.new table.new.rows kept.new stars.new }
+    ensures loose { AreLoose (next table.new.rows) (forward_of new ∷ []) }
+    ensures has { (h : HalfOf) → has table.new.rows h ≡ has table.old.rows h }
+    ensures origin { (h : HalfOf) → origin_of table.new.rows h ≡ origin_of table.old.rows h }
+    ensures strings { strings table.new.rows ≡ strings table.old.rows }
+    ensures work { let path = path_at joined.point.number joined.first joined.second new in
+        table.new.work ≡ ticked (length (cycle table.new.rows path.first)
+        + length (cycle table.new.rows (twin path.second)) + 5) table.old.work }
+{
+    let halves = path(&joined.first, &joined.second, &joined.point.number, &new);
+    go_through(table, kept, &halves);
+    let whole = rows.strings.get(new.get()).unwrap();
+    part_spokes(stars, whole, &joined.first, &joined.second);
+    unjoin_rows(rows, joined, new);
+}

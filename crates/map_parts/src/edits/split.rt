@@ -1,0 +1,174 @@
+//! A string split at a new point, and the split taken back, in place.
+ghost use Rattle.std.specs.Prelude.{◌≡◌, ◌≢◌, ◌+◌, ◌++◌, ◌∷◌, [], Some, None, IsSome, ◌≤◌, length, insert, slice_get};
+ghost use Rattle.half_table.specs.declared.half.Half.{Half as HalfOf};
+ghost use Rattle.half_table.specs.Count.{ticked};
+ghost use Rattle.half_table.specs.Half.{forward_of, backward_of};
+ghost use Rattle.half_table.specs.Rows.{next, has, origin_of, strings, cycle};
+ghost use Rattle.half_paths.specs.Loose.{AreLoose};
+ghost use Rattle.entry_list.specs.Slots.{HasSlot};
+ghost use Rattle.cad_map.specs.Map.{point_of, string_of};
+ghost use Rattle.cad_map.specs.Table.{without_row};
+ghost use Rattle.map_parts.specs.Parts.{HasHalves};
+ghost use Rattle.map_parts.specs.Passing.{path_of};
+ghost use Rattle.map_parts.specs.Rows.{map_in};
+ghost use Rattle.map_parts.specs.Splitting.{CanSplit, CanUnsplit, FitMap, after_split};
+
+use crate::edits::passing::{Passing, go_past, go_through};
+use crate::edits::spokes::{join_spokes, part_spokes};
+use crate::map_rows::MapRows;
+use crate::stars::Spoke;
+use cad_rows::{PointNo, PointRow, StringNo, StringRow};
+use half_table::{Half, HalfTable, Tally};
+use key_lists::KeyLists;
+
+/// The half of a string from its first point to its second.
+pub fn forward(string: &StringNo) -> Half
+    ensures { result ≡ forward_of string.now }
+{
+    Half {
+        string: *string,
+        forward: true,
+    }
+}
+
+// The halves of a string and of the two in its place.
+fn path(string: &StringNo, first: &StringNo, second: &StringNo) -> Passing
+    ensures { result ≡ path_of string.now first.now second.now }
+{
+    Passing {
+        first: forward(first),
+        second: forward(second),
+        whole: forward(string),
+    }
+}
+
+// The row of a string out, with its place, and those of a point and of two strings in.
+fn split_rows(
+    rows: &mut MapRows,
+    string: StringNo,
+    point: PointRow,
+    first: StringRow,
+    second: StringRow,
+) -> (usize, StringRow)
+    requires there { IsSome (string_of (map_in rows.old) string) }
+    requires no_point { point_of (map_in rows.old) point.number ≡ None }
+    requires no_first { string_of (map_in rows.old) first.number ≡ None }
+    requires no_second { string_of (map_in rows.old) second.number ≡ None }
+    requires differ { first.number ≢ second.number }
+    requires point_slot { HasSlot rows.old.points point.number }
+    requires first_slot { HasSlot rows.old.strings first.number }
+    requires second_slot { HasSlot rows.old.strings second.number }
+    ensures rows { map_in rows.new ≡ record (map_in rows.old) {
+      points = (map_in rows.old).points ++ point ∷ [];
+      strings = (without_row (λ r. r.number) string (map_in rows.old).strings ++ first ∷ []) ++ second ∷ [];
+    } }
+    ensures row { slice_get (map_in rows.old).strings result.0 ≡ Some result.1 }
+    ensures found { string_of (map_in rows.old) string ≡ Some result.1 }
+    ensures slot { HasSlot rows.new.strings result.1.number }
+{
+    let taken = rows.strings.take_there(string.get());
+    rows.points.put_last(point);
+    rows.strings.put_last(first);
+    rows.strings.put_last(second);
+    taken
+}
+
+/// Splits a string at a new point, whose row and the rows of whose two strings it is given, and
+/// gives the string's row with its place. The string is loose in the table then. It takes no
+/// memory, and time by the two rings through the point, by the rings of their faces, and by the
+/// strings at the string's ends.
+pub(crate) fn split<T: Tally>(
+    rows: &mut MapRows,
+    table: &mut HalfTable<T>,
+    kept: &mut KeyLists<Half>,
+    stars: &mut KeyLists<Spoke>,
+    string: StringNo,
+    point: PointRow,
+    first: StringRow,
+    second: StringRow,
+) -> (usize, StringRow)
+    requires { CanSplit string point first second rows.old table.old.rows kept.old stars.old }
+    ensures fits { (can : CanSplit string point first second rows.old table.old.rows kept.old stars.old)
+        → FitMap (after_split can) rows.new table.new.rows kept.new stars.new }
+    ensures row { slice_get (map_in rows.old).strings result.0 ≡ Some result.1 }
+    ensures found { string_of (map_in rows.old) string ≡ Some result.1 }
+    ensures slot { HasSlot rows.new.strings result.1.number }
+    ensures there { HasHalves table.new.rows result.1 }
+    ensures loose { AreLoose (next table.new.rows) (forward_of string ∷ []) }
+    ensures has { (h : HalfOf) → has table.new.rows h ≡ has table.old.rows h }
+    ensures origin { (h : HalfOf) → origin_of table.new.rows h ≡ origin_of table.old.rows h }
+    ensures strings { strings table.new.rows ≡ strings table.old.rows }
+    ensures work { table.new.work ≡ ticked (length (cycle table.new.rows (forward_of first.number))
+        + length (cycle table.new.rows (backward_of second.number)) + 5) table.old.work }
+{
+    let halves = path(&string, &first.number, &second.number);
+    go_through(table, kept, &halves);
+    part_spokes(
+        stars,
+        rows.strings.get(string.get()).unwrap(),
+        &first,
+        &second,
+    );
+    split_rows(rows, string, point, first, second)
+}
+
+// The rows of a point and of two strings out, and that of a string in at its place.
+fn unsplit_rows(
+    rows: &mut MapRows,
+    row: StringRow,
+    place: usize,
+    point: PointNo,
+    first: StringNo,
+    second: StringNo,
+)
+    requires point { IsSome (point_of (map_in rows.old) point) }
+    requires first { IsSome (string_of (map_in rows.old) first) }
+    requires second { IsSome (string_of (map_in rows.old) second) }
+    requires differ { first ≢ second }
+    requires absent { string_of (map_in rows.old) row.number ≡ None }
+    requires place { place ≤ length (without_row (λ r. r.number) first
+        (without_row (λ r. r.number) second (map_in rows.old).strings)) }
+    requires slot { HasSlot rows.old.strings row.number }
+    ensures { map_in rows.new ≡ record (map_in rows.old) {
+      points = without_row (λ r. r.number) point (map_in rows.old).points;
+      strings = insert (without_row (λ r. r.number) first
+          (without_row (λ r. r.number) second (map_in rows.old).strings)) place row;
+    } }
+{
+    rows.strings.take_there(second.get());
+    rows.strings.take_there(first.get());
+    rows.strings.put_at(row, place);
+    rows.points.take_there(point.get());
+}
+
+/// Takes a split back: puts the string in at its place again, and takes the new point and the two
+/// new strings out, which are loose in the table then. It takes no memory, and time by the two rings
+/// along the string, by the rings of their faces, and by the strings at its ends.
+pub fn unsplit<T: Tally>(
+    rows: &mut MapRows,
+    table: &mut HalfTable<T>,
+    kept: &mut KeyLists<Half>,
+    stars: &mut KeyLists<Spoke>,
+    row: StringRow,
+    place: usize,
+    point: PointNo,
+    first: StringNo,
+    second: StringNo,
+)
+    requires { CanUnsplit row place point first second rows.old table.old.rows kept.old stars.old }
+    ensures fits { (can : CanUnsplit row place point first second rows.old table.old.rows kept.old stars.old)
+        → FitMap can.map rows.new table.new.rows kept.new stars.new }
+    ensures loose { AreLoose (next table.new.rows) (forward_of first ∷ forward_of second ∷ []) }
+    ensures has { (h : HalfOf) → has table.new.rows h ≡ has table.old.rows h }
+    ensures origin { (h : HalfOf) → origin_of table.new.rows h ≡ origin_of table.old.rows h }
+    ensures strings { strings table.new.rows ≡ strings table.old.rows }
+    ensures work { table.new.work ≡ ticked (length (cycle table.new.rows (forward_of row.number))
+        + length (cycle table.new.rows (backward_of row.number)) + 5) table.old.work }
+{
+    let halves = path(&row.number, &first, &second);
+    go_past(table, kept, &halves);
+    let first_row = rows.strings.get(first.get()).unwrap();
+    let second_row = rows.strings.get(second.get()).unwrap();
+    join_spokes(stars, &row, first_row, second_row);
+    unsplit_rows(rows, row, place, point, first, second);
+}

@@ -1,0 +1,33 @@
+//! The parts of a map on half-edges, made from a map and changed in place: its rows, the table of
+//! half-edges, one half kept for each ring of a face, and the halves that leave each point.
+//!
+//! Each edit has a call that does it and one that undoes it, both without memory, and a call that
+//! begins it, which makes all growths first. The table is the doubly connected edge list of de Berg,
+//! Cheong, van Kreveld and Overmars, Computational Geometry, chapter 2.
+#![tactic(auto)]
+
+mod building;
+mod edits;
+mod kept;
+mod map_rows;
+mod rows;
+mod stars;
+
+pub use building::{add_strings, keep_rings, label_rings, link_rings};
+pub use edits::dividing::undivide;
+pub use edits::dividing_tried::{begin_divide, begin_undivide};
+pub use edits::enclosing::open;
+pub use edits::enclosing_tried::{begin_enclose, begin_open};
+pub use edits::join::{JoinedRows, half_from, half_to, unjoin};
+pub use edits::join_tried::{begin_join, begin_unjoin};
+pub use edits::labels::rename;
+pub use edits::merging::{merge_along, unmerge_along};
+pub use edits::placed_strings::PlacedString;
+pub use edits::points::{add_point, move_point, put_point_back, take_point};
+pub use edits::sources::{add_source, attach, attach_at, detach, take_source};
+pub use edits::split::{forward, unsplit};
+pub use edits::split_tried::{begin_split, begin_unsplit};
+pub use kept::{face_place, kept_half};
+pub use map_rows::{MapRows, RetiredRow};
+pub use rows::Rows;
+pub use stars::{Spoke, find_half, half_at, star_of};

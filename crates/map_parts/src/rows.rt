@@ -1,0 +1,161 @@
+//! Rows in order of entry that go and come without memory.
+ghost use Rattle.std.specs.Prelude.{◌≡◌, ◌≤◌, ◌++◌, ◌∷◌, [], ℕ, None, Some, length, insert, slice_get, is_some, IsSome, IfSome, IfNone, OnOk, OnErr, OnSome};
+ghost use Rattle.std.specs.Option.{option_copied};
+ghost use Rattle.entry_list.specs.Slots.{HasSlot, KeepsSlots};
+ghost use Rattle.cad_map.specs.Table.{row_with, without_row, with_row};
+ghost use Rattle.map_parts.specs.Rows.{rows_in};
+
+use cad_map::Numbered;
+use cad_rows::Memory;
+use entry_list::EntryList;
+use std::alloc::Global;
+use std::marker::Model;
+
+/// Rows in order of entry, found by their numbers. No two have the same number. A number keeps its
+/// slot when its row is taken out, so the row comes back at its place without memory.
+#[derive(Drop)]
+pub struct Rows<R: Numbered> {
+    list: EntryList<R>,
+}
+
+impl<R: Numbered> Model for Rows<R> {
+    ghost use Rattle.entry_list.specs.Slots.{Slots, rows_of};
+    ghost use Rattle.cad_map.specs.Table.{AreNumbered};
+
+    ghost Value = { Slots R };
+
+    ghost view = { λ a. a.list };
+
+    ghost invariant = { λ a. AreNumbered R.number_of (rows_of a.list) };
+}
+
+impl<R: Numbered> Rows<R> {
+    pub fn new(alloc: Global) -> Rows<R>
+        ensures { result ≡ [] }
+    {
+        Rows {
+            list: EntryList::new(alloc),
+        }
+    }
+
+    /// What the rows take their memory from.
+    pub fn allocator(&self) -> Global {
+        self.list.allocator()
+    }
+
+    pub fn len(&self) -> usize
+        ensures { result ≡ length (rows_in self.now) }
+    {
+        self.list.len()
+    }
+
+    /// The row at a place in order of entry, and `None` past the end.
+    pub fn at(&self, place: usize) -> Option<&R>
+        ensures { option_copied result ≡ slice_get (rows_in self.now) place }
+    {
+        let (_, row) = self.list.at(place)?;
+        Some(row)
+    }
+
+    /// The row with a number.
+    pub fn get(&self, number: u32) -> Option<&R>
+        ensures { option_copied result ≡ row_with R.number_of number (rows_in self.now) }
+    {
+        self.list.get(u64::from(number))
+    }
+
+    /// Whether a row has the number.
+    pub fn has(&self, number: u32) -> bool
+        ensures { result ≡ is_some (row_with R.number_of number (rows_in self.now)) }
+    {
+        self.get(number).is_some()
+    }
+
+    /// Sees that a row with this number can be put in without memory. The rows stay as they are.
+    pub fn keep_slot(&mut self, number: u32) -> Result<(), Memory>
+        ensures rows { rows_in self.new ≡ rows_in self.old }
+        ensures slots { KeepsSlots self.old self.new }
+        ensures ok { OnOk result (HasSlot self.new number) }
+    {
+        self.list.keep_slot(u64::from(number))?;
+        Ok(())
+    }
+
+    /// Puts a row last. It takes no memory.
+    pub fn put_last(&mut self, row: R)
+        requires slot { HasSlot self.old (R.number_of row) }
+        requires absent { row_with R.number_of (R.number_of row) (rows_in self.old) ≡ None }
+        ensures rows { rows_in self.new ≡ rows_in self.old ++ row ∷ [] }
+        ensures slots { KeepsSlots self.old self.new }
+    {
+        let number = u64::from(row.number());
+        self.list.put_last(number, row);
+    }
+
+    /// Puts a row in at a place, and those from there on stand one place later. It takes no memory.
+    pub fn put_at(&mut self, row: R, place: usize)
+        requires slot { HasSlot self.old (R.number_of row) }
+        requires absent { row_with R.number_of (R.number_of row) (rows_in self.old) ≡ None }
+        requires place { place ≤ length (rows_in self.old) }
+        ensures rows { rows_in self.new ≡ insert (rows_in self.old) place row }
+        ensures slots { KeepsSlots self.old self.new }
+    {
+        let number = u64::from(row.number());
+        self.list.put_at(number, row, place);
+    }
+
+    /// Puts a row last. Where memory runs out the rows stay.
+    pub fn push(&mut self, row: R) -> Result<(), Memory>
+        requires { row_with R.number_of (R.number_of row) (rows_in self.old) ≡ None }
+        ensures ok { OnOk result (rows_in self.new ≡ rows_in self.old ++ row ∷ []) }
+        ensures err { OnErr result (rows_in self.new ≡ rows_in self.old) }
+    {
+        self.keep_slot(row.number())?;
+        self.put_last(row);
+        Ok(())
+    }
+
+    /// Takes the row with a number out, and gives its place with it. It takes no memory, and a row
+    /// that is put in at that place takes none either.
+    pub fn take(&mut self, number: u32) -> Option<(usize, R)>
+        ensures row { IfSome result (λ r. slice_get (rows_in self.old) r.0 ≡ Some r.1) }
+        ensures number { IfSome result (λ r. R.number_of r.1 ≡ number) }
+        ensures rows { rows_in self.new ≡ without_row R.number_of number (rows_in self.old) }
+        ensures back { IfSome result (λ r. rows_in self.old ≡ insert (rows_in self.new) r.0 r.1) }
+        ensures none { IfNone result (row_with R.number_of number (rows_in self.old) ≡ None) }
+        ensures slots { KeepsSlots self.old self.new }
+        ensures slot { OnSome result (HasSlot self.new number) }
+    {
+        self.list.take(u64::from(number))
+    }
+
+    /// Takes the row with a number out, which is there, and gives its place with it. A row of its
+    /// number that is put in at the place stands where this one stood. It takes no memory, and neither
+    /// does what is put in.
+    pub fn take_there(&mut self, number: u32) -> (usize, R)
+        requires { IsSome (row_with R.number_of number (rows_in self.old)) }
+        ensures row { slice_get (rows_in self.old) result.0 ≡ Some result.1 }
+        ensures number { R.number_of result.1 ≡ number }
+        ensures found { row_with R.number_of number (rows_in self.old) ≡ Some result.1 }
+        ensures rows { rows_in self.new ≡ without_row R.number_of number (rows_in self.old) }
+        ensures slot { HasSlot self.new (R.number_of result.1) }
+        ensures absent { row_with R.number_of (R.number_of result.1) (rows_in self.new) ≡ None }
+        ensures place { result.0 ≤ length (rows_in self.new) }
+        ensures back { (row : R) → R.number_of row ≡ R.number_of result.1
+            → insert (rows_in self.new) result.0 row ≡ with_row R.number_of row (rows_in self.old) }
+        ensures slots { KeepsSlots self.old self.new }
+    {
+        self.take(number).unwrap()
+    }
+
+    /// Puts a row in the place of the one with its number, and gives that one. It takes no memory.
+    pub fn replace(&mut self, row: R) -> R
+        requires { IsSome (row_with R.number_of (R.number_of row) (rows_in self.old)) }
+        ensures old { row_with R.number_of (R.number_of row) (rows_in self.old) ≡ Some result }
+        ensures rows { rows_in self.new ≡ with_row R.number_of row (rows_in self.old) }
+        ensures slots { KeepsSlots self.old self.new }
+    {
+        let number = u64::from(row.number());
+        self.list.replace(number, row)
+    }
+}
