@@ -32,12 +32,16 @@ loop-rows-init g c = record {
   read = λ text h.
       (fields_of c.next_row.new.row ∷ [], c.in-Ok-true.ensures.more c.in-Ok-true.field-0-test text [] h, rw c.new-rows.ensures (plan_of-more [] _ beginning _ refl c.in-Ok.ensures.ok));
   counted = rw c.new-rows.ensures refl;
+  few = rw c.new-rows.ensures (omega arith);
 }
 
 pub returns-in-Ok-false-next_row-clause-err : goal.returns-in-Ok-false-next_row-clause-err
 returns-in-Ok-false-next_row-clause-err g c = λ text h nr nm.
     let (rows, read, p) = c.loop-rows.invariant.read text h in
     of_end rows (taken-plan _ text rows _ _ p (λ e. cc e) (λ e. cc e) read) (c.in-Ok-false-next_row.ensures.ends c.in-Ok-false-next_row.field-0-test text rows read) (few-reading rows _ _ _ p) (ap is_unfinished p)
+
+pub take_row-requires : goal.take_row-requires
+take_row-requires g c = let few = c.loop-rows.invariant.few in let counted = c.loop-rows.invariant.counted in omega (arith, few, counted)
 
 pub returns-in-Ok-false-take_row-clause-ok : goal.returns-in-Ok-false-take_row-clause-ok
 returns-in-Ok-false-take_row-clause-ok g c = λ text h.
@@ -64,4 +68,5 @@ loop-rows-preserved g c = record {
       let step = rw c.in-Ok-true-take_row.field-0-test at c.in-Ok-true-take_row.ensures.ok in
       (rows ++ (fields_of c.next_row-in-loop-rows.new.row ∷ []), c.in-Ok-true-next_row.ensures.more c.in-Ok-true-next_row.field-0-test text rows read, plan_of-more rows _ _ _ p step);
   counted = let more = c.in-Ok-true-take_row.ensures.grows c.in-Ok-true-take_row.field-0-test in omega (arith, more.count, c.loop-rows.invariant.counted);
+  few = let more = c.in-Ok-true-take_row.ensures.grows c.in-Ok-true-take_row.field-0-test in omega (arith, more.count, more.room);
 }

@@ -1,4 +1,4 @@
-use Rattle.std.proofs.Common.{◌≡◌, ◌+◌, ◌-◌, [], ℕ, List}
+use Rattle.std.proofs.Common.{◌≡◌, ◌+◌, ◌-◌, ◌≤◌, [], ℕ, List}
 use Rattle.cad_files.specs.Input.{HasRead}
 use Rattle.cad_files.specs.Rows.{row_count, plan_limit}
 use Rattle.cad_files.specs.Plan.{reading, plan_of}
@@ -9,6 +9,7 @@ invariant-loop-rows g l = record {
   read : (text : List ℕ) → HasRead g.R.Read.remaining text [] l.fn.reader
       → (rows : List (List (List ℕ))) × HasRead g.R.Read.remaining text rows l.reader × (plan_of rows ≡ reading l.version l.count l.rows);
   counted : l.count ≡ row_count l.rows + 1;
+  few : row_count l.rows ≤ plan_limit;
 }
 
 abbrev pub decreases-loop-rows : goal.decreases-loop-rows
