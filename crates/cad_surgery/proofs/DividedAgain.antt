@@ -3,6 +3,8 @@ use Rattle.std.proofs.Common.{◌≡◌, ℕ, ◌+◌, inl, inr, not, Bool, fals
 use Rattle.std.specs.List.{AllByRecursion, Contains}
 use Rattle.std.proofs.lemmas.List.Elements.{Contains-append_left, Contains-append_cases}
 use Rattle.cad_rows.specs.declared.edits.Edit.{Edit}
+use Rattle.cad_rows.specs.declared.edits.Edit.TheVariants.{Divide}
+use Rattle.cad_rows.specs.declared.names.Face.{Face}
 use Rattle.cad_rows.specs.declared.names.Face.TheVariants.{Parcel}
 use Rattle.cad_rows.specs.declared.rows.StringRow.{StringRow}
 use Rattle.cad_rings.specs.Cycle.{Side, has_side, opposite, sides_of}
@@ -224,3 +226,8 @@ module _ (rows : MapRows) (table : Table) (held : Held Half) (stars : Held Spoke
       (crossing (map_of v) d again-tried table.rows
       (draft-fits rows table held stars grid v view fit (whole_valid (map_of v) it.valid)).fits.ends start end moved
       (subst (λ (e : Edit). HeldChain (after (map_of v) e) (Parcel d.parcel) d.chain.now start end moved) same (told (map_of v) it.holds)))
+
+-- the same division by the same lists
+pub same-lists : (face : Face) (parcel : ℕ) (label : List ℕ) (source : ℕ) (chain points strings along : List ℕ) → chain ≡ points → strings ≡ along
+    → Divide face chain strings parcel label source ≡ Divide face points along parcel label source
+same-lists face parcel label source chain points strings along a b = λ i. Divide face (a i) (b i) parcel label source

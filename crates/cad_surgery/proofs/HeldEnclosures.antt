@@ -128,14 +128,14 @@ first-part (z ∷ xs) ys x there = elim (Contains-cases z xs x there) [
   | inr later ↦ Contains-later z (xs ++ ys) x (first-part xs ys x later)
 ]
 
-filter-same : (f g : Boundary → Bool) (bs : List Boundary) → ((b : Boundary) → Contains bs b → f b ≡ g b) → filter f bs ≡ filter g bs
+pub filter-same : {X : Type 0} (f g : X → Bool) (bs : List X) → ((b : X) → Contains bs b → f b ≡ g b) → filter f bs ≡ filter g bs
 filter-same f g [] same = refl
 filter-same f g (b ∷ bs) same =
     let rest = filter-same f g bs (λ c h. same c (Contains-later b bs c h)) in
     λ i. cond (same b (Contains-first b bs) i) (b ∷ rest i) (rest i)
 
 -- a row that is found is found with more rows behind
-found-more : (n : ℕ) (rows more : List StringRow) (row : StringRow) → row_with (λ (r : StringRow). r.number) n rows ≡ Some row
+pub found-more : (n : ℕ) (rows more : List StringRow) (row : StringRow) → row_with (λ (r : StringRow). r.number) n rows ≡ Some row
     → row_with (λ (r : StringRow). r.number) n (rows ++ more) ≡ Some row
 found-more n [] more row is = cc
 found-more n (r ∷ rows) more row is = by (r.number == n) refl (λ h. found-more n rows more row h)

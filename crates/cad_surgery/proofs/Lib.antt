@@ -31,3 +31,7 @@ pub mod NamedRings
 pub mod DividedBack
 pub mod DividedAgain
 pub mod LeadsBy
+pub mod CrossedRing
+pub mod CrossedHoles
+pub mod DividedCrossing
+pub mod HeldDivisions

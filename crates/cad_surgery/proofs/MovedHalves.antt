@@ -66,7 +66,7 @@ filter-permuted p xs ys h =
     from-often is_boundary boundary-same boundary-self (filter p xs) (filter p ys) (λ b.
     count-passing (is_boundary b) p xs ∙ sym (sum_by-IsPermutation (λ c. cond (is_boundary b c && p c) 1 0) xs ys h) ∙ sym (count-passing (is_boundary b) p ys))
 
-filter-of_map : {X Y : Type 0} (p : Y → Bool) (g : X → Y) (xs : List X) → filter p (map g xs) ≡ map g (filter (λ x. p (g x)) xs)
+pub filter-of_map : {X Y : Type 0} (p : Y → Bool) (g : X → Y) (xs : List X) → filter p (map g xs) ≡ map g (filter (λ x. p (g x)) xs)
 filter-of_map p g [] = refl
 filter-of_map p g (x ∷ xs) = by (p (g x)) refl (filter-of_map p g xs)
   where

@@ -13,7 +13,7 @@ use Rattle.cad_map.specs.declared.boundary.Boundary.{Boundary}
 use Rattle.cad_map.specs.Boundaries.{is_face}
 use Rattle.cad_map.specs.Map.{Map, all_sides, string_of}
 use Rattle.cad_map.specs.Rings.{HasWholeRings}
-use Rattle.cad_map.proofs.CallerLemmas.{All-at_each, All-from_each, Contains-cases, Contains-first, Contains-later, Contains-map, Contains-filter, filter-Contains, Contains-has_side, has_side-Contains, is_face-same, is_face-refl, found-number, count-no, once-from_pairs}
+use Rattle.cad_map.proofs.CallerLemmas.{All-at_each, All-follows, All-from_each, Contains-cases, Contains-first, Contains-later, Contains-map, Contains-filter, filter-Contains, Contains-has_side, has_side-Contains, is_face-same, is_face-refl, found-number, count-no, once-from_pairs}
 use Rattle.half_table.specs.declared.half.Half.{Half}
 use Rattle.half_table.specs.Half.{half_of}
 use Rattle.half_table.specs.Rows.{HalfRows}
@@ -197,6 +197,20 @@ module _ (m : Map) (whole : HasWholeRings m) (inner : Face) (left right : Bounda
       stands-once m whole b (left ∷ right ∷ (rest ++ off_face))
       (IsPermutation-trans m.boundaries (left ∷ right ∷ b ∷ (rest ++ off_face)) (b ∷ left ∷ right ∷ (rest ++ off_face)) all (IsPermutation-middle (left ∷ right ∷ []) b (rest ++ off_face)))
       (Contains-later left (right ∷ (rest ++ off_face)) b (Contains-later right (rest ++ off_face) b (Contains-append_left rest off_face b again)))
+
+  -- halves that lead along the others, one for each that the face has, name its rings
+  pub rings-named : (halves : List Half) → AllByRecursion (λ h. (b : Boundary) × Contains others b × IsOfRing m b h × (b.face ≡ inner)) halves
+      → ((b : Boundary) → Contains others b → b.face ≡ inner → (h : Half) × Contains halves h × IsOfRing m b h)
+      → length halves ≡ length (filter own others) → NamesRings m halves (rings_beside m inner s)
+  rings-named halves each all many = record {
+    each =
+        All-follows (λ h. (b : Boundary) × Contains others b × IsOfRing m b h × (b.face ≡ inner)) (λ h. (b : Boundary) × Contains (rings_beside m inner s) b × IsOfRing m b h)
+        (λ h it. (it.0, others-beside it.0 it.1 it.3, it.2)) halves each;
+    all = λ b among.
+        let in_it = filter-Contains beside m.boundaries b among in
+        all b (named-among b among) (sym (is_face-same inner b.face (both (is_face inner b.face) (not (has_side s (sides_of b.ring))) in_it.1).0));
+    as_many = many ∙ sym as-many;
+  }
 
   -- a table in which a half that leads along one of the others is on it
   module _ (rows : HalfRows) (led : (b : Boundary) → Contains others b → (h : Half) → IsOfRing m b h → IsOnRing m rows b h)

@@ -30,19 +30,20 @@ same-split m e s p x y first second at tried is placed =
 pub rows-left : (e : Edit) → IsTrue (is_in_place e) → ((s p : ℕ) (x y : ℤ) (first second : ℕ) → e ≡ Split s p x y first second → ⊥)
     → ((p s : ℕ) → e ≡ Join p s → ⊥)
     → ((face : Face) (points strings : List ℕ) (parcel : ℕ) (label : List ℕ) (source : ℕ) → e ≡ Enclose face points strings parcel label source → ⊥)
+    → ((face : Face) (chain strings : List ℕ) (parcel : ℕ) (label : List ℕ) (source : ℕ) → e ≡ Divide face chain strings parcel label source → ⊥)
     → IsTrue (is_of_rows e)
-rows-left (AddSource s text) place split join enclose = refl
-rows-left (AddPoint p x y) place split join enclose = refl
-rows-left (DropPoint p) place split join enclose = refl
-rows-left (Split s p x y first second) place split join enclose = absurd (split s p x y first second refl)
-rows-left (Join p s) place split join enclose = absurd (join p s refl)
-rows-left (Divide face chain strings parcel label source) place split join enclose = cc
-rows-left (Merge kept ended) place split join enclose = cc
-rows-left (Move p x y) place split join enclose = refl
-rows-left (Attach i s) place split join enclose = refl
-rows-left (Detach i s) place split join enclose = refl
-rows-left (Rename p label) place split join enclose = refl
-rows-left (Enclose face points strings parcel label source) place split join enclose = absurd (enclose face points strings parcel label source refl)
+rows-left (AddSource s text) place split join enclose divide = refl
+rows-left (AddPoint p x y) place split join enclose divide = refl
+rows-left (DropPoint p) place split join enclose divide = refl
+rows-left (Split s p x y first second) place split join enclose divide = absurd (split s p x y first second refl)
+rows-left (Join p s) place split join enclose divide = absurd (join p s refl)
+rows-left (Divide face chain strings parcel label source) place split join enclose divide = absurd (divide face chain strings parcel label source refl)
+rows-left (Merge kept ended) place split join enclose divide = cc
+rows-left (Move p x y) place split join enclose divide = refl
+rows-left (Attach i s) place split join enclose divide = refl
+rows-left (Detach i s) place split join enclose divide = refl
+rows-left (Rename p label) place split join enclose divide = refl
+rows-left (Enclose face points strings parcel label source) place split join enclose divide = absurd (enclose face points strings parcel label source refl)
 
 -- so it is with a record's edit
 pub rows-of : (r : SmallRecord) → IsTrue (is_in_place (edit_of r))
@@ -50,20 +51,23 @@ pub rows-of : (r : SmallRecord) → IsTrue (is_in_place (edit_of r))
     → ((row : PointRow) (place : ℕ) (first : StringRow) (i : ℕ) (second : StringRow) (j string : ℕ) → r ≡ record_of.Join row place first i second j string → ⊥)
     → ((face : Face) (points strings : List ℕ) (parcel : ℕ) (label : List ℕ) (source : ℕ) (moved : Vec Half)
     → r ≡ record_of.Enclose face points strings parcel label source moved → ⊥)
+    → ((face : Face) (chain strings : List ℕ) (parcel : ℕ) (label : List ℕ) (source : ℕ) (start end : Half) (moved : Vec Half)
+    → r ≡ record_of.Divide face chain strings parcel label source start end moved → ⊥)
     → IsTrue (is_of_rows (edit_of r))
-rows-of (record_of.AddSource row) place split join enclose = refl
-rows-of (record_of.AddPoint p at) place split join enclose = refl
-rows-of (record_of.DropPoint row i) place split join enclose = refl
-rows-of (record_of.Split row i p at first second) place split join enclose = absurd (split row i p at first second refl)
-rows-of (record_of.Join row i first j second k string) place split join enclose = absurd (join row i first j second k string refl)
-rows-of (record_of.Divide face chain strings parcel label source start end moved) place split join enclose = cc
-rows-of (record_of.MergeAlong kept row i chain strings start end moved) place split join enclose = cc
-rows-of (record_of.MergeIsland kept row i points strings moved) place split join enclose = cc
-rows-of (record_of.Move p from to) place split join enclose = refl
-rows-of (record_of.Attach i source) place split join enclose = refl
-rows-of (record_of.Detach i source j) place split join enclose = refl
-rows-of (record_of.Rename p from to) place split join enclose = refl
-rows-of (record_of.Enclose face points strings parcel label source moved) place split join enclose = absurd (enclose face points strings parcel label source moved refl)
+rows-of (record_of.AddSource row) place split join enclose divide = refl
+rows-of (record_of.AddPoint p at) place split join enclose divide = refl
+rows-of (record_of.DropPoint row i) place split join enclose divide = refl
+rows-of (record_of.Split row i p at first second) place split join enclose divide = absurd (split row i p at first second refl)
+rows-of (record_of.Join row i first j second k string) place split join enclose divide = absurd (join row i first j second k string refl)
+rows-of (record_of.Divide face chain strings parcel label source start end moved) place split join enclose divide =
+    absurd (divide face chain strings parcel label source start end moved refl)
+rows-of (record_of.MergeAlong kept row i chain strings start end moved) place split join enclose divide = cc
+rows-of (record_of.MergeIsland kept row i points strings moved) place split join enclose divide = cc
+rows-of (record_of.Move p from to) place split join enclose divide = refl
+rows-of (record_of.Attach i source) place split join enclose divide = refl
+rows-of (record_of.Detach i source j) place split join enclose divide = refl
+rows-of (record_of.Rename p from to) place split join enclose divide = refl
+rows-of (record_of.Enclose face points strings parcel label source moved) place split join enclose divide = absurd (enclose face points strings parcel label source moved refl)
 
 -- an edit in place is no merger
 pub no-merger : (e : Edit) → IsTrue (is_in_place e) → IsNoMerger e

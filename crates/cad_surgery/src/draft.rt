@@ -60,8 +60,8 @@ impl<T: Tally> Model for Draft<T> {
     ghost invariant = { λ a. FitTogether (parts_of (map_in a.rows) a.table a.kept a.stars a.grid) };
 }
 
-// The side along a half.
-fn side<T: Tally>(table: &HalfTable<T>, half: &Half) -> (PointNo, PointNo)
+/// The side along a half.
+pub(crate) fn side<T: Tally>(table: &HalfTable<T>, half: &Half) -> (PointNo, PointNo)
     requires { has table.now.rows half.now ≡ true }
     ensures { result ≡ side_by table.now.rows half.now }
 {

@@ -1,6 +1,7 @@
 //! Edits in place.
 
 pub(crate) mod counted;
+pub(crate) mod crossing;
 pub(crate) mod hidden;
 pub(crate) mod joining;
 pub(crate) mod moved;

@@ -19,8 +19,8 @@ use edit_records::{SmallRecord, are_in_range as gives_in_range};
 use half_table::Tally;
 
 impl<T: Tally> HalfMap<T> {
-    /// Makes an edit, and gives its record: any but a division and a merger. A refused
-    /// one leaves the map as it was.
+    /// Makes an edit, and gives its record: any but a merger. A refused one leaves the map as it
+    /// was.
     pub fn apply(&mut self, edit: &Edit) -> Result<SmallRecord, Refusal>
         requires valid { IsValid (map_of self.old) }
         requires place { IsTrue (is_in_place edit.now) }

@@ -20,6 +20,7 @@ ghost use Rattle.cad_surgery.specs.RowEdits.{is_of_rows, KeepsBeside};
 ghost use Rattle.cad_surgery.specs.Work.{TakesWork};
 
 use crate::draft::Draft;
+use crate::edits::try_divide::{back_divide, forward_divide, try_divide};
 use crate::edits::try_enclose::{Enclosure, back_enclose, forward_enclose, try_enclose};
 use crate::edits::try_join::{back_join, forward_join, try_join};
 use crate::edits::try_split::{Halving, back_split, forward_split, try_split};
@@ -125,7 +126,17 @@ fn try_edit<T: Tally>(
         } => try_enclose(
             draft, *face, points, strings, *parcel, label, *source, touched,
         ),
-        Edit::Divide { .. } | Edit::Merge { .. } => unreachable!(),
+        Edit::Divide {
+            face,
+            chain,
+            strings,
+            parcel,
+            label,
+            source,
+        } => try_divide(
+            draft, *face, chain, strings, *parcel, label, *source, touched,
+        ),
+        Edit::Merge { .. } => unreachable!(),
         _ => try_rows(draft, edit, touched),
     }
 }
@@ -256,9 +267,8 @@ fn back_edit<T: Tally>(draft: &mut Draft<T>, change: &SmallRecord) -> Result<(),
             };
             back_enclose(draft, &enclosure, moved.as_slice())
         }
-        SmallRecord::Divide { .. }
-        | SmallRecord::MergeAlong { .. }
-        | SmallRecord::MergeIsland { .. } => unreachable!(),
+        SmallRecord::Divide { .. } => back_divide(draft, change),
+        SmallRecord::MergeAlong { .. } | SmallRecord::MergeIsland { .. } => unreachable!(),
         _ => draft.unmake_rows(change),
     }
 }
@@ -313,9 +323,8 @@ fn forward_edit<T: Tally>(draft: &mut Draft<T>, change: &SmallRecord) -> Result<
             };
             forward_enclose(draft, &enclosure)
         }
-        SmallRecord::Divide { .. }
-        | SmallRecord::MergeAlong { .. }
-        | SmallRecord::MergeIsland { .. } => unreachable!(),
+        SmallRecord::Divide { .. } => forward_divide(draft, change),
+        SmallRecord::MergeAlong { .. } | SmallRecord::MergeIsland { .. } => unreachable!(),
         _ => draft.remake_rows(change),
     }
 }

@@ -10,9 +10,11 @@ ghost use Rattle.cad_map.specs.Valid.{IsValid};
 ghost use Rattle.half_table.specs.Half.{forward_of};
 ghost use Rattle.cad_laws.specs.Tried.{IsTried};
 ghost use Rattle.cad_valid.specs.Near.{HoldsMap, touched_of};
+ghost use Rattle.cad_rows.specs.declared.edits.Edit.TheVariants.{Divide};
 ghost use Rattle.cad_rows.specs.declared.names.Face.TheVariants.{Parcel};
 ghost use Rattle.cad_surgery.specs.Divisions.{HasCrossing, IsDividedBy, IsOfDivide, divided_by};
 ghost use Rattle.cad_surgery.specs.Divisions.{strings_across, parcel_across};
+ghost use Rattle.edit_records.specs.declared.record.SmallRecord.TheVariants.{Divide as DivideRecord};
 ghost use Rattle.edit_records.specs.HeldChains.{HeldChain};
 ghost use Rattle.map_parts.specs.Parts.{map_of, kept_at};
 ghost use Rattle.cad_surgery.specs.Proper.{IsProper};
@@ -21,7 +23,9 @@ ghost use Rattle.cad_surgery.specs.Work.{TakesWork};
 
 use crate::draft::Draft;
 use crate::edits::counted::is_work_in_range;
+use crate::edits::crossing::{Crossing, crossing_of};
 use crate::edits::hidden::drop_hidden;
+use crate::edits::try_enclose::{Kept, kept_of};
 use cad_edit::rows_along;
 use cad_rows::{
     Face, Label, Memory, Numbers, ParcelNo, ParcelRow, PointNo, Refusal, SourceNo, StringNo,
@@ -328,4 +332,169 @@ pub(crate) fn forward_divide<T: Tally>(
         &told.end,
         told.moved,
     )
+}
+
+// What comes with a division, and where its chain crosses the face.
+#[derive(Drop)]
+struct Coming {
+    strings: Vec<StringRow>,
+    parcel: ParcelRow,
+    path: Vec<Half>,
+    crossing: Crossing,
+}
+
+fn coming_by<T: Tally>(draft: &Draft<T>, division: &Division<'_>) -> Result<Coming, Memory>
+    requires { IsTried (map_of draft.now) (divided_by division.now) }
+    ensures strings { IfOk result (λ c. c.strings.items ≡ strings_across division.now) }
+    ensures parcel { IfOk result (λ c. c.parcel ≡ parcel_across division.now) }
+    ensures path { IfOk result (λ c. c.path.items ≡ map_by forward_of division.now.strings.now) }
+    ensures crossing { IfOk result (λ c. HasCrossing (map_of draft.now) draft.now.table.rows
+        division.now c.crossing.start c.crossing.end c.crossing.moved.items) }
+{
+    let alloc = draft.rows.points.allocator();
+    let strings = rows_along(alloc, division.chain, division.strings, division.source)?;
+    let parcel = parcel_of(alloc, division)?;
+    let path = halves_of(alloc, division.strings)?;
+    let crossing = crossing_of(draft, division)?;
+    Ok(Coming {
+        strings,
+        parcel,
+        path,
+        crossing,
+    })
+}
+
+// The record of a division, with what it found where its chain crossed the face.
+fn record_of_division(
+    face: Face,
+    kept: Kept,
+    parcel: ParcelNo,
+    source: SourceNo,
+    crossing: Crossing,
+) -> SmallRecord
+    ensures { result ≡ DivideRecord face kept.points kept.strings parcel kept.label source
+        crossing.start crossing.end crossing.moved }
+{
+    SmallRecord::Divide {
+        face,
+        chain: kept.points,
+        strings: kept.strings,
+        parcel,
+        label: kept.label,
+        source,
+        start: crossing.start,
+        end: crossing.end,
+        moved: crossing.moved,
+    }
+}
+
+// Divides a face, and takes it back where it breaks a rule. Gives its record.
+fn divide_recording<T: Tally>(
+    draft: &mut Draft<T>,
+    division: &Division<'_>,
+    kept: Kept,
+    touched: &Touched,
+) -> Result<SmallRecord, Refusal>
+    requires kept { kept ≡ record {
+      points = division.now.chain.now;
+      strings = division.now.strings.now;
+      label = division.now.label.now;
+    } }
+    requires tried { IsTried (map_of draft.old) (divided_by division.now) }
+    requires held { HoldsMap draft.old.grid (after (map_of draft.old) (divided_by division.now)) }
+    requires touched { IsTouched (map_of draft.old)
+        (after (map_of draft.old) (divided_by division.now)) (touched_of touched.now) }
+    requires proper { IsProper (map_of draft.old) draft.old.table.rows (kept_at draft.old) }
+    ensures made { OnOk result
+        (map_of draft.new ≡ after (map_of draft.old) (divided_by division.now)) }
+    ensures valid { OnOk result (IsValid (map_of draft.new)) }
+    ensures edit { IfOk result (λ r. edit_of r ≡ divided_by division.now) }
+    ensures holds { IfOk result (λ r. Holds r (map_of draft.old)) }
+    ensures refused { IfErr result (MayRefuse (map_of draft.old) (divided_by division.now)) }
+    ensures err { OnErr result (map_of draft.new ≡ map_of draft.old) }
+    ensures grid { draft.new.grid ≡ draft.old.grid }
+    ensures proper { IsProper (map_of draft.new) draft.new.table.rows (kept_at draft.new) }
+    ensures work { TakesWork draft.old.table draft.new.table
+        (work_bound (map_of draft.old) (after (map_of draft.old) (divided_by division.now))) }
+{
+    is_work_in_range(&draft.table);
+    let Ok(coming) = coming_by(draft, division) else {
+        return Err(Refusal::Memory);
+    };
+    let Coming {
+        strings,
+        parcel,
+        path,
+        crossing,
+    } = coming;
+    divide_within_rules(
+        draft,
+        division,
+        strings,
+        parcel,
+        path.as_slice(),
+        &crossing.start,
+        &crossing.end,
+        crossing.moved.as_slice(),
+        touched,
+    )?;
+    Ok(record_of_division(
+        division.face,
+        kept,
+        division.parcel,
+        division.source,
+        crossing,
+    ))
+}
+
+/// Divides a face, and takes it back where it breaks a rule. The grid holds the strings and points
+/// of the map after it.
+pub(crate) fn try_divide<'a, T: Tally>(
+    draft: &mut Draft<T>,
+    face: Face,
+    chain: &'a Numbers<PointNo>,
+    strings: &'a Numbers<StringNo>,
+    parcel: ParcelNo,
+    label: &'a Label,
+    source: SourceNo,
+    touched: &Touched,
+) -> Result<SmallRecord, Refusal>
+    requires tried { IsTried (map_of draft.old)
+        (Divide face chain.now strings.now parcel label.now source) }
+    requires held { HoldsMap draft.old.grid
+        (after (map_of draft.old) (Divide face chain.now strings.now parcel label.now source)) }
+    requires touched { IsTouched (map_of draft.old)
+        (after (map_of draft.old) (Divide face chain.now strings.now parcel label.now source))
+        (touched_of touched.now) }
+    requires proper { IsProper (map_of draft.old) draft.old.table.rows (kept_at draft.old) }
+    ensures made { OnOk result (map_of draft.new
+        ≡ after (map_of draft.old) (Divide face chain.now strings.now parcel label.now source)) }
+    ensures valid { OnOk result (IsValid (map_of draft.new)) }
+    ensures edit { IfOk result
+        (λ r. edit_of r ≡ Divide face chain.now strings.now parcel label.now source) }
+    ensures holds { IfOk result (λ r. Holds r (map_of draft.old)) }
+    ensures refused { IfErr result (MayRefuse (map_of draft.old)
+        (Divide face chain.now strings.now parcel label.now source)) }
+    ensures err { OnErr result (map_of draft.new ≡ map_of draft.old) }
+    ensures grid { draft.new.grid ≡ draft.old.grid }
+    ensures proper { IsProper (map_of draft.new) draft.new.table.rows (kept_at draft.new) }
+    ensures work { TakesWork draft.old.table draft.new.table
+        (work_bound (map_of draft.old)
+        (after (map_of draft.old) (Divide face chain.now strings.now parcel label.now source))) }
+{
+    is_work_in_range(&draft.table);
+    let Ok(kept) = kept_of(chain, strings, label) else {
+        return Err(Refusal::Memory);
+    };
+    let points = chain.as_slice();
+    let along = strings.as_slice();
+    let division = Division {
+        face,
+        chain: points,
+        strings: along,
+        parcel,
+        label,
+        source,
+    };
+    divide_recording(draft, &division, kept, touched)
 }

@@ -334,15 +334,17 @@ pub(crate) fn forward_enclose<T: Tally>(
     )
 }
 
-// What the record of an enclosure keeps of the edit.
+/// What the record of a division or an enclosure keeps of the edit: the points, strings and label
+/// that it gives.
 #[derive(Drop)]
-struct Kept {
-    points: Numbers<PointNo>,
-    strings: Numbers<StringNo>,
-    label: Label,
+pub(crate) struct Kept {
+    pub(crate) points: Numbers<PointNo>,
+    pub(crate) strings: Numbers<StringNo>,
+    pub(crate) label: Label,
 }
 
-fn kept_of(
+/// Copies of what an edit gives.
+pub(crate) fn kept_of(
     points: &Numbers<PointNo>,
     strings: &Numbers<StringNo>,
     label: &Label,

@@ -28,6 +28,10 @@ pub back_join-requires-clause-join : goal.back_join-requires-clause-join
 back_join-requires-clause-join g c =
     rw c.in-Join.is tt
 
+pub back_divide-requires-clause-division : goal.back_divide-requires-clause-division
+back_divide-requires-clause-division g c =
+    rw c.in-Divide.is tt
+
 pub back_enclose-requires-clause-given : goal.back_enclose-requires-clause-given
 back_enclose-requires-clause-given g c =
     let same = same-lists c.in-Enclose.face c.in-Enclose.parcel c.in-Enclose.label c.in-Enclose.source _ _ _ _ c.as_slice.ensures c.as_slice-in-Enclose.ensures in
@@ -50,7 +54,7 @@ returns-in-Enclose-clause-work g c =
 
 pub unmake_rows-requires-clause-alone : goal.unmake_rows-requires-clause-alone
 unmake_rows-requires-clause-alone g c =
-    rows-of c.args.change.now c.requires.place c.in_default.not-Split c.in_default.not-Join c.in_default.not-Enclose
+    rows-of c.args.change.now c.requires.place c.in_default.not-Split c.in_default.not-Join c.in_default.not-Enclose c.in_default.not-Divide
 
 pub unmake_rows-requires-clause-made : goal.unmake_rows-requires-clause-made
 unmake_rows-requires-clause-made g c =

@@ -41,6 +41,10 @@ pub returns-in-Join-clause-work : goal.returns-in-Join-clause-work
 returns-in-Join-clause-work g c =
     rw c.in-Join.is c.forward_join.ensures.work
 
+pub forward_divide-requires-clause-division : goal.forward_divide-requires-clause-division
+forward_divide-requires-clause-division g c =
+    rw c.in-Divide.is tt
+
 pub forward_enclose-requires-clause-tried : goal.forward_enclose-requires-clause-tried
 forward_enclose-requires-clause-tried g c =
     let m = map_of c.args.draft.now in
@@ -58,7 +62,7 @@ returns-in-Enclose-clause-work g c =
 
 pub remake_rows-requires-clause-alone : goal.remake_rows-requires-clause-alone
 remake_rows-requires-clause-alone g c =
-    rows-of c.args.change.now c.requires.place c.in_default.not-Split c.in_default.not-Join c.in_default.not-Enclose
+    rows-of c.args.change.now c.requires.place c.in_default.not-Split c.in_default.not-Join c.in_default.not-Enclose c.in_default.not-Divide
 
 pub remake_rows-requires-clause-made : goal.remake_rows-requires-clause-made
 remake_rows-requires-clause-made g c =

@@ -124,9 +124,37 @@ pub returns-in-Enclose-clause-work : goal.returns-in-Enclose-clause-work
 returns-in-Enclose-clause-work g c =
     rw c.in-Enclose.is c.try_enclose.ensures.work
 
+pub try_divide-requires-clause-tried : goal.try_divide-requires-clause-tried
+try_divide-requires-clause-tried g c =
+    rw c.in-Divide.is at c.requires.tried
+
+pub try_divide-requires-clause-held : goal.try_divide-requires-clause-held
+try_divide-requires-clause-held g c =
+    rw c.in-Divide.is at c.requires.held
+
+pub try_divide-requires-clause-touched : goal.try_divide-requires-clause-touched
+try_divide-requires-clause-touched g c =
+    rw c.in-Divide.is at c.requires.touched
+
+pub returns-in-Divide-clause-made : goal.returns-in-Divide-clause-made
+returns-in-Divide-clause-made g c =
+    rw c.in-Divide.is c.try_divide.ensures.made
+
+pub returns-in-Divide-clause-edit : goal.returns-in-Divide-clause-edit
+returns-in-Divide-clause-edit g c =
+    rw c.in-Divide.is c.try_divide.ensures.edit
+
+pub returns-in-Divide-clause-refused : goal.returns-in-Divide-clause-refused
+returns-in-Divide-clause-refused g c =
+    rw c.in-Divide.is c.try_divide.ensures.refused
+
+pub returns-in-Divide-clause-work : goal.returns-in-Divide-clause-work
+returns-in-Divide-clause-work g c =
+    rw c.in-Divide.is c.try_divide.ensures.work
+
 pub try_rows-requires-clause-alone : goal.try_rows-requires-clause-alone
 try_rows-requires-clause-alone g c =
-    rows-left c.args.edit.now c.requires.place c.in_default.not-Split c.in_default.not-Join c.in_default.not-Enclose
+    rows-left c.args.edit.now c.requires.place c.in_default.not-Split c.in_default.not-Join c.in_default.not-Enclose c.in_default.not-Divide
 
 pub returns-in_default-clause-grid : goal.returns-in_default-clause-grid
 returns-in_default-clause-grid g c =

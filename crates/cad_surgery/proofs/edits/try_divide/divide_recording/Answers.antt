@@ -1,0 +1,30 @@
+use Rattle.std.proofs.Common.{◌∙◌, ap, sym, subst}
+use Rattle.cad_rows.specs.declared.edits.Edit.TheVariants.{Divide}
+use Rattle.cad_rows.specs.declared.names.Face.TheVariants.{Parcel}
+use Rattle.cad_map.specs.Effects.{after}
+use Rattle.cad_map.specs.Outcome.{out_of_memory}
+use Rattle.cad_surgery.specs.declared.edits.try_enclose.Kept.{Kept}
+use Rattle.edit_records.specs.declared.record.SmallRecord.{SmallRecord}
+use Rattle.edit_records.specs.HeldChains.{HeldChain}
+use Rattle.map_parts.specs.Parts.{FitTogether, map_of}
+use Rattle.edit_records.specs.Record.{edit_of, Holds}
+use Rattle.cad_surgery.proofs.HeldDivisions.{holds}
+use Rattle.cad_surgery.proofs.edits.try_divide.divide_recording.Goals as goal
+
+pub returns-in_default-clause-refused : goal.returns-in_default-clause-refused
+returns-in_default-clause-refused g c = out_of_memory c.requires.tried.allowed
+
+pub returns-clause-edit : goal.returns-clause-edit
+returns-clause-edit g c =
+    let e = c.args.division.now in
+    ap edit_of c.record_of_division.ensures
+    ∙ (λ i. Divide e.face (c.requires.kept i).points (c.requires.kept i).strings e.parcel (c.requires.kept i).label e.source)
+
+pub returns-clause-holds : goal.returns-clause-holds
+returns-clause-holds g c =
+    let e = c.args.division.now in
+    let m = map_of c.args.draft.now in
+    let found = c.in-Ok.coming.crossing in
+    subst (λ (r : SmallRecord). Holds r m) (sym c.record_of_division.ensures)
+    (subst (λ (k : Kept). HeldChain (after m (Divide e.face k.points k.strings e.parcel k.label e.source)) (Parcel e.parcel) k.points found.start found.end found.moved.items) (sym c.requires.kept)
+    (holds c.args.draft.now (subst FitTogether c.draft.view_is c.draft.invariant) c.requires.proper e c.requires.tried found.start found.end found.moved.items c.in-Ok.ensures.crossing))
