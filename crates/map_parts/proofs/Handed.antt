@@ -15,7 +15,7 @@ use Rattle.cad_map.specs.Boundaries.{face_place}
 use Rattle.half_table.specs.Rows.{HalfRows, has, face}
 use Rattle.half_paths.specs.Path.{AreIn}
 use Rattle.key_lists.specs.Held.{Held, items_at, capacity_at, HasRoomAt}
-use Rattle.map_parts.specs.Handing.{is_placed, HandsOver, KeepsBoth}
+use Rattle.map_parts.specs.Handing.{is_placed, HandsOver, KeepsBoth, KeepsOne}
 
 -- so far: what has gone, and the first halves that are left have another face
 pub record IsHanding (rows : HalfRows) (from to : ℕ) (old now : Held Half) (place step : ℕ) : Type 0 where
@@ -194,3 +194,19 @@ count-handed rows from to old new hands =
     let s = sym (length-append hands.gone (items_at new from)) ∙ length_permutation (items_at old from) (hands.gone ++ items_at new from) hands.split in
     let g = ap length hands.got ∙ length-append (items_at old to) hands.gone in
     omega (arith, s, g)
+
+-- one half more is kept only where another went
+pub one-few : (inner outer : ℕ) (half : Half) (old new : Held Half) → KeepsOne inner outer half old new
+    → length (items_at new inner) + length (items_at new outer) ≤ length (items_at old inner) + length (items_at old outer)
+one-few inner outer half old new one = by (items_at old inner) refl
+  where
+    by : (l : List Half) → items_at old inner ≡ l → length (items_at new inner) + length (items_at new outer) ≤ length (items_at old inner) + length (items_at old outer)
+    by [] is =
+        let gone = ap length one.gone in
+        let same = ap length (one.none is) in
+        omega (arith, gone, same)
+    by (h ∷ l) is =
+        let gone = ap length one.gone in
+        let more = ap length (one.some (λ none. let some = ap length (sym is ∙ none) in omega (arith, some))) ∙ length-append (items_at old outer) (half ∷ []) in
+        let long = ap length is in
+        omega (arith, gone, more, long)

@@ -56,3 +56,4 @@ pub mod ChainRoom
 pub mod DividingBegun
 pub mod SharedRows
 pub mod Merging
+pub mod MergingBegun

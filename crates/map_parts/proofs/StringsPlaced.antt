@@ -1,7 +1,8 @@
 -- Strings that go from the rows one after another, and the places that they leave.
-use Rattle.std.proofs.Common.{◌≡◌, ◌≢◌, ◌≤◌, ◌+◌, ℕ, refl, sym, ap, subst, ◌∙◌, List, [], ◌∷◌, ◌++◌, map, length, length-append, append-nil, not, ◌==◌, insert, slice_get, Some, None, inl, inr, arith}
+use Rattle.std.proofs.Common.{◌≡◌, ◌≢◌, ◌≤◌, ◌+◌, ℕ, zero, suc, Bool, true, false, refl, sym, ap, subst, ◌∙◌, List, [], ◌∷◌, ◌++◌, map, length, length-append, append-nil, not, ◌==◌, insert, slice_get, Some, None, inl, inr, arith}
 use Rattle.std.specs.Prelude.{IsPermutation}
 use Rattle.std.specs.List.{AllByRecursion}
+use Rattle.std.proofs.lemmas.Bool.{eqb-true}
 use Rattle.std.proofs.lemmas.Grind.{flat_map-append}
 use Rattle.std.proofs.lemmas.List.{map-append}
 use Rattle.std.proofs.lemmas.List.Sorted.{length_permutation}
@@ -11,7 +12,7 @@ use Rattle.cad_map.specs.Table.{row_with, without_row}
 use Rattle.cad_map.specs.Valid.{EachPair}
 use Rattle.cad_map.proofs.CallerLemmas.{All-follows, Contains-at, row-found}
 use Rattle.entry_list.specs.Slots.{HasSlot, KeepsSlots}
-use Rattle.key_lists.specs.Held.{Held, HasRoomAt, capacity_at}
+use Rattle.key_lists.specs.Held.{Held, items_at, HasRoomAt, capacity_at}
 use Rattle.map_parts.specs.declared.edits.placed_strings.PlacedString.{PlacedString}
 use Rattle.map_parts.specs.declared.map_rows.MapRows.{MapRows}
 use Rattle.map_parts.specs.declared.stars.Spoke.{Spoke}
@@ -19,7 +20,7 @@ use Rattle.map_parts.specs.PlacedStrings.{CanPutPlaced, numbers_placed, StoodIn}
 use Rattle.map_parts.specs.Rows.{rows_in}
 use Rattle.map_parts.specs.Splitting.{AreStarsOf}
 use Rattle.map_parts.specs.Stars.{spokes_of, spokes_at, AddsSpokes}
-use Rattle.map_parts.specs.StringRows.{without_rows}
+use Rattle.map_parts.specs.StringRows.{HasRoomFor, without_rows}
 use Rattle.map_parts.proofs.Passing.SplitBetween.{row-first}
 use Rattle.map_parts.proofs.Passing.SplitUndone.{insert-back, none-without}
 use Rattle.map_parts.proofs.Passing.StarsChanged.{stars-with, room-after_put, length-spokes_at}
@@ -51,6 +52,59 @@ pub numbers-more : (gone : List PlacedString) (g : PlacedString) (rest : List �
     → numbers_placed (gone ++ g ∷ []) ++ rest ≡ numbers_placed gone ++ g.row.number ∷ rest
 numbers-more [] g rest = refl
 numbers-more (k ∷ gone) g rest = λ i. k.row.number ∷ numbers-more gone g rest i
+
+-- each star has the last one's halves more
+long-at : (gone : List PlacedString) (g : PlacedString) (p : ℕ) → length (spokes_at p (map (λ (q : PlacedString). q.row) (gone ++ g ∷ [])))
+    ≡ length (spokes_at p (map (λ (q : PlacedString). q.row) gone)) + length (spokes_of p g.row)
+long-at gone g p =
+    ap (λ (l : List StringRow). length (spokes_at p l)) (map-append (λ (q : PlacedString). q.row) gone (g ∷ []))
+    ∙ ap length (flat_map-append (spokes_of p) (map (λ (q : PlacedString). q.row) gone) (g.row ∷ []))
+    ∙ length-append (spokes_at p (map (λ (q : PlacedString). q.row) gone)) (spokes_at p (g.row ∷ []))
+    ∙ ap (λ (l : List Spoke). length (spokes_at p (map (λ (q : PlacedString). q.row) gone)) + length l) (append-nil (spokes_of p g.row))
+
+-- what goes leaves its room
+module _ (gone : List PlacedString) (g : PlacedString) (old new : Held Spoke)
+    (takes : (p : ℕ) → IsPermutation (items_at old p) (spokes_of p g.row ++ items_at new p))
+    (capacity : (p : ℕ) → capacity_at new p ≡ capacity_at old p) (from : HasRoomAt new g.row.from 1) (to : HasRoomAt new g.row.to 1)
+    (room : HasRoomFor (map (λ (q : PlacedString). q.row) gone) old) where
+  abbrev before : ℕ → ℕ
+  before p = length (spokes_at p (map (λ (q : PlacedString). q.row) gone))
+
+  fewer : (p : ℕ) → length (items_at old p) ≡ length (spokes_of p g.row) + length (items_at new p)
+  fewer p = sym (length_permutation (items_at old p) (spokes_of p g.row ++ items_at new p) (takes p)) ∙ length-append (spokes_of p g.row) (items_at new p)
+
+  -- the star had others that went, or none
+  with-others : (p : ℕ) → length (spokes_of p g.row) ≤ 1 → HasRoomAt new p 1 → HasRoomAt new p (before p + length (spokes_of p g.row))
+  with-others p one here = which (before p) refl
+    where
+      which : (n : ℕ) → before p ≡ n → HasRoomAt new p (before p + length (spokes_of p g.row))
+      which zero is = omega (arith, is, one, here)
+      which (suc n) is =
+          let had = room p (omega (arith, is)) in
+          let cap = capacity p in
+          let few = fewer p in
+          omega (arith, had, cap, few)
+
+  pub room-placed : HasRoomFor (map (λ (q : PlacedString). q.row) (gone ++ g ∷ [])) new
+  room-placed p some = by (g.row.from == p) (g.row.to == p) refl refl
+    where
+      all : HasRoomAt new p (before p + length (spokes_of p g.row)) → HasRoomAt new p (length (spokes_at p (map (λ (q : PlacedString). q.row) (gone ++ g ∷ []))))
+      all had = let l = long-at gone g p in omega (arith, had, l)
+
+      by : (s t : Bool) → (g.row.from == p) ≡ s → (g.row.to == p) ≡ t → HasRoomAt new p (length (spokes_at p (map (λ (q : PlacedString). q.row) (gone ++ g ∷ []))))
+      by true t is_from is_to =
+          let one : length (spokes_of p g.row) ≤ 1 = rw is_from (omega arith) in
+          all (with-others p one (subst (λ (n : ℕ). HasRoomAt new n 1) (eqb-true g.row.from p is_from) from))
+      by false true is_from is_to =
+          let one : length (spokes_of p g.row) ≤ 1 = rw (is_from, is_to) (omega arith) in
+          all (with-others p one (subst (λ (n : ℕ). HasRoomAt new n 1) (eqb-true g.row.to p is_to) to))
+      by false false is_from is_to =
+          let none : length (spokes_of p g.row) ≡ 0 = rw (is_from, is_to) refl in
+          let l = long-at gone g p in
+          let had = room p (omega (arith, some, l, none)) in
+          let cap = capacity p in
+          let few = fewer p in
+          all (omega (arith, had, cap, few, none))
 
 -- ---- Back in their places
 
@@ -114,17 +168,9 @@ module _ (gone : List PlacedString) (g : PlacedString) (rows : MapRows) (stars :
   pub put-slot : HasSlot rows.strings g.row.number
   put-slot = (all-both (λ (q : PlacedString). HasSlot rows.strings q.row.number) gone g can.slots).1
 
-  long-at : (p : ℕ) → length (spokes_at p (map (λ (q : PlacedString). q.row) (gone ++ g ∷ [])))
-      ≡ length (spokes_at p (map (λ (q : PlacedString). q.row) gone)) + length (spokes_of p g.row)
-  long-at p =
-      ap (λ (l : List StringRow). length (spokes_at p l)) (map-append (λ (q : PlacedString). q.row) gone (g ∷ []))
-      ∙ ap length (flat_map-append (spokes_of p) (map (λ (q : PlacedString). q.row) gone) (g.row ∷ []))
-      ∙ length-append (spokes_at p (map (λ (q : PlacedString). q.row) gone)) (spokes_at p (g.row ∷ []))
-      ∙ ap (λ (l : List Spoke). length (spokes_at p (map (λ (q : PlacedString). q.row) gone)) + length l) (append-nil (spokes_of p g.row))
-
   room-for : (p : ℕ) → length (spokes_of p g.row) ≡ 1 → HasRoomAt stars p 1
   room-for p one =
-      let long = long-at p in
+      let long = long-at gone g p in
       let room = can.room p (omega (arith, long, one)) in
       omega (arith, long, one, room)
 
@@ -149,7 +195,7 @@ module _ (gone : List PlacedString) (g : PlacedString) (rows : MapRows) (stars :
         (all-both (λ (q : PlacedString). HasSlot rows.strings q.row.number) gone g can.slots).0;
     two = (all-both (λ (q : PlacedString). q.row.from ≢ q.row.to) gone g can.two).0;
     room = λ p some.
-        let long = long-at p in
+        let long = long-at gone g p in
         let room = can.room p (omega (arith, long, some)) in
         room-after_put g.row stars wide p (length (spokes_at p (map (λ (q : PlacedString). q.row) gone))) adds (capacity p)
         (omega (arith, long, room));

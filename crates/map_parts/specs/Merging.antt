@@ -81,6 +81,17 @@ pub record CanMerge (keeper : Face) (ended : ℕ) (strings : List ℕ) (path mov
   pub inner_room : HasRoomAt held (face_place (Parcel ended)) (length (items_at held (face_place keeper)))
   pub outer_room : HasRoomAt held (face_place keeper) (length (items_at held (face_place (Parcel ended))) + 1)
 
+-- The merger is tried: the halves of the path lead along the chain, and those of the ended parcel's
+-- rings that pass over are at hand.
+pub record CanBeginMerge (keeper : Face) (ended : ℕ) (strings : List ℕ) (path moved : List Half)
+    (rows : MapRows) (table : HalfRows) (held : Held Half) (stars : Held Spoke) : Type 0 where
+  pub map : Map
+  pub is : IsMerging map keeper ended path
+  pub strings_are : strings ≡ strings_of path
+  pub fits : FitMap map rows table held stars
+  pub leads : AreAlong table path (sides_of_chain (shared_chain is))
+  pub moved_are : AreOfRings map table moved (Parcel ended) (rings_past is)
+
 -- the rows of strings that went
 abbrev pub rows_gone : List PlacedString → List StringRow
 rows_gone gone = map (λ (g : PlacedString). g.row) gone

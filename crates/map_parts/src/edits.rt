@@ -16,6 +16,7 @@ pub(crate) mod join_tried;
 pub(crate) mod kept_places;
 pub(crate) mod labels;
 pub(crate) mod merging;
+pub(crate) mod merging_tried;
 pub(crate) mod passing;
 pub(crate) mod placed_strings;
 pub(crate) mod points;

@@ -254,6 +254,10 @@ pub(crate) fn take_across<T: Tally>(
         + (length (cycle table.old.rows first.now) + (length rest.now + 2)
         + (2 + 2 * length rest.now)))
         table.old.work }
+    ensures few { length (items_at kept.new (face_place_of inner.now))
+        + length (items_at kept.new (face_place_of outer.now))
+        ≤ length (items_at kept.old (face_place_of inner.now))
+        + length (items_at kept.old (face_place_of outer.now)) }
     ensures capacity { (n : ℕ) → capacity_at kept.new n ≡ capacity_at kept.old n }
 {
     relabel_each(table, moved, outer);

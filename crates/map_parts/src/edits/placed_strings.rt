@@ -9,7 +9,7 @@ ghost use Rattle.cad_rows.specs.declared.rows.StringRow.{StringRow as StringRowO
 ghost use Rattle.cad_map.specs.Valid.{EachPair};
 ghost use Rattle.map_parts.specs.PlacedStrings.{CanPutPlaced, numbers_placed, StoodIn};
 ghost use Rattle.map_parts.specs.Splitting.{AreStarsOf};
-ghost use Rattle.map_parts.specs.StringRows.{CanTakeStrings, without_rows};
+ghost use Rattle.map_parts.specs.StringRows.{CanTakeStrings, HasRoomFor, without_rows};
 
 use crate::edits::spokes::{put_spokes, take_spokes};
 use crate::map_rows::MapRows;
@@ -42,6 +42,7 @@ pub(crate) fn take_placed(
     ensures slots { KeepsSlots rows.old.strings rows.new.strings }
     ensures parcels { KeepsSlots rows.old.parcels rows.new.parcels }
     ensures capacity { (p : ℕ) → capacity_at stars.new p ≡ capacity_at stars.old p }
+    ensures room { HasRoomFor (map (λ g. g.row) gone.new.items) stars.new }
     ensures numbers { numbers_placed gone.new.items ≡ strings.now }
     ensures stood { StoodIn (map_in rows.old).strings gone.new.items }
     ensures kept { AllByRecursion (λ g. HasSlot rows.new.strings g.row.number) gone.new.items }

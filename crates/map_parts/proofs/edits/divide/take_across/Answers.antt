@@ -15,7 +15,7 @@ use Rattle.map_parts.specs.Handing.{KeepsOne}
 use Rattle.map_parts.specs.Relabelled.{on_cycles, cycles_length}
 use Rattle.map_parts.proofs.KeptShown.{local-kept}
 use Rattle.map_parts.proofs.RelabelledEach.{cycle-same, in-relabelled}
-use Rattle.map_parts.proofs.Handed.{in-handed}
+use Rattle.map_parts.proofs.Handed.{in-handed, count-handed, one-few}
 use Rattle.map_parts.proofs.KeptIsland.{items-of, put-capacity, room-handed}
 use Rattle.map_parts.proofs.IslandFits.{side-same, along-same}
 use Rattle.map_parts.proofs.ChainGone.{fits-cut, start-on, chain-gone}
@@ -96,6 +96,19 @@ returns-clause-has g c = λ h. c.take_left.ensures.has h ∙ c.relabel_each.ensu
 
 pub returns-clause-origin : goal.returns-clause-origin
 returns-clause-origin g c = λ h. c.take_left.ensures.origin h ∙ c.relabel_each.ensures.relabels.origin h
+
+pub returns-clause-few : goal.returns-clause-few
+returns-clause-few g c =
+    let outer : ℕ = face_place c.args.outer.now in
+    let inner : ℕ = face_place c.args.inner.now in
+    let key = c.face_place.ensures in
+    let away : ¬ (c.face_place.result ≡ outer) = λ e. c.requires.faces (sym (sym key ∙ e)) in
+    let items = ap length (items-of c.face_place.result outer c.hand_over.new.kept c.clear.new.kept c.clear.ensures.others away) in
+    let gone = ap length (subst (λ (k : ℕ). items_at c.clear.new.kept k ≡ []) key c.clear.ensures.none) in
+    let count = count-handed c.relabel_each.new.table.rows inner outer c.args.kept.now c.hand_over.new.kept c.hand_over.ensures.hands in
+    let again = count-handed c.take_left.new.table.rows outer inner c.clear.new.kept c.hand_over-2.new.kept c.hand_over-2.ensures.hands in
+    let one = one-few inner outer c.next-start.result c.hand_over-2.new.kept c.keep_one.new.kept c.keep_one.ensures.one in
+    omega (arith, items, gone, count, again, one)
 
 pub returns-clause-capacity : goal.returns-clause-capacity
 returns-clause-capacity g c = λ n.

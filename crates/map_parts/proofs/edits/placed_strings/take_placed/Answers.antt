@@ -1,4 +1,4 @@
-use Rattle.std.proofs.Common.{◌≡◌, ◌∷◌, [], ◌++◌, ℕ, ◌+◌, List, drop, Some, refl, sym, ap, subst, ◌∙◌, append-nil, length, slice_get, arith}
+use Rattle.std.proofs.Common.{◌≡◌, ◌∷◌, [], ◌++◌, ℕ, ◌+◌, List, drop, Some, refl, sym, ap, subst, ◌∙◌, append-nil, length, map, slice_get, arith}
 use Rattle.std.specs.Prelude.{IsSome}
 use Rattle.std.specs.List.{AllByRecursion}
 use Rattle.std.proofs.lemmas.List.{drop_more, drop_all}
@@ -11,9 +11,9 @@ use Rattle.map_parts.specs.declared.edits.placed_strings.PlacedString.{PlacedStr
 use Rattle.map_parts.specs.declared.map_rows.MapRows.{MapRows}
 use Rattle.map_parts.specs.PlacedStrings.{numbers_placed, StoodIn}
 use Rattle.map_parts.specs.Rows.{map_in, rows_in}
-use Rattle.map_parts.specs.StringRows.{CanTakeStrings, without_rows}
+use Rattle.map_parts.specs.StringRows.{CanTakeStrings, HasRoomFor, without_rows}
 use Rattle.map_parts.proofs.StringRowsPut as put
-use Rattle.map_parts.proofs.StringsPlaced.{without-last_of, stood-more, numbers-more}
+use Rattle.map_parts.proofs.StringsPlaced.{without-last_of, stood-more, numbers-more, room-placed}
 use Rattle.map_parts.proofs.edits.placed_strings.take_placed.Goals as goal
 
 pub loop-string-init : goal.loop-string-init
@@ -26,6 +26,7 @@ loop-string-init c =
       slots = λ n h. h;
       parcels = λ n h. h;
       capacity = λ p. refl;
+      star_room = subst (λ (l : List PlacedString). HasRoomFor (map (λ (q : PlacedString). q.row) l) c.args.stars.now) (sym none) (λ p some. absurd (omega (arith, some)));
       numbers = ap (λ (l : List PlacedString). numbers_placed l ++ c.args.strings.now) none;
       stood = subst (λ (l : List PlacedString). StoodIn (rows_in c.args.rows.now.strings) l) (sym none) tt;
       kept = subst (AllByRecursion (λ (q : PlacedString). HasSlot c.args.rows.now.strings q.row.number)) (sym none) tt;
@@ -99,6 +100,10 @@ loop-string-preserved c =
       slots = λ k h. c.take_there-place.ensures.slots k (was.slots k h);
       parcels = was.parcels;
       capacity = λ p. c.take_spokes.ensures.capacity p ∙ was.capacity p;
+      star_room =
+          subst (λ (l : List PlacedString). HasRoomFor (map (λ (q : PlacedString). q.row) l) c.take_spokes.new.stars) (sym pushed)
+          (room-placed c.loop-string.gone.items g c.loop-string.stars c.take_spokes.new.stars c.take_spokes.ensures.takes c.take_spokes.ensures.capacity
+          c.take_spokes.ensures.room_from c.take_spokes.ensures.room_to was.star_room);
       numbers =
           ap (λ (l : List PlacedString). numbers_placed l ++ tail) pushed
           ∙ numbers-more c.loop-string.gone.items g tail
@@ -138,6 +143,7 @@ returns c =
       slots = was.slots;
       parcels = was.parcels;
       capacity = was.capacity;
+      room = was.star_room;
       numbers = all;
       stood = was.stood;
       kept = was.kept;

@@ -1,11 +1,11 @@
-use Rattle.std.proofs.Common.{◌≡◌, ◌≤◌, ◌+◌, ◌++◌, ℕ, drop, length}
+use Rattle.std.proofs.Common.{◌≡◌, ◌≤◌, ◌+◌, ◌++◌, ℕ, drop, length, map}
 use Rattle.std.specs.List.{AllByRecursion}
 use Rattle.std.specs.Vec.{vec_len, vec_capacity}
 use Rattle.entry_list.specs.Slots.{HasSlot, KeepsSlots}
 use Rattle.key_lists.specs.Held.{capacity_at}
 use Rattle.map_parts.specs.Rows.{map_in, rows_in}
 use Rattle.map_parts.specs.PlacedStrings.{numbers_placed, StoodIn}
-use Rattle.map_parts.specs.StringRows.{CanTakeStrings, without_rows}
+use Rattle.map_parts.specs.StringRows.{CanTakeStrings, HasRoomFor, without_rows}
 use Rattle.map_parts.proofs.edits.placed_strings.take_placed.Given as goal
 
 -- those that went are listed, and the others can go
@@ -17,6 +17,7 @@ invariant-loop-string l = record {
   slots : KeepsSlots l.initial.rows.strings l.rows.strings;
   parcels : KeepsSlots l.initial.rows.parcels l.rows.parcels;
   capacity : (p : ℕ) → capacity_at l.stars p ≡ capacity_at l.initial.stars p;
+  star_room : HasRoomFor (map (λ g. g.row) l.gone.items) l.stars;
   numbers : numbers_placed l.gone.items ++ drop l.string-index l.strings ≡ l.strings;
   stood : StoodIn (rows_in l.initial.rows.strings) l.gone.items;
   kept : AllByRecursion (λ g. HasSlot l.rows.strings g.row.number) l.gone.items;

@@ -1,0 +1,117 @@
+//! A merger along a chain with the room that it takes: made, and taken back.
+ghost use Rattle.std.specs.Prelude.{◌≡◌, ◌≢◌, ◌+◌, ◌*◌, ◌∷◌, ℕ, Some, length, slice_get};
+ghost use Rattle.std.specs.Prelude.{IfOk, OnOk, OnErr};
+ghost use Rattle.cad_map.specs.Boundaries.{face_place as face_place_of};
+ghost use Rattle.cad_map.specs.Chain.{leaving};
+ghost use Rattle.cad_map.specs.Map.{parcel_of};
+ghost use Rattle.cad_rows.specs.declared.names.Face.TheVariants.{Parcel};
+ghost use Rattle.half_table.specs.declared.half.Half.{Half as HalfOf};
+ghost use Rattle.half_table.specs.Count.{ticked};
+ghost use Rattle.half_table.specs.Rows.{next, has, origin_of, cycle};
+ghost use Rattle.half_paths.specs.Loose.{AreLoose};
+ghost use Rattle.key_lists.specs.Held.{items_at, HasRoomAt, IsSame};
+ghost use Rattle.map_parts.specs.Labels.{IsAlong};
+ghost use Rattle.map_parts.specs.Merging.{CanBeginMerge, CanUnmerge, merged};
+ghost use Rattle.map_parts.specs.Merging.{first_corner, last_corner};
+ghost use Rattle.map_parts.specs.PlacedStrings.{numbers_placed, StoodIn};
+ghost use Rattle.map_parts.specs.Relabelled.{cycles_length};
+ghost use Rattle.map_parts.specs.Rows.{map_in};
+ghost use Rattle.map_parts.specs.Splitting.{FitMap};
+
+use crate::edits::merging::merge_along;
+use crate::edits::placed_strings::PlacedString;
+use crate::kept::face_place;
+use crate::map_rows::MapRows;
+use crate::stars::Spoke;
+use cad_rows::{Face, Memory, ParcelNo, ParcelRow, StringNo};
+use half_table::{Half, HalfTable, Tally};
+use key_lists::KeyLists;
+
+/// What goes by a merger: the ended parcel's row and its place, and the strings with theirs.
+#[derive(Debug, Drop)]
+pub struct EndedParcel {
+    pub row: ParcelRow,
+    pub place: usize,
+    pub strings: Vec<PlacedString>,
+}
+
+// Sees that the halves that are kept for a face and for a parcel, and one more, can be kept for
+// either without memory.
+fn make_merge_room(kept: &mut KeyLists<Half>, face: &Face, parcel: ParcelNo) -> Result<(), Memory>
+    requires { face_place_of face.now ≢ face_place_of (Parcel parcel) }
+    ensures same { IsSame kept.old kept.new }
+    ensures inner { OnOk result (HasRoomAt kept.new (face_place_of (Parcel parcel))
+        (length (items_at kept.new (face_place_of face.now)) + 1)) }
+    ensures outer { OnOk result (HasRoomAt kept.new (face_place_of face.now)
+        (length (items_at kept.new (face_place_of (Parcel parcel))) + 1)) }
+{
+    let outer = face_place(*face);
+    let inner = face_place(Face::Parcel(parcel));
+    let more = kept.at(outer).len();
+    kept.reserve(inner, more + 1)?;
+    let more = kept.at(inner).len();
+    kept.reserve(outer, more + 1)?;
+    Ok(())
+}
+
+/// Merges a parcel into a face along the chain of strings that they share, with the room that it
+/// takes. The strings stay in the table, loose. All that goes is given, and can come back without
+/// memory, with the halves that follow the chain's two ends.
+///
+/// # Errors
+///
+/// Where memory runs out the map stays, and so does the table.
+pub fn begin_merge_along<T: Tally>(
+    rows: &mut MapRows,
+    table: &mut HalfTable<T>,
+    kept: &mut KeyLists<Half>,
+    stars: &mut KeyLists<Spoke>,
+    keeper: &Face,
+    ended: ParcelNo,
+    strings: &[StringNo],
+    first: &Half,
+    rest: &[Half],
+    moved: &[Half],
+) -> Result<EndedParcel, Memory>
+    requires { CanBeginMerge keeper.now ended strings.now (first.now ∷ rest.now) moved.now
+        rows.old table.old.rows kept.old stars.old }
+    ensures fits { (can : CanBeginMerge keeper.now ended strings.now (first.now ∷ rest.now) moved.now
+        rows.old table.old.rows kept.old stars.old)
+        → OnOk result (FitMap (merged can.is) rows.new table.new.rows kept.new stars.new) }
+    ensures err { (can : CanBeginMerge keeper.now ended strings.now (first.now ∷ rest.now) moved.now
+        rows.old table.old.rows kept.old stars.old)
+        → OnErr result (FitMap can.map rows.new table.new.rows kept.new stars.new) }
+    ensures err_table { OnErr result (table.new ≡ table.old) }
+
+    // It can be taken back.
+    ensures back { (can : CanBeginMerge keeper.now ended strings.now (first.now ∷ rest.now) moved.now
+        rows.old table.old.rows kept.old stars.old) → (start end : HalfOf)
+        → IsAlong (merged can.is) table.old.rows (leaving (first_corner can.is)) start
+        → IsAlong (merged can.is) table.old.rows (leaving (last_corner can.is)) end
+        → IfOk result (λ r. (undo : CanUnmerge keeper.now r.row r.place (first.now ∷ rest.now) start
+        end moved.now r.strings.items rows.new table.new.rows kept.new stars.new)
+        × (undo.map ≡ can.map)) }
+
+    ensures row { IfOk result (λ r. slice_get (map_in rows.old).parcels r.place ≡ Some r.row) }
+    ensures found { IfOk result (λ r. parcel_of (map_in rows.old) ended ≡ Some r.row) }
+    ensures numbers { IfOk result (λ r. numbers_placed r.strings.items ≡ strings.now) }
+    ensures stood { IfOk result (λ r. StoodIn (map_in rows.old).strings r.strings.items) }
+    ensures loose { OnOk result (AreLoose (next table.new.rows) (first.now ∷ rest.now)) }
+    ensures has { (h : HalfOf) → has table.new.rows h ≡ has table.old.rows h }
+    ensures origin { (h : HalfOf) → origin_of table.new.rows h ≡ origin_of table.old.rows h }
+    ensures work { OnOk result (table.new.work ≡ ticked (cycles_length table.old.rows moved.now
+        + (length (cycle table.old.rows first.now) + (length rest.now + 2)
+        + (2 + 2 * length rest.now))) table.old.work) }
+{
+    rows.retired.keep_slot(ended.get())?;
+    make_merge_room(kept, keeper, ended)?;
+    let mut gone = Vec::with_capacity(rows.parcels.allocator(), strings.len())?;
+    let (place, row) = merge_along(
+        rows, table, kept, stars, keeper, ended, strings, first, rest, moved, &mut gone,
+    );
+    Ok(EndedParcel {
+        row,
+        place,
+        strings: gone,
+    })
+}
