@@ -49,11 +49,14 @@ pub mod DividedChain
 pub mod ChainGone
 pub mod ReversedChain
 pub mod MergedChain
+pub mod MergedIsland
+pub mod SharedRows
+pub mod MergedRows
 pub mod ChainAcross
 pub mod AddedRows
 pub mod Dividing
 pub mod ChainRoom
 pub mod DividingBegun
-pub mod SharedRows
 pub mod Merging
 pub mod MergingBegun
+pub mod MergingIsland

@@ -1,18 +1,17 @@
 -- A merger along a chain, read from the map after it to the one before.
-use Rattle.std.proofs.Common.{◌≡◌, ◌≢◌, ◌⊎◌, ℕ, Bool, true, false, not, ◌==◌, List, [], ◌∷◌, ◌++◌, map, filter, reverse, length, refl, sym, ap, ◌∙◌, subst, inl, inr, true≢false}
-use Rattle.std.specs.Prelude.{IsPermutation, is_some, if◌then◌else◌}
+use Rattle.std.proofs.Common.{◌≡◌, ◌≢◌, ℕ, Bool, true, false, not, ◌==◌, List, [], ◌∷◌, ◌++◌, map, filter, refl, sym, ap, ◌∙◌, subst}
+use Rattle.std.specs.Prelude.{IsPermutation}
 use Rattle.std.specs.List.{Contains}
 use Rattle.std.proofs.lemmas.Bool.{eqb-true}
 use Rattle.std.proofs.lemmas.Cmp.{nat_eq_equiv}
-use Rattle.std.proofs.lemmas.List.Sorted.{IsPermutation-sym, IsPermutation-trans, IsPermutation-append, IsPermutation-append_comm, IsPermutation-middle}
+use Rattle.std.proofs.lemmas.List.Sorted.{IsPermutation-trans, IsPermutation-append, IsPermutation-append_comm, IsPermutation-middle}
 use Rattle.cad_rows.specs.declared.edits.Edit.TheVariants.{Merge}
 use Rattle.cad_rows.specs.declared.names.Face.{Face}
 use Rattle.cad_rows.specs.declared.names.Face.TheVariants.{Outside, Parcel}
 use Rattle.cad_rows.specs.declared.rows.ParcelRow.{ParcelRow}
-use Rattle.cad_rings.specs.Cycle.{Ring, Side, sides_of, opposite, Corner}
+use Rattle.cad_rings.specs.Cycle.{Ring, Side, sides_of, opposite}
 use Rattle.cad_rings.specs.Surgery.{both_ways, sides_of_chain, chain_from, joined}
 use Rattle.cad_rings.proofs.CallerLemmas.{sides_of-joined, sides_of-least_rotation}
-use Rattle.cad_map.specs.declared.boundary.Boundary.{Boundary}
 use Rattle.cad_map.specs.Boundaries.{is_face, bounding, canonical_form}
 use Rattle.cad_map.specs.Changes.{merge}
 use Rattle.cad_map.specs.Effects.{after}
@@ -21,12 +20,12 @@ use Rattle.cad_map.specs.Merger.{ChainInRings, shared_chains}
 use Rattle.cad_map.specs.Merger.ChainInRings.{along, around}
 use Rattle.cad_map.specs.Table.{without_row}
 use Rattle.cad_map.specs.Valid.{IsValid}
-use Rattle.cad_map.proofs.CallerLemmas.{IsAllowed, allowed, can-merge, faces-differ, IsFound, found, common-along, along-found, filter-Contains, Contains-filter}
+use Rattle.cad_map.proofs.CallerLemmas.{IsAllowed, allowed, can-merge, faces-differ, IsFound, found, common-along, along-found, Contains-filter}
 use Rattle.cad_laws.specs.Faces.{IsMergedIn}
 use Rattle.cad_laws.specs.Parting.{IsMergedBy, IsParted}
 use Rattle.cad_laws.specs.Tried.{IsTried}
 use Rattle.cad_laws.proofs.CallerLemmas.{merged-corners, merged-faces, of-parcels}
-use Rattle.map_parts.specs.Chains.{IsChainOf, IsTakenChain}
+use Rattle.map_parts.specs.Chains.{IsTakenChain}
 use Rattle.map_parts.specs.Handing.{HaveTwoFaces}
 use Rattle.map_parts.proofs.KeptHalves.{face-known}
 use Rattle.map_parts.proofs.KeptShown.{bare}
@@ -78,14 +77,15 @@ module _ (m a : Map) (valid : IsValid m) (kept ended : Face) (two : kept ≢ end
 
 -- ---- A merger that is tried
 
+pub faces-apart : (m : Map) (kept ended : Face) → IsTried m (Merge kept ended) → kept ≢ ended
+faces-apart m kept ended tried =
+    of-parcels m (λ k e. k ≢ e) (λ k e allow. faces-differ m k e tried.valid (can-merge m k e allow)) kept ended (allowed m (Merge kept ended) tried.allowed)
+
 pub merged-chain : (m : Map) (kept ended : Face) (n : ℕ) (k : Ring) (i : ℕ) (e : Ring) (j : ℕ) → IsTried m (Merge kept ended) → Contains (shared_chains m kept ended) (along n k i e j)
     → IsTakenChain m (after m (Merge kept ended)) kept ended n k i e j
 merged-chain m kept ended n k i e j tried there =
-    told m (after m (Merge kept ended)) tried.valid kept ended (two-faces m kept ended tried.valid (allowed m (Merge kept ended) tried.allowed)) (along n k i e j) (found m tried.valid kept ended (along n k i e j) there)
+    told m (after m (Merge kept ended)) tried.valid kept ended (faces-apart m kept ended tried) (along n k i e j) (found m tried.valid kept ended (along n k i e j) there)
     (merged-faces m kept ended (along n k i e j) tried.valid tried.allowed there) (merged-corners m kept ended (along n k i e j) tried.valid tried.allowed there)
-  where
-    two-faces : (m : Map) (kept ended : Face) → IsValid m → IsAllowed m (Merge kept ended) → kept ≢ ended
-    two-faces m kept ended valid free = of-parcels m (λ k e. k ≢ e) (λ k e allow. faces-differ m k e valid (can-merge m k e allow)) kept ended free
 
 -- the ended parcel is the one face more
 pub merged-face : (m : Map) (kept ended : Face) → IsTried m (Merge kept ended) → HaveTwoFaces (after m (Merge kept ended)) m kept ended × (has_face (after m (Merge kept ended)) ended ≡ false)

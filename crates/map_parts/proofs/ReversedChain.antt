@@ -1,15 +1,15 @@
 -- A chain that parts a map, from its other end.
-use Rattle.std.proofs.Common.{◌≡◌, ◌≢◌, ◌⊎◌, ℕ, List, [], ◌∷◌, ◌++◌, map, reverse, refl, sym, ap, ◌∙◌, subst, inl, inr}
+use Rattle.std.proofs.Common.{◌≡◌, ℕ, List, [], ◌∷◌, ◌++◌, map, reverse, refl, sym, ap, ◌∙◌, subst, inl, inr}
 use Rattle.std.specs.Prelude.{IsPermutation}
 use Rattle.std.specs.List.{Contains}
 use Rattle.std.proofs.lemmas.List.{reverse-append, reverse-reverse}
-use Rattle.std.proofs.lemmas.List.Sorted.{IsPermutation-refl, IsPermutation-sym, IsPermutation-trans, IsPermutation-map, IsPermutation-append, IsPermutation-append_comm, IsPermutation-reverse, Contains-permutation}
+use Rattle.std.proofs.lemmas.List.Sorted.{IsPermutation-sym, IsPermutation-trans, IsPermutation-map, IsPermutation-append, IsPermutation-append_comm, IsPermutation-reverse, Contains-permutation}
 use Rattle.cad_rings.specs.Cycle.{Side, opposite, Corner, corner_back}
 use Rattle.cad_rings.specs.Surgery.{corner, both_ways, sides_of_chain, corners_of_chain}
 use Rattle.cad_rings.proofs.CallerLemmas.{both_ways-apart, corners_of_chain-reverse}
 use Rattle.cad_map.specs.Chain.{start_of, next_of}
 use Rattle.cad_map.specs.Map.{Map}
-use Rattle.cad_map.proofs.CallerLemmas.{Contains-map, map-Contains, in_both_ways, of_both_ways}
+use Rattle.cad_map.proofs.CallerLemmas.{Contains-map}
 use Rattle.cad_laws.specs.Parting.{HasCorner, IsOn, IsParted}
 use Rattle.map_parts.proofs.CycleRings.{map-map}
 
@@ -34,31 +34,40 @@ side-turned points s there =
     subst (λ (l : List Side). Contains l (opposite s)) (sym (sides_of_chain-reverse points))
     (Contains-permutation turned (reverse turned) (opposite s) (IsPermutation-reverse turned) (Contains-map opposite (sides_of_chain points) s there))
 
--- both directions are the same sides
-pub both-turned : (points : List ℕ) → IsPermutation (both_ways (sides_of_chain (reverse points))) (both_ways (sides_of_chain points))
-both-turned points =
-    let xs = sides_of_chain points in
-    let ys = map opposite xs in
-    let zs = sides_of_chain (reverse points) in
-    let one : IsPermutation zs ys = subst (λ (l : List Side). IsPermutation l ys) (sym (sides_of_chain-reverse points)) (IsPermutation-sym ys (reverse ys) (IsPermutation-reverse ys)) in
-    let two : IsPermutation (map opposite zs) xs =
-    subst (IsPermutation (map opposite zs)) (map-map opposite opposite xs ∙ same xs) (IsPermutation-map opposite zs ys one) in
-    IsPermutation-trans (both_ways zs) (zs ++ map opposite zs) (both_ways xs) (both_ways-apart zs)
-    (IsPermutation-trans (zs ++ map opposite zs) (ys ++ xs) (both_ways xs) (IsPermutation-append zs ys (map opposite zs) xs one two)
-    (IsPermutation-trans (ys ++ xs) (xs ++ ys) (both_ways xs) (IsPermutation-append_comm ys xs) (IsPermutation-sym (both_ways xs) (xs ++ ys) (both_ways-apart xs))))
+-- sides and their opposite ones are the same, both ways
+pub both-opposite : (xs ys : List Side) → IsPermutation (map opposite xs) ys → IsPermutation (both_ways xs) (both_ways ys)
+both-opposite xs ys back =
+    let zs = map opposite ys in
+    let again : IsPermutation xs zs =
+    subst (λ (l : List Side). IsPermutation l zs) (map-map opposite opposite xs ∙ same xs) (IsPermutation-map opposite (map opposite xs) ys back) in
+    IsPermutation-trans (both_ways xs) (xs ++ map opposite xs) (both_ways ys) (both_ways-apart xs)
+    (IsPermutation-trans (xs ++ map opposite xs) (zs ++ ys) (both_ways ys) (IsPermutation-append xs zs (map opposite xs) ys again back)
+    (IsPermutation-trans (zs ++ ys) (ys ++ zs) (both_ways ys) (IsPermutation-append_comm zs ys) (IsPermutation-sym (both_ways ys) (ys ++ zs) (both_ways-apart ys))))
   where
     same : (xs : List Side) → map (λ s. opposite (opposite s)) xs ≡ xs
     same [] = refl
     same (s ∷ xs) = λ i. s ∷ same xs i
 
-on-turned : (points : List ℕ) (c : Corner) → IsOn (sides_of_chain points) c → IsOn (sides_of_chain (reverse points)) c
-on-turned points c on = elim on [
-  | inl a ↦ inl (there (c.before, c.at) a)
-  | inr b ↦ inr (there (c.at, c.after) b)
+-- both directions are the same sides
+pub both-turned : (points : List ℕ) → IsPermutation (both_ways (sides_of_chain (reverse points))) (both_ways (sides_of_chain points))
+both-turned points =
+    let xs = sides_of_chain points in
+    let zs = sides_of_chain (reverse points) in
+    IsPermutation-sym (both_ways xs) (both_ways zs)
+    (both-opposite xs zs (subst (IsPermutation (map opposite xs)) (sym (sides_of_chain-reverse points)) (IsPermutation-reverse (map opposite xs))))
+
+-- a corner on the one sides is on the other
+pub on-same : (xs ys : List Side) → IsPermutation (both_ways xs) (both_ways ys) → (c : Corner) → IsOn xs c → IsOn ys c
+on-same xs ys same c on = elim on [
+  | inl a ↦ inl (Contains-permutation (both_ways xs) (both_ways ys) (c.before, c.at) same a)
+  | inr b ↦ inr (Contains-permutation (both_ways xs) (both_ways ys) (c.at, c.after) same b)
 ]
-  where
-    there : (s : Side) → Contains (both_ways (sides_of_chain points)) s → Contains (both_ways (sides_of_chain (reverse points))) s
-    there s = Contains-permutation (both_ways (sides_of_chain points)) (both_ways (sides_of_chain (reverse points))) s (IsPermutation-sym (both_ways (sides_of_chain (reverse points))) (both_ways (sides_of_chain points)) (both-turned points))
+
+on-turned : (points : List ℕ) (c : Corner) → IsOn (sides_of_chain points) c → IsOn (sides_of_chain (reverse points)) c
+on-turned points c on =
+    let xs = sides_of_chain points in
+    let zs = sides_of_chain (reverse points) in
+    on-same xs zs (IsPermutation-sym (both_ways zs) (both_ways xs) (both-turned points)) c on
 
 -- the corners of the points backwards, in the other direction
 corner-turned : (points : List ℕ) (c : Corner) → Contains (corners_of_chain points) c → Contains (corners_of_chain (reverse points)) (corner_back c)

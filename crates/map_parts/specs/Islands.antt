@@ -4,6 +4,7 @@ use Rattle.std.specs.List.{AllByRecursion, Contains}
 use Rattle.cad_rows.specs.declared.names.Face.{Face}
 use Rattle.cad_rings.specs.Cycle.{Ring, opposite, sides_of}
 use Rattle.cad_map.specs.declared.boundary.Boundary.{Boundary}
+use Rattle.cad_map.specs.Boundaries.{bounding}
 use Rattle.cad_map.specs.Map.{Map}
 use Rattle.cad_map.specs.Merger.{handed_over}
 use Rattle.half_table.specs.declared.half.Half.{Half}
@@ -36,3 +37,9 @@ pub record IsIslandOf (whole parted : Map) (outer inner : Face) (ring : Ring) (l
   pub right_sides : IsPermutation (map opposite (sides_of ring)) (sides_of right.ring)
   pub were : IsPermutation parted.boundaries (left ∷ right ∷ others)
   pub are : IsPermutation (map (handed_over outer inner) others) whole.boundaries
+
+-- What a merger round an island takes out, read from the map after it to the one before: the ended
+-- face's ring leads round these points.
+abbrev pub IsTakenIsland : Map → Map → Face → Face → Ring → Ring → Ring → Type 0
+IsTakenIsland m after kept ended points k e =
+    (others : List Boundary) × IsIslandOf after m kept ended points (bounding ended e) (bounding kept k) others

@@ -21,3 +21,4 @@ pub mod Placed
 pub mod Enclosing
 pub mod Dividing
 pub mod Merging
+pub mod MergingIsland

@@ -17,6 +17,7 @@ pub(crate) mod kept_places;
 pub(crate) mod labels;
 pub(crate) mod merging;
 pub(crate) mod merging_tried;
+pub(crate) mod merging_island;
 pub(crate) mod passing;
 pub(crate) mod placed_strings;
 pub(crate) mod points;

@@ -1,9 +1,8 @@
-use Rattle.std.proofs.Common.{◌≡◌, ◌++◌, ◌∷◌, [], ℕ, List, ap, sym, subst, ◌∙◌, None, length, ◌≤◌}
+use Rattle.std.proofs.Common.{◌∷◌, ap, sym, subst, ◌∙◌, length, ◌≤◌}
 use Rattle.cad_map.specs.Map.{Map, parcel_of, is_retired}
-use Rattle.cad_rows.specs.declared.rows.StringRow.{StringRow}
 use Rattle.map_parts.specs.declared.map_rows.MapRows.{MapRows}
 use Rattle.map_parts.specs.Rows.{map_in}
-use Rattle.map_parts.specs.Splitting.{AreStarsOf}
+use Rattle.map_parts.proofs.MergedRows as rows_of
 use Rattle.map_parts.proofs.Merging as it
 use Rattle.map_parts.proofs.edits.merging.unmerge_along.Goals as goal
 
@@ -29,32 +28,34 @@ bring_across-requires g c =
 
 pub put_placed-requires : goal.put_placed-requires
 put_placed-requires g c =
-    it.back-put c.args.keeper.now c.args.row c.args.place c.args.first.now c.args.rest.now c.args.start.now c.args.end.now c.args.moved.now c.args.gone.now.items c.args.rows.now c.args.table.now.rows
-    c.args.kept.now c.args.stars.now c.requires
+    let can = c.requires in
+    rows_of.back-put can.map c.args.keeper.now c.args.row c.args.place (c.args.first.now ∷ c.args.rest.now) can.is.tried can.is.shared c.args.gone.now.items can.numbers_are can.stood
+    c.args.rows.now c.args.table.now.rows c.args.kept.now c.args.stars.now can.fits can.slots can.room
 
 pub unretire-requires : goal.unretire-requires
 unretire-requires g c =
+    let can = c.requires in
     let mid =
-    c.put_placed.ensures.rows c.requires.map.strings
-    (it.back-each c.args.keeper.now c.args.row c.args.place c.args.first.now c.args.rest.now c.args.start.now c.args.end.now c.args.moved.now c.args.gone.now.items c.args.rows.now c.args.table.now.rows
-    c.args.kept.now c.args.stars.now c.requires)
-    c.requires.stood
-    (it.back-left c.args.keeper.now c.args.row c.args.place c.args.first.now c.args.rest.now c.args.start.now c.args.end.now c.args.moved.now c.args.gone.now.items c.args.rows.now c.args.table.now.rows
-    c.args.kept.now c.args.stars.now c.requires) in
+    c.put_placed.ensures.rows can.map.strings
+    (rows_of.back-each can.map c.args.keeper.now c.args.row c.args.place (c.args.first.now ∷ c.args.rest.now) can.is.tried can.is.shared c.args.gone.now.items can.numbers_are can.stood
+    c.args.rows.now c.args.table.now.rows c.args.kept.now c.args.stars.now can.fits)
+    can.stood
+    (rows_of.back-left can.map c.args.keeper.now c.args.row c.args.place (c.args.first.now ∷ c.args.rest.now) can.is.tried can.is.shared c.args.gone.now.items can.numbers_are can.stood
+    c.args.rows.now c.args.table.now.rows c.args.kept.now c.args.stars.now can.fits) in
     record {
       absent =
           ap (λ (q : Map). parcel_of q c.args.row.number) mid
-          ∙ it.back-absent c.args.keeper.now c.args.row c.args.place c.args.first.now c.args.rest.now c.args.start.now c.args.end.now c.args.moved.now c.args.gone.now.items c.args.rows.now
-          c.args.table.now.rows c.args.kept.now c.args.stars.now c.requires;
+          ∙ rows_of.back-absent can.map c.args.keeper.now c.args.row c.args.place (c.args.first.now ∷ c.args.rest.now) can.is.tried can.is.shared c.args.gone.now.items can.numbers_are can.stood
+          c.args.rows.now c.args.table.now.rows c.args.kept.now c.args.stars.now can.fits;
       place =
           subst (λ (q : Map). c.args.place ≤ length q.parcels) (sym mid)
-          (it.back-place c.args.keeper.now c.args.row c.args.place c.args.first.now c.args.rest.now c.args.start.now c.args.end.now c.args.moved.now c.args.gone.now.items c.args.rows.now
-          c.args.table.now.rows c.args.kept.now c.args.stars.now c.requires);
-      slot = c.put_placed.ensures.parcels c.args.row.number c.requires.parcel_slot;
+          (rows_of.back-place can.map c.args.keeper.now c.args.row c.args.place (c.args.first.now ∷ c.args.rest.now) can.is.tried can.is.shared c.args.gone.now.items can.numbers_are can.stood
+          c.args.rows.now c.args.table.now.rows c.args.kept.now c.args.stars.now can.fits can.at);
+      slot = c.put_placed.ensures.parcels c.args.row.number can.parcel_slot;
       gone =
           ap (λ (q : Map). is_retired q c.args.row.number) mid
-          ∙ it.back-retired c.args.keeper.now c.args.row c.args.place c.args.first.now c.args.rest.now c.args.start.now c.args.end.now c.args.moved.now c.args.gone.now.items c.args.rows.now
-          c.args.table.now.rows c.args.kept.now c.args.stars.now c.requires;
+          ∙ rows_of.back-retired can.map c.args.keeper.now c.args.row c.args.place (c.args.first.now ∷ c.args.rest.now) can.is.tried can.is.shared c.args.gone.now.items can.numbers_are can.stood
+          c.args.rows.now c.args.table.now.rows c.args.kept.now c.args.stars.now can.fits;
     }
 
 pub returns-clause-fits : goal.returns-clause-fits
@@ -62,16 +63,16 @@ returns-clause-fits g c = λ can.
     let new : MapRows = c.unretire.new.rows in
     let mid =
     c.put_placed.ensures.rows can.map.strings
-    (it.back-each c.args.keeper.now c.args.row c.args.place c.args.first.now c.args.rest.now c.args.start.now c.args.end.now c.args.moved.now c.args.gone.now.items c.args.rows.now c.args.table.now.rows
-    c.args.kept.now c.args.stars.now can)
+    (rows_of.back-each can.map c.args.keeper.now c.args.row c.args.place (c.args.first.now ∷ c.args.rest.now) can.is.tried can.is.shared c.args.gone.now.items can.numbers_are can.stood
+    c.args.rows.now c.args.table.now.rows c.args.kept.now c.args.stars.now can.fits)
     can.stood
-    (it.back-left c.args.keeper.now c.args.row c.args.place c.args.first.now c.args.rest.now c.args.start.now c.args.end.now c.args.moved.now c.args.gone.now.items c.args.rows.now c.args.table.now.rows
-    c.args.kept.now c.args.stars.now can) in
+    (rows_of.back-left can.map c.args.keeper.now c.args.row c.args.place (c.args.first.now ∷ c.args.rest.now) can.is.tried can.is.shared c.args.gone.now.items can.numbers_are can.stood
+    c.args.rows.now c.args.table.now.rows c.args.kept.now c.args.stars.now can.fits) in
     let wide = c.bring_across.new.table.rows in
-    it.back-fits c.args.keeper.now c.args.row c.args.place c.args.first.now c.args.rest.now c.args.start.now c.args.end.now c.args.moved.now c.args.gone.now.items c.args.rows.now c.args.table.now.rows
-    c.args.kept.now c.args.stars.now can new wide c.bring_across.new.kept c.put_placed.new.stars
+    rows_of.back-fits can.map c.args.keeper.now c.args.row c.args.place (c.args.first.now ∷ c.args.rest.now) can.is.tried can.is.shared c.args.gone.now.items can.numbers_are can.stood
+    c.args.rows.now c.args.table.now.rows c.args.kept.now c.args.stars.now can.fits can.at new wide c.bring_across.new.kept c.put_placed.new.stars
     (it.back-table c.args.keeper.now c.args.row c.args.place c.args.first.now c.args.rest.now c.args.start.now c.args.end.now c.args.moved.now c.args.gone.now.items c.args.rows.now c.args.table.now.rows
     c.args.kept.now c.args.stars.now can wide c.bring_across.new.kept c.bring_across.ensures.chain)
     (map_in c.put_placed.new.rows) mid c.unretire.ensures.rows
-    (it.back-stars c.args.keeper.now c.args.row c.args.place c.args.first.now c.args.rest.now c.args.start.now c.args.end.now c.args.moved.now c.args.gone.now.items c.args.rows.now c.args.table.now.rows
-    c.args.kept.now c.args.stars.now can c.put_placed.new.rows c.put_placed.new.stars mid c.put_placed.ensures.stars)
+    (rows_of.back-stars can.map c.args.keeper.now c.args.row c.args.place (c.args.first.now ∷ c.args.rest.now) can.is.tried can.is.shared c.args.gone.now.items can.numbers_are can.stood
+    c.args.rows.now c.args.table.now.rows c.args.kept.now c.args.stars.now can.fits c.put_placed.new.rows c.put_placed.new.stars mid c.put_placed.ensures.stars)

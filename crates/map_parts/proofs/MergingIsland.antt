@@ -1,0 +1,179 @@
+-- A merger round an island on a map on half-edges that is made in place, and taken back.
+use Rattle.std.proofs.Common.{◌≡◌, ◌≢◌, ℕ, ◌≤◌, false, subst, List, ◌∷◌, length}
+use Rattle.std.specs.List.{AllByRecursion, Contains}
+use Rattle.std.proofs.lemmas.List.Sorted.{IsPermutation-sym, Contains-permutation}
+use Rattle.cad_rows.specs.declared.names.Face.{Face}
+use Rattle.cad_rows.specs.declared.names.Face.TheVariants.{Parcel}
+use Rattle.cad_rows.specs.declared.rows.ParcelRow.{ParcelRow}
+use Rattle.cad_rings.specs.Cycle.{Ring, sides_of}
+use Rattle.cad_rings.proofs.CallerLemmas.{IsSameRing-length}
+use Rattle.cad_map.specs.declared.boundary.Boundary.{Boundary}
+use Rattle.cad_map.specs.Boundaries.{face_place, bounding}
+use Rattle.cad_map.specs.Map.{Map, has_face}
+use Rattle.cad_map.specs.Rings.{HasWholeRings}
+use Rattle.cad_map.proofs.CallerLemmas.{All-from_each, All-at_each, Contains-first}
+use Rattle.half_table.specs.declared.half.Half.{Half}
+use Rattle.half_table.specs.Rows.{HalfRows, next}
+use Rattle.half_paths.specs.Path.{AreIn, AreDifferent}
+use Rattle.half_paths.specs.Round.{IsRound}
+use Rattle.key_lists.specs.Held.{Held, items_at}
+use Rattle.cad_laws.specs.Local.{IsShown}
+use Rattle.cad_laws.proofs.CallerLemmas.{two-sides}
+use Rattle.map_parts.specs.declared.edits.placed_strings.PlacedString.{PlacedString}
+use Rattle.map_parts.specs.declared.map_rows.MapRows.{MapRows}
+use Rattle.map_parts.specs.declared.stars.Spoke.{Spoke}
+use Rattle.map_parts.specs.Parts.{HasHalves}
+use Rattle.map_parts.specs.Paths.{AreAlong, HasStringsMore}
+use Rattle.map_parts.specs.Islands.{FitsTable, AreOfRings, IsIslandOf}
+use Rattle.map_parts.specs.Handing.{KeepsEach, HaveTwoFaces}
+use Rattle.map_parts.specs.MergingIsland.{IsMergingIsland, without_island, rings_apart, CanMergeIsland, CanUnmergeIsland}
+use Rattle.map_parts.proofs.AlongPaths.{ring-round}
+use Rattle.map_parts.proofs.EachFits as fits
+use Rattle.map_parts.proofs.IslandTable.{more-new}
+use Rattle.map_parts.proofs.MergedRows as rows_of
+
+module _ (m : Map) (keeper : Face) (ended : ℕ) (points : List ℕ) (path : List Half) (is : IsMergingIsland m keeper ended points path) where
+  pub island : IsIslandOf (without_island is) m keeper (Parcel ended) points (bounding (Parcel ended) is.ended_ring) (bounding keeper is.kept_ring) (rings_apart is)
+  island = is.taken.1
+
+  -- the ended ring is one of the map
+  pub ring-there : Contains m.boundaries (bounding (Parcel ended) is.ended_ring)
+  ring-there =
+      let left = bounding (Parcel ended) is.ended_ring in
+      let others = bounding keeper is.kept_ring ∷ rings_apart is in
+      Contains-permutation (left ∷ others) m.boundaries left (IsPermutation-sym m.boundaries (left ∷ others) island.were) (Contains-first left others)
+
+  pub long : 2 ≤ length points
+  long =
+      let two = All-at_each (λ b. 2 ≤ length b.ring) m.boundaries (bounding (Parcel ended) is.ended_ring) (two-sides m is.tried.valid) ring-there in
+      subst (λ (n : ℕ). 2 ≤ n) (IsSameRing-length points is.ended_ring is.leads) two
+
+-- ---- It is made
+
+module _ (keeper : Face) (ended : ℕ) (strings : List ℕ) (first : Half) (rest moved : List Half) (rows : MapRows) (table : HalfRows)
+    (held : Held Half) (stars : Held Spoke) (c : CanMergeIsland keeper ended strings (first ∷ rest) moved rows table held stars) where
+  abbrev m : Map
+  m = c.map
+
+  abbrev path : List Half
+  path = first ∷ rest
+
+  law : IsIslandOf (without_island c.is) m keeper (Parcel ended) c.points (bounding (Parcel ended) c.is.ended_ring) (bounding keeper c.is.kept_ring) (rings_apart c.is)
+  law = island m keeper ended c.points path c.is
+
+  whole_is : HasWholeRings m
+  whole_is = rows_of.whole m keeper ended path c.is.tried c.is.shared
+
+  table_is : FitsTable m table
+  table_is = fits.table-of m whole_is table held c.fits.fits
+
+  keeps : KeepsEach m table held
+  keeps = fits.each-of m whole_is table held stars c.fits.are_stars c.fits.fits
+
+  more_is : HasStringsMore (without_island c.is) m path
+  more_is = rows_of.more m keeper ended path c.is.tried c.is.shared
+
+  pub made-within : AreIn table path
+  made-within = rows_of.within m keeper ended path c.is.tried c.is.shared table table_is.ends
+
+  pub made-different : AreDifferent path
+  made-different = rows_of.different m keeper ended path c.is.tried c.is.shared
+
+  pub made-round : IsRound (next table) first rest
+  made-round =
+      ring-round m whole_is table c.fits.fits.local first rest c.points (long m keeper ended c.points path c.is) c.along
+      (All-from_each (IsShown m) path (λ h among. more-new (without_island c.is) m path more_is h among)) law.corners.along law.corners.back
+
+  pub made-moved : AreIn table moved
+  made-moved = rows_of.moved-in m keeper ended path c.is.tried c.is.shared (rings_apart c.is) table table_is.ends moved c.moved_are
+
+  pub made-kept : (f : Face) → AreIn table (items_at held (face_place f))
+  made-kept f = fits.kept-in m whole_is table held table_is keeps f
+
+  pub made-differ : face_place keeper ≢ face_place (Parcel ended)
+  made-differ = rows_of.places-differ m keeper ended path c.is.tried c.is.shared
+
+  -- the table goes with the map after it
+  pub made-table : (wide : HalfRows) (put : Held Half)
+      → ((whole parted : Map) (ring : Ring) (left right : Boundary) (others : List Boundary)
+      → HasWholeRings whole → HasWholeRings parted → 2 ≤ length ring
+      → IsIslandOf whole parted keeper (Parcel ended) ring left right others
+      → HaveTwoFaces whole parted keeper (Parcel ended)
+      → HasStringsMore whole parted path
+      → AreAlong table path (sides_of ring)
+      → AllByRecursion (HasHalves table) whole.strings
+      → AreOfRings parted table moved (Parcel ended) others
+      → FitsTable parted table → KeepsEach parted table held
+      → FitsTable whole wide × KeepsEach whole wide put)
+      → FitsTable (without_island c.is) wide × KeepsEach (without_island c.is) wide put
+  made-table wide put takes =
+      takes (without_island c.is) m c.points (bounding (Parcel ended) c.is.ended_ring) (bounding keeper c.is.kept_ring) (rings_apart c.is)
+      (rows_of.parts m keeper ended path c.is.tried c.is.shared) whole_is (long m keeper ended c.points path c.is) law
+      (rows_of.two m keeper ended path c.is.tried c.is.shared) more_is c.along
+      (rows_of.ends-left m keeper ended path c.is.tried c.is.shared table table_is.ends) c.moved_are table_is keeps
+
+-- ---- It is taken back
+
+module _ (keeper : Face) (row : ParcelRow) (place : ℕ) (first : Half) (rest moved : List Half) (gone : List PlacedString) (rows : MapRows) (table : HalfRows)
+    (held : Held Half) (stars : Held Spoke) (c : CanUnmergeIsland keeper row place (first ∷ rest) moved gone rows table held stars) where
+  abbrev gone_path : List Half
+  gone_path = first ∷ rest
+
+  abbrev old : Map
+  old = c.map
+
+  abbrev last : Map
+  last = without_island c.is
+
+  abbrev gone_face : Face
+  gone_face = Parcel row.number
+
+  old_whole : HasWholeRings old
+  old_whole = rows_of.whole old keeper row.number gone_path c.is.tried c.is.shared
+
+  last_parts : HasWholeRings last
+  last_parts = rows_of.parts old keeper row.number gone_path c.is.tried c.is.shared
+
+  last_table : FitsTable last table
+  last_table = fits.table-of last last_parts table held c.fits.fits
+
+  last_keeps : KeepsEach last table held
+  last_keeps = fits.each-of last last_parts table held stars c.fits.are_stars c.fits.fits
+
+  -- the ends of all strings: of those that the two share too
+  back-ends : AllByRecursion (HasHalves table) old.strings
+  back-ends = rows_of.back-ends old keeper row place gone_path c.is.tried c.is.shared gone c.numbers_are c.stood rows table held stars c.fits last_table.ends c.there
+
+  pub back-within : AreIn table gone_path
+  back-within = rows_of.within old keeper row.number gone_path c.is.tried c.is.shared table back-ends
+
+  pub back-different : AreDifferent gone_path
+  back-different = rows_of.different old keeper row.number gone_path c.is.tried c.is.shared
+
+  pub back-moved : AreIn table moved
+  back-moved = rows_of.moved-in old keeper row.number gone_path c.is.tried c.is.shared (rings_apart c.is) table back-ends moved c.moved_are
+
+  pub back-kept : AreIn table (items_at held (face_place keeper))
+  back-kept = fits.kept-in last last_parts table held last_table last_keeps keeper
+
+  pub back-differ : face_place keeper ≢ face_place gone_face
+  back-differ = rows_of.places-differ old keeper row.number gone_path c.is.tried c.is.shared
+
+  -- the table goes with the map before it
+  pub back-table : (wide : HalfRows) (put : Held Half)
+      → ((whole parted : Map) (ring : Ring) (left right : Boundary) (others : List Boundary)
+      → HasWholeRings whole → HasWholeRings parted
+      → IsIslandOf whole parted keeper gone_face ring left right others
+      → HaveTwoFaces whole parted keeper gone_face → has_face whole gone_face ≡ false
+      → HasStringsMore whole parted gone_path
+      → AreAlong table gone_path (sides_of ring)
+      → AllByRecursion (HasHalves table) parted.strings
+      → AreOfRings parted table moved gone_face others
+      → FitsTable whole table → KeepsEach whole table held
+      → FitsTable parted wide × KeepsEach parted wide put)
+      → FitsTable old wide × KeepsEach old wide put
+  back-table wide put brings =
+      brings last old c.points (bounding gone_face c.is.ended_ring) (bounding keeper c.is.kept_ring) (rings_apart c.is)
+      last_parts old_whole (island old keeper row.number c.points gone_path c.is)
+      (rows_of.two old keeper row.number gone_path c.is.tried c.is.shared) (rows_of.none old keeper row.number gone_path c.is.tried c.is.shared)
+      (rows_of.more old keeper row.number gone_path c.is.tried c.is.shared) c.along back-ends c.moved_are last_table last_keeps
