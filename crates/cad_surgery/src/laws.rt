@@ -5,14 +5,14 @@ ghost use Rattle.cad_rows.specs.declared.edits.Edit.{Edit};
 ghost use Rattle.cad_rows.specs.declared.edits.Edit.TheVariants.{Divide, Merge, Enclose};
 ghost use Rattle.cad_rows.specs.declared.names.Face.{Face};
 ghost use Rattle.cad_rows.specs.declared.names.Face.TheVariants.{Parcel};
-ghost use Rattle.cad_rings.specs.Cycle.{Ring, Corner};
+ghost use Rattle.cad_rings.specs.Cycle.{Ring, Corner, IsSameRing};
 ghost use Rattle.cad_map.specs.declared.boundary.Boundary.{Boundary};
 ghost use Rattle.cad_map.specs.Boundaries.{bounding, canonical_form};
 ghost use Rattle.cad_map.specs.Division.{hole_placed};
 ghost use Rattle.cad_map.specs.Effects.{after};
 ghost use Rattle.cad_map.specs.Map.{Map, has_face};
 ghost use Rattle.cad_map.specs.Merger.{shared_chains};
-ghost use Rattle.cad_map.specs.Merger.ChainInRings.{along};
+ghost use Rattle.cad_map.specs.Merger.ChainInRings.{along, around};
 ghost use Rattle.cad_map.specs.Rings.{HasWholeRings};
 ghost use Rattle.cad_laws.specs.Faces.{IsDividedIn, left_of_chain, right_of_chain, uncut};
 ghost use Rattle.cad_laws.specs.Tried.{IsTried, AreChosen};
@@ -21,7 +21,7 @@ ghost use Rattle.map_parts.specs.Fits.{FitRings, HasSidesOnce, with_rings};
 ghost use Rattle.edit_records.specs.Exchanged.{IsExchange};
 ghost use Rattle.edit_records.specs.GridEdits.{gone_by, come_by};
 ghost use Rattle.map_parts.specs.Chains.{IsChainOf, IsTakenChain};
-ghost use Rattle.map_parts.specs.Islands.{IsIslandOf};
+ghost use Rattle.map_parts.specs.Islands.{IsIslandOf, IsTakenIsland};
 ghost use Rattle.map_parts.specs.Handing.{HaveTwoFaces};
 
 /// Where the parts go half by half with the rings of a map whose rings are whole, they stand for
@@ -92,4 +92,13 @@ pub fn mergers_take_chains()
     ensures faces { (m : Map) (kept ended : Face) → IsTried m (Merge kept ended)
         → HaveTwoFaces (after m (Merge kept ended)) m kept ended
         × (has_face (after m (Merge kept ended)) ended ≡ false) }
+{}
+
+/// A merger round an island that is tried takes the island out, whichever of the two parcels is
+/// inside the other: read from the map after it to the one before, a ring of the ended parcel comes
+/// into the kept one, and the same ring back is one of the kept parcel's.
+pub fn mergers_take_islands()
+    ensures { (m : Map) (kept ended : Face) (points k e : Ring) → IsTried m (Merge kept ended)
+        → Contains (shared_chains m kept ended) (around k e) → IsSameRing points e
+        → IsTakenIsland m (after m (Merge kept ended)) kept ended points k e }
 {}

@@ -14,5 +14,5 @@ pub use edit_records::{ChainString, SmallRecord, touched_by, weight};
 pub use half_map::HalfMap;
 pub use laws::{
     divisions_bring_chains, edits_exchange_entries, enclosures_bring_islands, halves_make_the_map,
-    mergers_take_chains, the_map_makes_halves,
+    mergers_take_chains, mergers_take_islands, the_map_makes_halves,
 };
