@@ -58,5 +58,6 @@ pub mod Dividing
 pub mod ChainRoom
 pub mod DividingBegun
 pub mod Merging
-pub mod MergingBegun
 pub mod MergingIsland
+pub mod MergingBegun
+pub mod MergingIslandBegun

@@ -27,7 +27,7 @@ use Rattle.map_parts.specs.Splitting.{FitMap}
 use Rattle.map_parts.specs.StringRows.{HasRoomFor}
 use Rattle.map_parts.proofs.EnclosingBegun.{fit-room}
 use Rattle.map_parts.proofs.IslandFits.{along-same, ends-same, of-same, side-same}
-use Rattle.map_parts.proofs.Merging.{places-differ, stood-there}
+use Rattle.map_parts.proofs.MergedRows.{places-differ, stood-there}
 
 module _ (keeper : Face) (ended : ℕ) (strings : List ℕ) (path moved : List Half) (rows : MapRows) (table : HalfRows) (held : Held Half) (stars : Held Spoke)
     (c : CanBeginMerge keeper ended strings path moved rows table held stars) where
@@ -40,7 +40,7 @@ module _ (keeper : Face) (ended : ℕ) (strings : List ℕ) (path moved : List H
   }
 
   pub begun-differ : face_place keeper ≢ face_place (Parcel ended)
-  begun-differ = places-differ c.map keeper ended path c.is
+  begun-differ = places-differ c.map keeper ended path c.is.tried c.is.shared
 
   abbrev pub begun-can : (more : MapRows) (wide : Held Half) → map_in more ≡ map_in rows → IsSame held wide → HasSlot more.retired ended
       → HasRoomAt wide (face_place (Parcel ended)) (length (items_at wide (face_place keeper)) + 1)

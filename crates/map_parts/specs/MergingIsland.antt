@@ -66,6 +66,18 @@ pub record CanMergeIsland (keeper : Face) (ended : ℕ) (strings : List ℕ) (pa
   pub inner_room : HasRoomAt held (face_place (Parcel ended)) (length (items_at held (face_place keeper)))
   pub outer_room : HasRoomAt held (face_place keeper) (length (items_at held (face_place (Parcel ended))))
 
+-- The merger is tried: the halves of the path lead round the points, and those of the ended parcel's
+-- rings that pass over are at hand.
+pub record CanBeginMergeIsland (keeper : Face) (ended : ℕ) (strings : List ℕ) (path moved : List Half)
+    (rows : MapRows) (table : HalfRows) (held : Held Half) (stars : Held Spoke) : Type 0 where
+  pub map : Map
+  pub points : List ℕ
+  pub is : IsMergingIsland map keeper ended points path
+  pub strings_are : strings ≡ strings_of path
+  pub fits : FitMap map rows table held stars
+  pub along : AreAlong table path (sides_of points)
+  pub moved_are : AreOfRings map table moved (Parcel ended) (rings_apart is)
+
 -- The map is that after a merger which was tried, and the rows that went are at hand with their
 -- places: the strings are in the table, loose, there is room for all that comes back, and the halves
 -- of the rings that pass over are at hand.

@@ -127,6 +127,11 @@ pub(crate) fn take_out<T: Tally>(
     ensures linked { IsLinked table.new.rows }
     ensures work { table.new.work ≡ ticked (cycles_length table.old.rows moved.now
         + (length (cycle table.old.rows (twin first.now)) + (length rest.now + 1))) table.old.work }
+    // No more halves are kept for the two faces together.
+    ensures few { length (items_at kept.new (face_place_of inner.now))
+        + length (items_at kept.new (face_place_of outer.now))
+        ≤ length (items_at kept.old (face_place_of inner.now))
+        + length (items_at kept.old (face_place_of outer.now)) }
     ensures capacity { (n : ℕ) → capacity_at kept.new n ≡ capacity_at kept.old n }
 {
     take_island(table, first, rest, outer, inner, moved);

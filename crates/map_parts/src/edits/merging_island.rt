@@ -3,19 +3,23 @@
 ghost use Rattle.std.specs.Prelude.{◌≡◌, ◌+◌, ◌≤◌, ◌∷◌, [], ℕ, Some, length, slice_get};
 ghost use Rattle.std.specs.List.{AllByRecursion};
 ghost use Rattle.std.specs.Vec.{vec_len, vec_capacity};
+ghost use Rattle.cad_map.specs.Boundaries.{face_place as face_place_of};
 ghost use Rattle.cad_map.specs.Map.{parcel_of};
+ghost use Rattle.cad_rows.specs.declared.names.Face.TheVariants.{Parcel};
 ghost use Rattle.entry_list.specs.Slots.{HasSlot};
 ghost use Rattle.half_table.specs.declared.half.Half.{Half as HalfOf};
 ghost use Rattle.half_table.specs.Count.{ticked};
 ghost use Rattle.half_table.specs.Half.{twin};
 ghost use Rattle.half_table.specs.Rows.{next, has, origin_of, cycle};
 ghost use Rattle.half_paths.specs.Loose.{AreLoose};
-ghost use Rattle.key_lists.specs.Held.{capacity_at};
+ghost use Rattle.key_lists.specs.Held.{items_at, capacity_at};
+ghost use Rattle.map_parts.specs.Merging.{rows_gone};
 ghost use Rattle.map_parts.specs.MergingIsland.{CanMergeIsland, CanUnmergeIsland, without_island};
 ghost use Rattle.map_parts.specs.PlacedStrings.{numbers_placed, StoodIn};
 ghost use Rattle.map_parts.specs.Relabelled.{cycles_length};
 ghost use Rattle.map_parts.specs.Rows.{map_in};
 ghost use Rattle.map_parts.specs.Splitting.{FitMap};
+ghost use Rattle.map_parts.specs.StringRows.{HasRoomFor};
 
 use crate::edits::enclose::{bring_in, take_out};
 use crate::edits::placed_strings::{PlacedString, put_placed, take_placed};
@@ -62,6 +66,11 @@ pub fn merge_island<T: Tally>(
     ensures origin { (h : HalfOf) → origin_of table.new.rows h ≡ origin_of table.old.rows h }
     ensures capacity { (n : ℕ) → capacity_at kept.new n ≡ capacity_at kept.old n }
     ensures star_capacity { (p : ℕ) → capacity_at stars.new p ≡ capacity_at stars.old p }
+    ensures star_room { HasRoomFor (rows_gone gone.new.items) stars.new }
+    ensures few { length (items_at kept.new (face_place_of (Parcel ended)))
+        + length (items_at kept.new (face_place_of keeper.now))
+        ≤ length (items_at kept.old (face_place_of (Parcel ended)))
+        + length (items_at kept.old (face_place_of keeper.now)) }
     ensures work { table.new.work ≡ ticked (cycles_length table.old.rows moved.now
         + (length (cycle table.old.rows (twin first.now)) + (length rest.now + 1))) table.old.work }
 {

@@ -35,9 +35,13 @@ pub struct EndedParcel {
     pub strings: Vec<PlacedString>,
 }
 
-// Sees that the halves that are kept for a face and for a parcel, and one more, can be kept for
-// either without memory.
-fn make_merge_room(kept: &mut KeyLists<Half>, face: &Face, parcel: ParcelNo) -> Result<(), Memory>
+/// Sees that the halves that are kept for a face and for a parcel, and one more, can be kept for
+/// either without memory.
+pub(crate) fn make_merge_room(
+    kept: &mut KeyLists<Half>,
+    face: &Face,
+    parcel: ParcelNo,
+) -> Result<(), Memory>
     requires { face_place_of face.now ≢ face_place_of (Parcel parcel) }
     ensures same { IsSame kept.old kept.new }
     ensures inner { OnOk result (HasRoomAt kept.new (face_place_of (Parcel parcel))

@@ -41,6 +41,19 @@ hand_over-requires-2-clause-room g c =
     let room = c.requires.inner_room in
     omega (arith, count, cap, room)
 
+pub returns-clause-few : goal.returns-clause-few
+returns-clause-few g c =
+    let new = c.take_island.new.table.rows in
+    let outer : ℕ = face_place c.args.outer.now in
+    let inner : ℕ = face_place c.args.inner.now in
+    let key = c.face_place.ensures in
+    let away : ¬ (c.face_place.result ≡ outer) = λ e. c.requires.differ (sym (sym key ∙ e)) in
+    let items = ap length (items-of c.face_place.result outer c.hand_over-2.new.kept c.clear.new.kept c.clear.ensures.others away) in
+    let gone = ap length (subst (λ (k : ℕ). items_at c.clear.new.kept k ≡ []) key c.clear.ensures.none) in
+    let count = count-handed new inner outer c.args.kept.now c.hand_over.new.kept c.hand_over.ensures.hands in
+    let again = count-handed new outer inner c.hand_over.new.kept c.hand_over-2.new.kept c.hand_over-2.ensures.hands in
+    omega (arith, items, gone, count, again)
+
 pub returns-clause-capacity : goal.returns-clause-capacity
 returns-clause-capacity g c = λ n.
     put-capacity c.face_place.result n c.hand_over-2.new.kept c.clear.new.kept c.clear.ensures.others c.clear.ensures.capacity

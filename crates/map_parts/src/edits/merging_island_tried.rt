@@ -1,0 +1,81 @@
+//! A merger round an island with the room that it takes: made, and taken back.
+ghost use Rattle.std.specs.Prelude.{◌≡◌, ◌+◌, ◌∷◌, ℕ, Some, length, slice_get};
+ghost use Rattle.std.specs.Prelude.{IfOk, OnOk, OnErr};
+ghost use Rattle.cad_map.specs.Map.{parcel_of};
+ghost use Rattle.half_table.specs.declared.half.Half.{Half as HalfOf};
+ghost use Rattle.half_table.specs.Count.{ticked};
+ghost use Rattle.half_table.specs.Half.{twin};
+ghost use Rattle.half_table.specs.Rows.{next, has, origin_of, cycle};
+ghost use Rattle.half_paths.specs.Loose.{AreLoose};
+ghost use Rattle.map_parts.specs.MergingIsland.{CanBeginMergeIsland, CanUnmergeIsland, without_island};
+ghost use Rattle.map_parts.specs.PlacedStrings.{numbers_placed, StoodIn};
+ghost use Rattle.map_parts.specs.Relabelled.{cycles_length};
+ghost use Rattle.map_parts.specs.Rows.{map_in};
+ghost use Rattle.map_parts.specs.Splitting.{FitMap};
+
+use crate::edits::merging_island::merge_island;
+use crate::edits::merging_tried::{EndedParcel, make_merge_room};
+use crate::map_rows::MapRows;
+use crate::stars::Spoke;
+use cad_rows::{Face, Memory, ParcelNo, StringNo};
+use half_table::{Half, HalfTable, Tally};
+use key_lists::KeyLists;
+
+/// Merges a parcel into a face round the ring of strings that they share, with the room that it
+/// takes. The strings stay in the table, loose. All that goes is given, and can come back without
+/// memory.
+///
+/// # Errors
+///
+/// Where memory runs out the map stays, and so does the table.
+pub fn begin_merge_island<T: Tally>(
+    rows: &mut MapRows,
+    table: &mut HalfTable<T>,
+    kept: &mut KeyLists<Half>,
+    stars: &mut KeyLists<Spoke>,
+    keeper: &Face,
+    ended: ParcelNo,
+    strings: &[StringNo],
+    first: &Half,
+    rest: &[Half],
+    moved: &[Half],
+) -> Result<EndedParcel, Memory>
+    requires { CanBeginMergeIsland keeper.now ended strings.now (first.now ∷ rest.now) moved.now
+        rows.old table.old.rows kept.old stars.old }
+    ensures fits { (can : CanBeginMergeIsland keeper.now ended strings.now (first.now ∷ rest.now) moved.now
+        rows.old table.old.rows kept.old stars.old)
+        → OnOk result (FitMap (without_island can.is) rows.new table.new.rows kept.new stars.new) }
+    ensures err { (can : CanBeginMergeIsland keeper.now ended strings.now (first.now ∷ rest.now) moved.now
+        rows.old table.old.rows kept.old stars.old)
+        → OnErr result (FitMap can.map rows.new table.new.rows kept.new stars.new) }
+    ensures err_table { OnErr result (table.new ≡ table.old) }
+
+    // It can be taken back.
+    ensures back { (can : CanBeginMergeIsland keeper.now ended strings.now (first.now ∷ rest.now) moved.now
+        rows.old table.old.rows kept.old stars.old)
+        → IfOk result (λ r. (undo : CanUnmergeIsland keeper.now r.row r.place (first.now ∷ rest.now)
+        moved.now r.strings.items rows.new table.new.rows kept.new stars.new)
+        × (undo.map ≡ can.map)) }
+
+    ensures row { IfOk result (λ r. slice_get (map_in rows.old).parcels r.place ≡ Some r.row) }
+    ensures found { IfOk result (λ r. parcel_of (map_in rows.old) ended ≡ Some r.row) }
+    ensures numbers { IfOk result (λ r. numbers_placed r.strings.items ≡ strings.now) }
+    ensures stood { IfOk result (λ r. StoodIn (map_in rows.old).strings r.strings.items) }
+    ensures loose { OnOk result (AreLoose (next table.new.rows) (first.now ∷ rest.now)) }
+    ensures has { (h : HalfOf) → has table.new.rows h ≡ has table.old.rows h }
+    ensures origin { (h : HalfOf) → origin_of table.new.rows h ≡ origin_of table.old.rows h }
+    ensures work { OnOk result (table.new.work ≡ ticked (cycles_length table.old.rows moved.now
+        + (length (cycle table.old.rows (twin first.now)) + (length rest.now + 1))) table.old.work) }
+{
+    rows.retired.keep_slot(ended.get())?;
+    make_merge_room(kept, keeper, ended)?;
+    let mut gone = Vec::with_capacity(rows.parcels.allocator(), strings.len())?;
+    let (place, row) = merge_island(
+        rows, table, kept, stars, keeper, ended, strings, first, rest, moved, &mut gone,
+    );
+    Ok(EndedParcel {
+        row,
+        place,
+        strings: gone,
+    })
+}
