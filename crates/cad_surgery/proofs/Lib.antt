@@ -35,3 +35,5 @@ pub mod CrossedRing
 pub mod CrossedHoles
 pub mod DividedCrossing
 pub mod HeldDivisions
+pub mod MergedIslandDraft
+pub mod MergedDraft

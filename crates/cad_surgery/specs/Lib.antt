@@ -7,3 +7,5 @@ pub mod Divisions
 pub mod Enclosures
 pub mod Halvings
 pub mod Joinings
+pub mod IslandMergers
+pub mod Mergers

@@ -9,4 +9,6 @@ pub(crate) mod rows;
 pub(crate) mod try_divide;
 pub(crate) mod try_enclose;
 pub(crate) mod try_join;
+pub(crate) mod try_merge_along;
+pub(crate) mod try_merge_island;
 pub(crate) mod try_split;

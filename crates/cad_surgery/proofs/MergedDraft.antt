@@ -1,0 +1,241 @@
+-- A merger along a chain on the parts of a map on half-edges, from growth to rest.
+use Rattle.std.proofs.Common.{◌≡◌, ◌≢◌, ◌≤◌, ◌<◌, ◌+◌, ◌*◌, ℕ, refl, sym, ap, subst, ◌∙◌, List, [], ◌∷◌, map, filter, length, Bool, true, false, ◌||◌, if◌then◌else◌, Some, slice_get, arith}
+use Rattle.std.specs.Prelude.{IsPermutation}
+use Rattle.std.specs.List.{AllByRecursion, Contains}
+use Rattle.std.proofs.lemmas.List.{length-map}
+use Rattle.std.proofs.lemmas.List.Sorted.{length_permutation}
+use Rattle.cad_rows.specs.declared.names.Face.TheVariants.{Parcel}
+use Rattle.cad_rows.specs.declared.rows.ParcelRow.{ParcelRow}
+use Rattle.cad_rows.specs.declared.rows.StringRow.{StringRow}
+use Rattle.cad_rings.specs.Cycle.{Side}
+use Rattle.cad_rings.specs.Surgery.{sides_of_chain}
+use Rattle.cell_grid.specs.Grid.{Grid}
+use Rattle.cad_map.specs.declared.boundary.Boundary.{Boundary}
+use Rattle.cad_map.specs.Boundaries.{bounding, is_face}
+use Rattle.cad_map.specs.Chain.{start_of, next_of}
+use Rattle.cad_map.specs.Costs.{work_bound}
+use Rattle.cad_map.specs.Effects.{after}
+use Rattle.cad_map.specs.Map.{Map, has_string}
+use Rattle.cad_map.specs.Rings.{HasWholeRings}
+use Rattle.cad_map.proofs.CallerLemmas.{All-at_each, All-from_each}
+use Rattle.half_table.specs.declared.half.Half.{Half}
+use Rattle.half_table.specs.Count.{greatest, ticked}
+use Rattle.half_table.specs.Rows.{HalfRows, Table, has, next, origin_of, cycle}
+use Rattle.half_paths.specs.Path.{AreIn, AreDifferent, strings_of}
+use Rattle.half_paths.specs.Loose.{is_of, AreLoose, DropsStrings}
+use Rattle.key_lists.specs.Held.{Held}
+use Rattle.cad_laws.specs.Counts.{sides_of_face, shared_strings}
+use Rattle.cad_laws.specs.Local.{IsShown, side_by}
+use Rattle.cad_surgery.specs.declared.edits.try_merge_along.Merger.{Merger}
+use Rattle.cad_surgery.specs.Mergers.{HasSharedPath, merged_by}
+use Rattle.cad_surgery.specs.Proper.{IsProper}
+use Rattle.cad_surgery.specs.Work.{TakesWork, TicksUpTo}
+use Rattle.map_parts.specs.declared.map_rows.MapRows.{MapRows}
+use Rattle.map_parts.specs.declared.stars.Spoke.{Spoke}
+use Rattle.map_parts.specs.Chains.{IsChainOf}
+use Rattle.map_parts.specs.Handing.{home_of}
+use Rattle.map_parts.specs.Islands.{AreOfRings}
+use Rattle.map_parts.specs.Merging.{IsMerging, merged, shared_chain, first_corner, last_corner, rings_past, CanBeginMerge}
+use Rattle.map_parts.specs.Parts.{Parts, FitTogether, HasHalves, map_of, kept_at}
+use Rattle.map_parts.specs.Paths.{HasStringsMore}
+use Rattle.map_parts.specs.Relabelled.{cycles_length}
+use Rattle.map_parts.specs.Splitting.{FitMap}
+use Rattle.map_parts.proofs.ChainRings.{first-on}
+use Rattle.map_parts.proofs.IslandFits.{along-same, of-same, side-same}
+use Rattle.map_parts.proofs.KeptEach.{map-cong}
+use Rattle.map_parts.proofs.MergedRows as rows_of
+use Rattle.map_parts.proofs.Merging as merging
+use Rattle.cad_surgery.proofs.DividedBack.{first_side}
+use Rattle.cad_surgery.proofs.DividedDraft.{either}
+use Rattle.cad_surgery.proofs.DraftFits.{draft-fits, draft-all, draft-work, settled}
+use Rattle.cad_surgery.proofs.FitParts.{parts, fit-parts, fit-map, fit-proper}
+use Rattle.cad_surgery.proofs.RingLengths.{face-lengths, home-stays}
+use Rattle.cad_surgery.proofs.SplitDraft.{come-and-gone}
+use Rattle.cad_surgery.proofs.WorkTaken.{work-allowed, ticks-just, ticks-then}
+
+-- the path has a first half
+pub path-some : (m : Map) (rows : HalfRows) (g : Merger) → HasSharedPath m rows g.kept g.ended g.path.now g.start g.end g.moved.now → 0 < length g.path.now
+path-some m rows g it = by g.path.now refl
+  where
+    by : (path : List Half) → g.path.now ≡ path → 0 < length g.path.now
+    by [] none =
+        let there = first_side (shared_chain it.is) (merging.chain-open m g.kept g.ended g.path.now it.is).long in
+        let empty : [] ≡ sides_of_chain (shared_chain it.is) = ap (map (side_by rows)) (sym none) ∙ it.leads in
+        let low = (subst (λ (l : List Side). Contains l (start_of (shared_chain it.is), next_of (shared_chain it.is))) (sym empty) there).1 in
+        absurd (omega (arith, low))
+    by (h ∷ path) is = let some = ap length is in omega (arith, some)
+
+module _ (rows : MapRows) (table : Table) (held : Held Half) (stars : Held Spoke) (grid : Grid) (v : Parts)
+    (view : parts rows table held stars grid ≡ v) (fit : FitTogether (parts rows table held stars grid)) (g : Merger)
+    (rest : IsProper (map_of v) v.table.rows (kept_at v)) (first : Half) (others : List Half) (path_is : first ∷ others ≡ g.path.now)
+    (seen : HasSharedPath (map_of v) v.table.rows g.kept g.ended g.path.now g.start g.end g.moved.now) (strings_are : g.strings.now ≡ strings_of g.path.now) where
+  abbrev old : Map
+  old = map_of v
+
+  abbrev made : Map
+  made = after old (merged_by g)
+
+  abbrev path : List Half
+  path = first ∷ others
+
+  pub ready : HasSharedPath old table.rows g.kept g.ended path g.start g.end g.moved.now
+  ready = subst (λ (q : HalfRows × List Half). HasSharedPath old q.0 g.kept g.ended q.1 g.start g.end g.moved.now) (λ i. ((sym view i).table.rows, sym path_is i)) seen
+
+  abbrev pub is_it : IsMerging old g.kept g.ended path
+  is_it = ready.is
+
+  whole_old : HasWholeRings old
+  whole_old = rows_of.whole old g.kept g.ended path is_it.tried is_it.shared
+
+  whole_made : HasWholeRings made
+  whole_made = rows_of.parts old g.kept g.ended path is_it.tried is_it.shared
+
+  pub fits : FitMap old rows table.rows held stars
+  fits = draft-fits rows table held stars grid v view fit whole_old
+
+  all : (h : Half) → has table.rows h ≡ has_string old h.string
+  all = draft-all rows table held stars grid v view rest
+
+  abbrev pub begins : CanBeginMerge g.kept g.ended g.strings.now path g.moved.now rows table.rows held stars
+  begins = record {
+    map = old;
+    is = is_it;
+    strings_are = strings_are ∙ ap strings_of (sym path_is);
+    fits = fits;
+    leads = ready.leads;
+    moved_are = ready.moved_are;
+  }
+
+  -- ---- How much there is to do
+
+  more : HasStringsMore made old path
+  more = rows_of.more old g.kept g.ended path is_it.tried is_it.shared
+
+  path-long : length path ≡ length (shared_strings old g.kept (Parcel g.ended))
+  path-long =
+      sym (length-map path (λ (h : Half). h.string))
+      ∙ length_permutation (map (λ (s : StringRow). s.number) (shared_strings old g.kept (Parcel g.ended))) (strings_of path) is_it.shared
+      ∙ length-map (shared_strings old g.kept (Parcel g.ended)) (λ (s : StringRow). s.number)
+
+  merge-work : 16 * (length path + 2) + 4 * sides_of_face (Parcel g.ended) old ≤ work_bound old made
+  merge-work =
+      let w = work-allowed old (merged_by g) is_it.tried in
+      let long = path-long in
+      omega (arith, w, long)
+
+  -- the rings of the ended parcel, in a table of the map with these sides
+  module _ (t : HalfRows) (origins : (h : Half) → origin_of t h ≡ origin_of table.rows h) (at : MapRows) (put : Held Half) (wide : Held Spoke) (goes : FitMap old at t put wide) where
+    once_here : IsPermutation (map (home_of old t) g.moved.now) (filter (λ b. is_face (Parcel g.ended) b.face) (rings_past is_it))
+    once_here =
+        subst (λ (l : List Boundary). IsPermutation l (filter (λ b. is_face (Parcel g.ended) b.face) (rings_past is_it)))
+        (map-cong (home_of old table.rows) (home_of old t) g.moved.now (λ h among. sym (home-stays old table.rows t h (side-same table.rows t origins h)))) ready.once
+
+    all-rings : length (cycle t first) + cycles_length t g.moved.now ≡ sides_of_face (Parcel g.ended) old
+    all-rings =
+        let law = merging.chain-of old g.kept g.ended path is_it in
+        let left = bounding (Parcel g.ended) is_it.ended_ring in
+        let right = bounding g.kept is_it.kept_ring in
+        face-lengths old whole_old t goes.fits.local (Parcel g.ended) left right (rings_past is_it) law.were law.left_face (λ e. law.differ (sym law.right_face ∙ e)) first
+        (first-on made old g.kept (Parcel g.ended) (shared_chain is_it) (first_corner is_it) (last_corner is_it) (merging.one_ring old g.kept g.ended path is_it) left right (rings_past is_it) law whole_old
+        (merging.chain-open old g.kept g.ended path is_it).long first others more t (along-same table.rows t origins path (sides_of_chain (shared_chain is_it)) ready.leads))
+        g.moved.now (of-same table.rows t origins old g.moved.now (Parcel g.ended) (rings_past is_it) ready.moved_are) once_here
+
+  -- ---- Where memory ran out
+
+  module _ (new : MapRows) (t : Table) (put : Held Half) (wide : Held Spoke)
+      (each : (c : CanBeginMerge g.kept g.ended g.strings.now path g.moved.now rows table.rows held stars) → FitMap c.map new t.rows put wide) (same : t ≡ table) where
+    left : FitMap old new t.rows put wide
+    left = each begins
+
+    pub left-fit : FitTogether (parts new t put wide grid)
+    left-fit = fit-parts new t put wide grid old whole_old left
+
+    pub left-map : map_of (parts new t put wide grid) ≡ old
+    left-map = fit-map new t put wide grid old whole_old left
+
+    pub left-proper : IsProper (map_of (parts new t put wide grid)) t.rows (kept_at (parts new t put wide grid))
+    left-proper = fit-proper new t put wide grid old whole_old left (λ h. ap (λ (w : Table). has w.rows h) same ∙ all h)
+
+    pub left-work : table.work ≤ greatest → TakesWork v.table t (work_bound old made)
+    left-work within =
+        draft-work rows table held stars grid v view t 0 (work_bound old made) within (omega arith) (ticks-just table t 0 (ap (λ (w : Table). w.work) same))
+
+  -- ---- Where it is made
+
+  abbrev own_ticks : ℕ
+  own_ticks = cycles_length table.rows g.moved.now + (length (cycle table.rows first) + (length others + 2) + (2 + 2 * length others))
+
+  module _ (new : MapRows) (t : Table) (put : Held Half) (wide : Held Spoke)
+      (each : (c : CanBeginMerge g.kept g.ended g.strings.now path g.moved.now rows table.rows held stars) → FitMap (merged c.is) new t.rows put wide) where
+    pub mid : FitMap made new t.rows put wide
+    mid = each begins
+
+    pub mid-fit : FitTogether (parts new t put wide grid)
+    mid-fit = fit-parts new t put wide grid made whole_made mid
+
+    pub mid-map : map_of (parts new t put wide grid) ≡ made
+    mid-map = fit-map new t put wide grid made whole_made mid
+
+    pub mid-whole : HasWholeRings (map_of (parts new t put wide grid))
+    mid-whole = subst HasWholeRings (sym mid-map) whole_made
+
+    module _ (has_same : (h : Half) → has t.rows h ≡ has table.rows h) where
+      -- its strings go
+      pub gone-in : AreIn t.rows g.path.now
+      gone-in =
+          subst (AreIn t.rows) path_is
+          (All-from_each (λ h. has t.rows h ≡ true) path (λ h among. has_same h ∙ All-at_each (λ h. has table.rows h ≡ true) path h (rows_of.within old g.kept g.ended path is_it.tried is_it.shared table.rows fits.fits.ends) among))
+
+      pub gone-different : AreDifferent g.path.now
+      gone-different = subst AreDifferent path_is (rows_of.different old g.kept g.ended path is_it.tried is_it.shared)
+
+      pub gone-loose : AreLoose (next t.rows) path → AreLoose (next t.rows) g.path.now
+      gone-loose loose = subst (AreLoose (next t.rows)) path_is loose
+
+      pub gone-hidden : (h : Half) → IsShown (map_of (parts new t put wide grid)) h → is_of (strings_of g.path.now) h ≡ false
+      gone-hidden h shown =
+          subst (λ (l : List Half). is_of (strings_of l) h ≡ false) path_is (more.new h (subst (λ (m : Map). IsShown m h) mid-map shown))
+
+      module _ (p : Parts) (p_fit : FitTogether p) (same : map_of p ≡ map_of (parts new t put wide grid)) (drops : DropsStrings g.path.now t.rows p.table.rows) where
+        pub done-map : map_of p ≡ made
+        done-map = same ∙ mid-map
+
+        pub done-proper : IsProper (map_of p) p.table.rows (kept_at p)
+        done-proper =
+            settled p made p_fit done-map whole_made (λ h.
+            (subst (λ (l : List Half). DropsStrings l t.rows p.table.rows) (sym path_is) drops).has h
+            ∙ ap (λ (b : Bool). if is_of (strings_of path) h then false else b) (has_same h ∙ all h ∙ more.all h ∙ sym (either (is_of (strings_of path) h) (has_string made h.string)))
+            ∙ come-and-gone (is_of (strings_of path) h) (has_string made h.string) (more.new h))
+
+    module _ (within : table.work ≤ greatest) (work : t.work ≡ ticked own_ticks table.work) where
+      pub done-work : (w : Table) → w.work ≡ ticked (length g.path.now) t.work → TakesWork v.table w (work_bound old made)
+      done-work w last =
+          let most = merge-work in
+          let rings = all-rings table.rows (λ h. refl) rows held stars fits in
+          let long = ap length path_is in
+          draft-work rows table held stars grid v view w (own_ticks + length g.path.now) (work_bound old made) within (omega (arith, most, rings, long))
+          (ticks-then table t w own_ticks (length g.path.now) (ticks-just table t own_ticks work) (ticks-just t w (length g.path.now) last))
+
+      -- ---- And taken back
+
+      pub undone-work : (back : MapRows) (u : Table) (kept : Held Half) (star : Held Spoke) → FitMap old back u.rows kept star
+          → ((h : Half) → origin_of u.rows h ≡ origin_of table.rows h)
+          → u.work ≡ ticked (2 + 2 * length others + (length others + 2) + (length (cycle u.rows first) + cycles_length u.rows g.moved.now)) t.work
+          → TakesWork v.table u (work_bound old made)
+      undone-work back u kept star goes origins again =
+          let most = merge-work in
+          let rings = all-rings table.rows (λ h. refl) rows held stars fits in
+          let rings_again = all-rings u.rows origins back kept star goes in
+          let ticks = 2 + 2 * length others + (length others + 2) + (length (cycle u.rows first) + cycles_length u.rows g.moved.now) in
+          draft-work rows table held stars grid v view u (own_ticks + ticks) (work_bound old made) within (omega (arith, most, rings, rings_again))
+          (ticks-then table t u own_ticks ticks (ticks-just table t own_ticks work) (ticks-just t u ticks again))
+
+  module _ (back : MapRows) (u : Table) (kept : Held Half) (star : Held Spoke) (undone : FitMap old back u.rows kept star) where
+    pub undone-fit : FitTogether (parts back u kept star grid)
+    undone-fit = fit-parts back u kept star grid old whole_old undone
+
+    pub undone-map : map_of (parts back u kept star grid) ≡ old
+    undone-map = fit-map back u kept star grid old whole_old undone
+
+    pub undone-proper : ((h : Half) → has u.rows h ≡ has table.rows h) → IsProper (map_of (parts back u kept star grid)) u.rows (kept_at (parts back u kept star grid))
+    undone-proper has_same = fit-proper back u kept star grid old whole_old undone (λ h. has_same h ∙ all h)

@@ -1,0 +1,264 @@
+-- A merger round an island on the parts of a map on half-edges, from growth to rest.
+use Rattle.std.proofs.Common.{◌≡◌, ◌≢◌, ◌≤◌, ◌<◌, ◌+◌, ◌*◌, ℕ, refl, sym, ap, subst, ◌∙◌, List, [], ◌∷◌, map, filter, length, Bool, true, false, ◌||◌, if◌then◌else◌, Some, slice_get, arith}
+use Rattle.std.specs.Prelude.{IsPermutation}
+use Rattle.std.specs.List.{AllByRecursion, Contains}
+use Rattle.std.proofs.lemmas.List.{length-map}
+use Rattle.std.proofs.lemmas.List.Sorted.{length_permutation, Contains-permutation, IsPermutation-sym}
+use Rattle.cad_rows.specs.declared.names.Face.{Face}
+use Rattle.cad_rows.specs.declared.names.Face.TheVariants.{Parcel}
+use Rattle.cad_rows.specs.declared.rows.ParcelRow.{ParcelRow}
+use Rattle.cad_rows.specs.declared.rows.StringRow.{StringRow}
+use Rattle.cad_rings.specs.Cycle.{Side, opposite, sides_of}
+use Rattle.cad_rings.proofs.CallerLemmas.{length-sides_of}
+use Rattle.cell_grid.specs.Grid.{Grid}
+use Rattle.cad_map.specs.declared.boundary.Boundary.{Boundary}
+use Rattle.cad_map.specs.Boundaries.{bounding, is_face}
+use Rattle.cad_map.specs.Chain.{start_of, next_of}
+use Rattle.cad_map.specs.Costs.{work_bound}
+use Rattle.cad_map.specs.Effects.{after}
+use Rattle.cad_map.specs.Map.{Map, has_string}
+use Rattle.cad_map.specs.Rings.{HasWholeRings}
+use Rattle.cad_map.proofs.CallerLemmas.{All-at_each, All-from_each, Contains-first, Contains-later}
+use Rattle.half_table.specs.declared.half.Half.{Half}
+use Rattle.half_table.specs.Count.{greatest, ticked}
+use Rattle.half_table.specs.Half.{twin}
+use Rattle.half_table.specs.Rows.{HalfRows, Table, has, next, origin_of, cycle}
+use Rattle.half_paths.specs.Path.{AreIn, AreDifferent, strings_of}
+use Rattle.half_paths.specs.Loose.{is_of, AreLoose, DropsStrings}
+use Rattle.key_lists.specs.Held.{Held}
+use Rattle.cad_laws.specs.Counts.{sides_of_face, shared_strings}
+use Rattle.cad_laws.specs.Local.{IsShown, side_by}
+use Rattle.cad_surgery.specs.declared.edits.try_merge_island.IslandMerger.{IslandMerger}
+use Rattle.cad_surgery.specs.IslandMergers.{HasSharedRing, merged_round}
+use Rattle.cad_surgery.specs.Proper.{IsProper}
+use Rattle.cad_surgery.specs.Work.{TakesWork, TicksUpTo}
+use Rattle.map_parts.specs.declared.map_rows.MapRows.{MapRows}
+use Rattle.map_parts.specs.declared.stars.Spoke.{Spoke}
+use Rattle.map_parts.specs.Islands.{IsIslandOf}
+use Rattle.map_parts.specs.Handing.{home_of}
+use Rattle.map_parts.specs.Labels.{IsOnRing}
+use Rattle.map_parts.specs.Islands.{AreOfRings}
+use Rattle.map_parts.specs.MergingIsland.{IsMergingIsland, without_island, rings_apart, CanBeginMergeIsland}
+use Rattle.map_parts.specs.Parts.{Parts, FitTogether, HasHalves, map_of, kept_at}
+use Rattle.map_parts.specs.Paths.{HasStringsMore}
+use Rattle.map_parts.specs.Relabelled.{cycles_length}
+use Rattle.map_parts.specs.Splitting.{FitMap}
+use Rattle.map_parts.proofs.IslandFits.{first-on, along-same, of-same, side-same}
+use Rattle.map_parts.proofs.KeptEach.{map-cong}
+use Rattle.map_parts.proofs.MergedRows as rows_of
+use Rattle.map_parts.proofs.MergingIsland as merging
+use Rattle.cad_surgery.proofs.DividedBack.{first_side}
+use Rattle.cad_surgery.proofs.DividedDraft.{either}
+use Rattle.cad_surgery.proofs.DraftFits.{draft-fits, draft-all, draft-work, settled}
+use Rattle.cad_surgery.proofs.FitParts.{parts, fit-parts, fit-map, fit-proper}
+use Rattle.cad_surgery.proofs.RingLengths.{face-lengths, ring-length, home-stays}
+use Rattle.cad_surgery.proofs.SplitDraft.{come-and-gone}
+use Rattle.cad_surgery.proofs.WorkTaken.{work-allowed, ticks-just, ticks-then}
+
+-- the path is as long as the ring
+path-points : (m : Map) (rows : HalfRows) (kept : Face) (ended : ℕ) (path moved : List Half) → (it : HasSharedRing m rows kept ended path moved) → length path ≡ length it.points
+path-points m rows kept ended path moved it = sym (length-map path (side_by rows)) ∙ ap length it.along ∙ length-sides_of it.points
+
+-- the path has a first half
+pub path-some : (m : Map) (rows : HalfRows) (g : IslandMerger) → HasSharedRing m rows g.kept g.ended g.path.now g.moved.now → 0 < length g.path.now
+path-some m rows g it =
+    let long = merging.long m g.kept g.ended it.points g.path.now it.is in
+    let same = path-points m rows g.kept g.ended g.path.now g.moved.now it in
+    omega (arith, long, same)
+
+module _ (rows : MapRows) (table : Table) (held : Held Half) (stars : Held Spoke) (grid : Grid) (v : Parts)
+    (view : parts rows table held stars grid ≡ v) (fit : FitTogether (parts rows table held stars grid)) (g : IslandMerger)
+    (rest : IsProper (map_of v) v.table.rows (kept_at v)) (first : Half) (others : List Half) (path_is : first ∷ others ≡ g.path.now)
+    (seen : HasSharedRing (map_of v) v.table.rows g.kept g.ended g.path.now g.moved.now) (strings_are : g.strings.now ≡ strings_of g.path.now) where
+  abbrev old : Map
+  old = map_of v
+
+  abbrev made : Map
+  made = after old (merged_round g)
+
+  abbrev path : List Half
+  path = first ∷ others
+
+  pub ready : HasSharedRing old table.rows g.kept g.ended path g.moved.now
+  ready = subst (λ (q : HalfRows × List Half). HasSharedRing old q.0 g.kept g.ended q.1 g.moved.now) (λ i. ((sym view i).table.rows, sym path_is i)) seen
+
+  abbrev pub is_it : IsMergingIsland old g.kept g.ended ready.points path
+  is_it = ready.is
+
+  whole_old : HasWholeRings old
+  whole_old = rows_of.whole old g.kept g.ended path is_it.tried is_it.shared
+
+  whole_made : HasWholeRings made
+  whole_made = rows_of.parts old g.kept g.ended path is_it.tried is_it.shared
+
+  pub fits : FitMap old rows table.rows held stars
+  fits = draft-fits rows table held stars grid v view fit whole_old
+
+  all : (h : Half) → has table.rows h ≡ has_string old h.string
+  all = draft-all rows table held stars grid v view rest
+
+  abbrev pub begins : CanBeginMergeIsland g.kept g.ended g.strings.now path g.moved.now rows table.rows held stars
+  begins = record {
+    map = old;
+    points = ready.points;
+    is = is_it;
+    strings_are = strings_are ∙ ap strings_of (sym path_is);
+    fits = fits;
+    along = ready.along;
+    moved_are = ready.moved_are;
+  }
+
+  -- ---- How much there is to do
+
+  more : HasStringsMore made old path
+  more = rows_of.more old g.kept g.ended path is_it.tried is_it.shared
+
+  path-long : length path ≡ length (shared_strings old g.kept (Parcel g.ended))
+  path-long =
+      sym (length-map path (λ (h : Half). h.string))
+      ∙ length_permutation (map (λ (s : StringRow). s.number) (shared_strings old g.kept (Parcel g.ended))) (strings_of path) is_it.shared
+      ∙ length-map (shared_strings old g.kept (Parcel g.ended)) (λ (s : StringRow). s.number)
+
+  merge-work : 16 * (length path + 2) + 4 * sides_of_face (Parcel g.ended) old ≤ work_bound old made
+  merge-work =
+      let w = work-allowed old (merged_round g) is_it.tried in
+      let long = path-long in
+      omega (arith, w, long)
+
+  -- the rings of the ended parcel, in a table of the map with these sides
+  module _ (t : HalfRows) (origins : (h : Half) → origin_of t h ≡ origin_of table.rows h) (at : MapRows) (put : Held Half) (wide : Held Spoke) (goes : FitMap old at t put wide) where
+    once_here : IsPermutation (map (home_of old t) g.moved.now) (filter (λ b. is_face (Parcel g.ended) b.face) (rings_apart is_it))
+    once_here =
+        subst (λ (l : List Boundary). IsPermutation l (filter (λ b. is_face (Parcel g.ended) b.face) (rings_apart is_it)))
+        (map-cong (home_of old table.rows) (home_of old t) g.moved.now (λ h among. sym (home-stays old table.rows t h (side-same table.rows t origins h)))) ready.once
+
+    law : IsIslandOf made old g.kept (Parcel g.ended) ready.points (bounding (Parcel g.ended) is_it.ended_ring) (bounding g.kept is_it.kept_ring) (rings_apart is_it)
+    law = merging.island old g.kept g.ended ready.points path is_it
+
+    abbrev ended_is : Boundary
+    ended_is = bounding (Parcel g.ended) is_it.ended_ring
+
+    abbrev kept_is : Boundary
+    kept_is = bounding g.kept is_it.kept_ring
+
+    on : IsOnRing old t ended_is first × IsOnRing old t kept_is (twin first)
+    on = first-on made old g.kept (Parcel g.ended) ready.points ended_is kept_is (rings_apart is_it) law whole_old first others more g.moved.now t
+        (along-same table.rows t origins path (sides_of ready.points) ready.along)
+
+    all-rings : length (cycle t first) + cycles_length t g.moved.now ≡ sides_of_face (Parcel g.ended) old
+    all-rings =
+        face-lengths old whole_old t goes.fits.local (Parcel g.ended) ended_is kept_is (rings_apart is_it) law.were law.left_face (λ e. law.differ (sym law.right_face ∙ e)) first
+        on.0 g.moved.now (of-same table.rows t origins old g.moved.now (Parcel g.ended) (rings_apart is_it) ready.moved_are) once_here
+
+    -- the kept parcel's ring is as long as the path
+    kept-long : length (cycle t (twin first)) ≡ length path
+    kept-long =
+        ring-length old whole_old t goes.fits.local kept_is
+        (Contains-permutation (ended_is ∷ kept_is ∷ rings_apart is_it) old.boundaries kept_is (IsPermutation-sym old.boundaries (ended_is ∷ kept_is ∷ rings_apart is_it) law.were)
+        (Contains-later ended_is (kept_is ∷ rings_apart is_it) kept_is (Contains-first kept_is (rings_apart is_it))))
+        (twin first) on.1
+        ∙ sym (length-sides_of is_it.kept_ring) ∙ length_permutation (map opposite (sides_of ready.points)) (sides_of is_it.kept_ring) law.right_sides
+        ∙ length-map (sides_of ready.points) opposite ∙ length-sides_of ready.points ∙ sym (path-points old table.rows g.kept g.ended path g.moved.now ready)
+
+  -- ---- Where memory ran out
+
+  module _ (new : MapRows) (t : Table) (put : Held Half) (wide : Held Spoke)
+      (each : (c : CanBeginMergeIsland g.kept g.ended g.strings.now path g.moved.now rows table.rows held stars) → FitMap c.map new t.rows put wide) (same : t ≡ table) where
+    left : FitMap old new t.rows put wide
+    left = each begins
+
+    pub left-fit : FitTogether (parts new t put wide grid)
+    left-fit = fit-parts new t put wide grid old whole_old left
+
+    pub left-map : map_of (parts new t put wide grid) ≡ old
+    left-map = fit-map new t put wide grid old whole_old left
+
+    pub left-proper : IsProper (map_of (parts new t put wide grid)) t.rows (kept_at (parts new t put wide grid))
+    left-proper = fit-proper new t put wide grid old whole_old left (λ h. ap (λ (w : Table). has w.rows h) same ∙ all h)
+
+    pub left-work : table.work ≤ greatest → TakesWork v.table t (work_bound old made)
+    left-work within =
+        draft-work rows table held stars grid v view t 0 (work_bound old made) within (omega arith) (ticks-just table t 0 (ap (λ (w : Table). w.work) same))
+
+  -- ---- Where it is made
+
+  abbrev own_ticks : ℕ
+  own_ticks = cycles_length table.rows g.moved.now + (length (cycle table.rows (twin first)) + (length others + 1))
+
+  module _ (new : MapRows) (t : Table) (put : Held Half) (wide : Held Spoke)
+      (each : (c : CanBeginMergeIsland g.kept g.ended g.strings.now path g.moved.now rows table.rows held stars) → FitMap (without_island c.is) new t.rows put wide) where
+    pub mid : FitMap made new t.rows put wide
+    mid = each begins
+
+    pub mid-fit : FitTogether (parts new t put wide grid)
+    mid-fit = fit-parts new t put wide grid made whole_made mid
+
+    pub mid-map : map_of (parts new t put wide grid) ≡ made
+    mid-map = fit-map new t put wide grid made whole_made mid
+
+    pub mid-whole : HasWholeRings (map_of (parts new t put wide grid))
+    mid-whole = subst HasWholeRings (sym mid-map) whole_made
+
+    module _ (has_same : (h : Half) → has t.rows h ≡ has table.rows h) where
+      -- its strings go
+      pub gone-in : AreIn t.rows g.path.now
+      gone-in =
+          subst (AreIn t.rows) path_is
+          (All-from_each (λ h. has t.rows h ≡ true) path (λ h among. has_same h ∙ All-at_each (λ h. has table.rows h ≡ true) path h (rows_of.within old g.kept g.ended path is_it.tried is_it.shared table.rows fits.fits.ends) among))
+
+      pub gone-different : AreDifferent g.path.now
+      gone-different = subst AreDifferent path_is (rows_of.different old g.kept g.ended path is_it.tried is_it.shared)
+
+      pub gone-loose : AreLoose (next t.rows) path → AreLoose (next t.rows) g.path.now
+      gone-loose loose = subst (AreLoose (next t.rows)) path_is loose
+
+      pub gone-hidden : (h : Half) → IsShown (map_of (parts new t put wide grid)) h → is_of (strings_of g.path.now) h ≡ false
+      gone-hidden h shown =
+          subst (λ (l : List Half). is_of (strings_of l) h ≡ false) path_is (more.new h (subst (λ (m : Map). IsShown m h) mid-map shown))
+
+      module _ (p : Parts) (p_fit : FitTogether p) (same : map_of p ≡ map_of (parts new t put wide grid)) (drops : DropsStrings g.path.now t.rows p.table.rows) where
+        pub done-map : map_of p ≡ made
+        done-map = same ∙ mid-map
+
+        pub done-proper : IsProper (map_of p) p.table.rows (kept_at p)
+        done-proper =
+            settled p made p_fit done-map whole_made (λ h.
+            (subst (λ (l : List Half). DropsStrings l t.rows p.table.rows) (sym path_is) drops).has h
+            ∙ ap (λ (b : Bool). if is_of (strings_of path) h then false else b) (has_same h ∙ all h ∙ more.all h ∙ sym (either (is_of (strings_of path) h) (has_string made h.string)))
+            ∙ come-and-gone (is_of (strings_of path) h) (has_string made h.string) (more.new h))
+
+    module _ (within : table.work ≤ greatest) (work : t.work ≡ ticked own_ticks table.work) where
+      pub done-work : (w : Table) → w.work ≡ ticked (length g.path.now) t.work → TakesWork v.table w (work_bound old made)
+      done-work w last =
+          let most = merge-work in
+          let rings = all-rings table.rows (λ h. refl) rows held stars fits in
+          let kept_ring = kept-long table.rows (λ h. refl) rows held stars fits in
+          let long = ap length path_is in
+          draft-work rows table held stars grid v view w (own_ticks + length g.path.now) (work_bound old made) within (omega (arith, most, rings, kept_ring, long))
+          (ticks-then table t w own_ticks (length g.path.now) (ticks-just table t own_ticks work) (ticks-just t w (length g.path.now) last))
+
+      -- ---- And taken back
+
+      pub undone-work : (back : MapRows) (u : Table) (kept : Held Half) (star : Held Spoke) → FitMap old back u.rows kept star
+          → ((h : Half) → origin_of u.rows h ≡ origin_of table.rows h)
+          → u.work ≡ ticked (length others + 1 + (length (cycle u.rows first) + (length (cycle u.rows (twin first)) + cycles_length u.rows g.moved.now))) t.work
+          → TakesWork v.table u (work_bound old made)
+      undone-work back u kept star goes origins again =
+          let most = merge-work in
+          let rings = all-rings table.rows (λ h. refl) rows held stars fits in
+          let rings_again = all-rings u.rows origins back kept star goes in
+          let kept_ring = kept-long table.rows (λ h. refl) rows held stars fits in
+          let kept_again = kept-long u.rows origins back kept star goes in
+          let ticks = length others + 1 + (length (cycle u.rows first) + (length (cycle u.rows (twin first)) + cycles_length u.rows g.moved.now)) in
+          draft-work rows table held stars grid v view u (own_ticks + ticks) (work_bound old made) within (omega (arith, most, rings, rings_again, kept_ring, kept_again))
+          (ticks-then table t u own_ticks ticks (ticks-just table t own_ticks work) (ticks-just t u ticks again))
+
+  module _ (back : MapRows) (u : Table) (kept : Held Half) (star : Held Spoke) (undone : FitMap old back u.rows kept star) where
+    pub undone-fit : FitTogether (parts back u kept star grid)
+    undone-fit = fit-parts back u kept star grid old whole_old undone
+
+    pub undone-map : map_of (parts back u kept star grid) ≡ old
+    undone-map = fit-map back u kept star grid old whole_old undone
+
+    pub undone-proper : ((h : Half) → has u.rows h ≡ has table.rows h) → IsProper (map_of (parts back u kept star grid)) u.rows (kept_at (parts back u kept star grid))
+    undone-proper has_same = fit-proper back u kept star grid old whole_old undone (λ h. has_same h ∙ all h)
