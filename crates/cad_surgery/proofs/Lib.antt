@@ -37,3 +37,4 @@ pub mod DividedCrossing
 pub mod HeldDivisions
 pub mod MergedIslandDraft
 pub mod MergedDraft
+pub mod HeldMergers

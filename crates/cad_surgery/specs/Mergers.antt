@@ -1,5 +1,5 @@
 -- A merger along a chain: what it names, and the halves that it goes by.
-use Rattle.std.specs.Prelude.{ℕ, List, map, filter, IsPermutation}
+use Rattle.std.specs.Prelude.{ℕ, ⊤, List, map, filter, IsPermutation}
 use Rattle.cad_rows.specs.declared.edits.Edit.{Edit}
 use Rattle.cad_rows.specs.declared.edits.Edit.TheVariants.{Merge}
 use Rattle.cad_rows.specs.declared.names.Face.{Face}
@@ -11,6 +11,9 @@ use Rattle.cad_map.specs.Map.{Map}
 use Rattle.half_table.specs.declared.half.Half.{Half}
 use Rattle.half_table.specs.Rows.{HalfRows}
 use Rattle.cad_surgery.specs.declared.edits.try_merge_along.Merger.{Merger}
+use Rattle.edit_records.specs.declared.record.ChainString.{ChainString}
+use Rattle.edit_records.specs.declared.record.SmallRecord.{SmallRecord}
+use Rattle.edit_records.specs.declared.record.SmallRecord.TheVariants as change
 use Rattle.map_parts.specs.Handing.{home_of}
 use Rattle.map_parts.specs.Islands.{AreOfRings}
 use Rattle.map_parts.specs.Labels.{IsAlong}
@@ -20,6 +23,15 @@ use Rattle.map_parts.specs.Paths.{AreAlong}
 -- the edit
 abbrev pub merged_by : Merger → Edit
 merged_by g = Merge g.kept (Parcel g.ended)
+
+-- the halves of strings that went with a chain
+abbrev pub halves_of : List ChainString → List Half
+halves_of strings = map (λ (s : ChainString). s.half) strings
+
+-- the record is of a merger along a chain
+abbrev pub IsOfMergeAlong : SmallRecord → Type 0
+IsOfMergeAlong (change.MergeAlong kept row place chain strings start end moved) = ⊤
+IsOfMergeAlong _ = ⊥
 
 -- In a table that goes with the map, the halves along the chain that the two share, those that
 -- follow its two ends, and one half of each other ring of the ended parcel.

@@ -1,25 +1,33 @@
-//! A merger along a chain on a map on half-edges: tried, and taken back where it breaks a rule.
+//! A merger along a chain on a map on half-edges: tried, taken back where it breaks a rule, and made
+//! again.
 ghost use Rattle.std.specs.Prelude.{◌≡◌, ◌<◌, ◌∷◌, Some, length, slice_get, IfOk, IfErr, OnOk, OnErr};
+ghost use Rattle.cad_rows.specs.declared.edits.Edit.TheVariants.{Merge};
+ghost use Rattle.cad_rows.specs.declared.names.Face.TheVariants.{Parcel};
+ghost use Rattle.cad_map.specs.Asked.{GivesInRange};
 ghost use Rattle.cad_map.specs.Costs.{work_bound};
 ghost use Rattle.cad_map.specs.Effects.{after};
+ghost use Rattle.cad_map.specs.Map.{Map};
 ghost use Rattle.cad_map.specs.Outcome.{MayRefuse};
 ghost use Rattle.cad_map.specs.Touched.{IsTouched};
 ghost use Rattle.cad_map.specs.Valid.{IsValid};
 ghost use Rattle.half_paths.specs.Path.{strings_of};
 ghost use Rattle.cad_valid.specs.Near.{HoldsMap, touched_of};
-ghost use Rattle.cad_surgery.specs.Mergers.{HasSharedPath, merged_by};
+ghost use Rattle.cad_surgery.specs.Mergers.{HasSharedPath, IsOfMergeAlong, halves_of, merged_by};
 ghost use Rattle.cad_surgery.specs.Proper.{IsProper};
 ghost use Rattle.cad_surgery.specs.Work.{TakesWork};
+ghost use Rattle.edit_records.specs.Record.{edit_of, Holds, Belongs, HeldMergedAlong};
 ghost use Rattle.map_parts.specs.Parts.{map_of, kept_at};
 ghost use Rattle.map_parts.specs.PlacedStrings.{numbers_placed, StoodIn};
 
 use crate::draft::Draft;
 use crate::edits::counted::is_work_in_range;
 use crate::edits::hidden::drop_hidden;
-use cad_rows::{Face, ParcelNo, Refusal, StringNo};
+use cad_rows::{Face, Memory, ParcelNo, ParcelRow, PointNo, Refusal, StringNo};
 use cad_valid::{Touched, first_broken_near};
+use edit_records::{ChainString, SmallRecord};
 use half_table::{Half, Tally};
 use map_parts::{EndedParcel, begin_merge_along, unmerge_along};
+use std::alloc::Global;
 
 /// What a merger along a chain names, with the halves along the chain and their strings, the halves
 /// that follow its two ends, and one half of each other ring of the ended parcel.
@@ -111,4 +119,134 @@ pub(crate) fn merge_along_within_rules<T: Tally>(
     }
     drop_hidden(draft, merger.path);
     Ok(gone)
+}
+
+// Merges a parcel into a face along their chain again. Where memory runs out the map stays.
+fn merge_along_again<T: Tally>(draft: &mut Draft<T>, merger: &Merger<'_>) -> Result<(), Memory>
+    requires path { HasSharedPath (map_of draft.old) draft.old.table.rows merger.now.kept
+        merger.now.ended merger.now.path.now merger.now.start merger.now.end merger.now.moved.now }
+    requires strings { merger.now.strings.now ≡ strings_of merger.now.path.now }
+    requires proper { IsProper (map_of draft.old) draft.old.table.rows (kept_at draft.old) }
+    ensures after { OnOk result (map_of draft.new ≡ after (map_of draft.old) (merged_by merger.now)) }
+    ensures err { OnErr result (map_of draft.new ≡ map_of draft.old) }
+    ensures grid { draft.new.grid ≡ draft.old.grid }
+    ensures proper { IsProper (map_of draft.new) draft.new.table.rows (kept_at draft.new) }
+    ensures work { TakesWork draft.old.table draft.new.table
+        (work_bound (map_of draft.old) (after (map_of draft.old) (merged_by merger.now))) }
+{
+    is_work_in_range(&draft.table);
+    let (first, rest) = first_and_rest(merger.path);
+    begin_merge_along(
+        &mut draft.rows,
+        &mut draft.table,
+        &mut draft.kept,
+        &mut draft.stars,
+        &merger.kept,
+        merger.ended,
+        merger.strings,
+        first,
+        rest,
+        merger.moved,
+    )?;
+    drop_hidden(draft, merger.path);
+    Ok(())
+}
+
+// The halves of strings that went with a chain.
+fn path_of(alloc: Global, strings: &[ChainString]) -> Result<Vec<Half>, Memory>
+    ensures { IfOk result (λ path. path.items ≡ halves_of strings.now) }
+{
+    let mut path = Vec::new(alloc);
+    for place in 0..strings.len() {
+        path.push(strings[place].half)?;
+    }
+    Ok(path)
+}
+
+// The numbers of the strings of halves.
+fn numbers_of(alloc: Global, path: &[Half]) -> Result<Vec<StringNo>, Memory>
+    ensures { IfOk result (λ numbers. numbers.items ≡ strings_of path.now) }
+{
+    let mut numbers = Vec::new(alloc);
+    for place in 0..path.len() {
+        numbers.push(path[place].string)?;
+    }
+    Ok(numbers)
+}
+
+// What the record of a merger along a chain tells.
+#[derive(Clone, Copy)]
+struct Merged<'a> {
+    kept: Face,
+    row: &'a ParcelRow,
+    place: usize,
+    chain: &'a [PointNo],
+    strings: &'a [ChainString],
+    start: Half,
+    end: Half,
+    moved: &'a [Half],
+}
+
+fn merger_of(change: &SmallRecord) -> Merged<'_>
+    requires { IsOfMergeAlong change.now }
+    ensures edit { edit_of change.now ≡ Merge result.kept (Parcel result.row.now.number) }
+    ensures held { (b : Map) → Holds change.now b → HeldMergedAlong b result.kept result.row.now
+        result.place result.chain.now result.strings.now result.start result.end result.moved.now }
+{
+    let SmallRecord::MergeAlong {
+        kept,
+        row,
+        place,
+        chain,
+        strings,
+        start,
+        end,
+        moved,
+    } = change
+    else {
+        unreachable!()
+    };
+    Merged {
+        kept: *kept,
+        row,
+        place: *place,
+        chain: chain.as_slice(),
+        strings: strings.as_slice(),
+        start: *start,
+        end: *end,
+        moved: moved.as_slice(),
+    }
+}
+
+/// Merges a parcel into a face along their chain again, by the record. Where memory runs out the map
+/// stays.
+pub(crate) fn forward_merge_along<T: Tally>(
+    draft: &mut Draft<T>,
+    change: &SmallRecord,
+) -> Result<(), Memory>
+    requires merger { IsOfMergeAlong change.now }
+    requires given { GivesInRange (edit_of change.now) }
+    requires made { (n : Map) × Belongs change.now (map_of draft.old) n }
+    requires proper { IsProper (map_of draft.old) draft.old.table.rows (kept_at draft.old) }
+    ensures after { OnOk result (map_of draft.new ≡ after (map_of draft.old) (edit_of change.now)) }
+    ensures err { OnErr result (map_of draft.new ≡ map_of draft.old) }
+    ensures grid { draft.new.grid ≡ draft.old.grid }
+    ensures proper { IsProper (map_of draft.new) draft.new.table.rows (kept_at draft.new) }
+    ensures work { TakesWork draft.old.table draft.new.table
+        (work_bound (map_of draft.old) (after (map_of draft.old) (edit_of change.now))) }
+{
+    let alloc = draft.rows.points.allocator();
+    let told = merger_of(change);
+    let path = path_of(alloc, told.strings)?;
+    let strings = numbers_of(alloc, path.as_slice())?;
+    let merger = Merger {
+        kept: told.kept,
+        ended: told.row.number,
+        path: path.as_slice(),
+        strings: strings.as_slice(),
+        start: told.start,
+        end: told.end,
+        moved: told.moved,
+    };
+    merge_along_again(draft, &merger)
 }
