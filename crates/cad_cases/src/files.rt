@@ -1,6 +1,7 @@
 use cad_files::{
-    Line, LineFault, MemSink, OutSink, PlanFault, PlanRows, Sink, SinkFault, answer_text, build,
-    hundredths, next_row, plan_text, read_line, read_plan, syntax_text, write_all,
+    Line, LineFault, MemSink, OutSink, PlanFault, PlanRows, PlanString, Sink, SinkFault,
+    answer_text, build, hundredths, next_row, plan_text, read_line, read_plan, syntax_text,
+    write_all,
 };
 use cad_history::{Answer, Command};
 use cad_map::PlainMap;
@@ -9,6 +10,7 @@ use cad_rows::{
 };
 use csv::{ByteRecord, ReaderBuilder};
 use std::alloc::{AllocError, Global};
+use std::process::Abort;
 use std::test::Fail;
 
 // The rows of a plan, or its fault.
@@ -114,44 +116,61 @@ fn face_number(face: Face) -> u32 {
     }
 }
 
-#[test]
-fn rows_of_parcels_and_strings(rt: HostRuntime) -> Result<(), Fail> {
-    let plan =
-        "plan,1,,,,,\nretired,7,,,,,\nstring,14,4,1,0,2,1 3\nparcel,2,\"North, B\",3 1,,,\nstring,11,1,1,999999999,0,\nretired,999999999,,,,,\nparcel,1,A,,,,\nopen,,,,,,\n";
-    let rows = match plan_rows(rt.alloc(), plan) {
-        Ok(rows) => rows,
-        Err(_) => {
-            assert!(rt; false, "a fault");
-            return Ok(());
-        }
-    };
+// Whether a plan's parcels are these.
+fn check_parcels(rt: &impl Abort, rows: &PlanRows) {
     assert_eq!(rt; rows.parcels.len(), 2);
     for (parcel, (number, label, sources)) in rows
         .parcels
         .iter()
         .zip([(2, "North, B", 2), (1, "A", 0)])
     {
-        assert_eq!(rt; parcel.number.get(), number);
-        assert!(rt; parcel.label.as_str() == label, "{label}");
-        assert_eq!(rt; parcel.sources.len(), sources);
+        let is_this = parcel.number.get() == number && parcel.label.as_str() == label;
+        assert!(rt; is_this && parcel.sources.len() == sources, "{label}");
     }
+}
+
+// The number of a string, its ends and its faces.
+fn numbers_of(string: &PlanString) -> [u32; 5] {
+    [
+        string.row.number.get(),
+        string.row.from.get(),
+        string.row.to.get(),
+        face_number(string.left),
+        face_number(string.right),
+    ]
+}
+
+// Whether a plan's strings are these.
+fn check_strings(rt: &impl Abort, rows: &PlanRows) {
     assert_eq!(rt; rows.strings.len(), 2);
-    for (string, (number, from, to, left, right, sources)) in rows
+    for (string, (numbers, sources)) in rows
         .strings
         .iter()
-        .zip([(14, 4, 1, 0, 2, 2), (11, 1, 1, 999_999_999, 0, 0)])
+        .zip([([14, 4, 1, 0, 2], 2), ([11, 1, 1, 999_999_999, 0], 0)])
     {
-        assert_eq!(rt; string.row.number.get(), number);
-        assert_eq!(rt; string.row.from.get(), from);
-        assert_eq!(rt; string.row.to.get(), to);
-        assert_eq!(rt; face_number(string.left), left);
-        assert_eq!(rt; face_number(string.right), right);
-        assert_eq!(rt; string.row.sources.len(), sources);
+        let is_this = numbers_of(string) == numbers && string.row.sources.len() == sources;
+        assert!(rt; is_this, "string {}", numbers[0]);
     }
+}
+
+// Whether a plan's retired numbers are these.
+fn check_retired(rt: &impl Abort, rows: &PlanRows) {
     assert_eq!(rt; rows.retired.len(), 2);
     for (parcel, number) in rows.retired.iter().zip([7, 999_999_999]) {
         assert_eq!(rt; parcel.get(), number);
     }
+}
+
+#[test]
+fn rows_of_parcels_and_strings(rt: HostRuntime) -> Result<(), Fail> {
+    let plan =
+        "plan,1,,,,,\nretired,7,,,,,\nstring,14,4,1,0,2,1 3\nparcel,2,\"North, B\",3 1,,,\nstring,11,1,1,999999999,0,\nretired,999999999,,,,,\nparcel,1,A,,,,\nopen,,,,,,\n";
+    let Ok(rows) = plan_rows(rt.alloc(), plan) else {
+        panic!(rt; "a fault");
+    };
+    check_parcels(&rt, &rows);
+    check_strings(&rt, &rows);
+    check_retired(&rt, &rows);
     Ok(())
 }
 
@@ -383,65 +402,76 @@ fn letter(line: &Result<Line, LineFault>) -> (char, u32) {
     }
 }
 
+// Lines of scripts, with the letter and the number that `letter` tells of each.
+const LINES: &[(&str, char, u32)] = &[
+    ("add-source,7,\"a, b\",,,,\n", 'S', 7),
+    ("add-point,5,0,-999999999999999999,,,\n", 'P', 5),
+    ("drop-point,999999999,,,,,\n", 'D', 999_999_999),
+    ("split,11,5,500,-500,22,23\n", 's', 11),
+    ("split,11,5,500,0,22,\n", 'x', 0),
+    ("split,011,5,500,0,22,23\n", 'x', 0),
+    ("join,2,21,,,,\n", 'j', 2),
+    ("join,2,21,,,,1\n", 'x', 0),
+    ("move,3,-1000,1200,,,\n", 'm', 3),
+    ("move,3,-1000,+1200,,,\n", 'x', 0),
+    ("detach,point,1,2,,,\n", 'd', 1),
+    ("detach,string,3,2,,,\n", 'e', 3),
+    ("detach,parcel,4,2,,,\n", 'f', 4),
+    ("detach,source,4,2,,,\n", 'x', 0),
+    ("rename,1,\"North, B\",,,,\n", 'n', 1),
+    ("rename,0,X,,,,\n", 'x', 0),
+    ("divide,1,1 3,21,2,C,1\n", 'v', 2),
+    ("divide,1,,,2,C,1\n", 'v', 2),
+    ("divide,1,1 3 ,21,2,C,1\n", 'x', 0),
+    ("divide,1,1 03,21,2,C,1\n", 'x', 0),
+    ("divide,1,1 3,21,0,C,1\n", 'x', 0),
+    ("merge,1,0,,,,\n", 'g', 1),
+    ("merge,1,2,,,,1\n", 'x', 0),
+    ("enclose,0,1 2 3,11 12 13,7,A,1\n", 'c', 7),
+    ("enclose,0,0,11,7,A,1\n", 'x', 0),
+    ("rename,1,,,,,\n", 'x', 0),
+    ("attach,point,1,2,,,\n", 'A', 1),
+    ("attach,string,3,2,,,\n", 'B', 3),
+    ("attach,parcel,4,2,,,\n", 'C', 4),
+    ("undo,,,,,,\n", 'u', 0),
+    ("redo,,,,,,\n", 'r', 0),
+    ("print,,,,,,\n", 'p', 0),
+    ("areas,,,,,,\n", 'a', 0),
+    ("outline,0,,,,,\n", 'o', 0),
+    ("outline,4,,,,,\n", 'o', 4),
+    ("areas,0,,,,,\n", 'x', 0),
+    ("outline,,,,,,\n", 'x', 0),
+    ("outline,00,,,,,\n", 'x', 0),
+    ("outline,4,4,,,,\n", 'x', 0),
+    ("attach,source,1,1,,,\n", 'x', 0),
+    ("add-point,5,1000000000000000000,0,,,\n", 'x', 0),
+    ("add-point,5,+5,0,,,\n", 'x', 0),
+    ("add-source,7,,,,,\n", 'x', 0),
+    ("drop-point,1000000000,,,,,\n", 'x', 0),
+    ("Undo,,,,,,\n", 'x', 0),
+    ("undo,,,,,,0\n", 'x', 0),
+    ("frob,,,,,,\n", 'x', 0),
+    ("undo\n", 'x', 0),
+];
+
+// What `letter` tells of a script's line.
+fn letter_of(rt: &impl Abort, alloc: Global, text: &str) -> (char, u32) {
+    let mut reader = ReaderBuilder::new()
+        .has_headers(false)
+        .from_reader(alloc, text.as_bytes());
+    let mut row = ByteRecord::new(alloc);
+    assert_eq!(rt; next_row(&mut reader, &mut row), Ok(true));
+    letter(&read_line(alloc, &row))
+}
+
 #[test]
 fn lines(rt: HostRuntime) -> Result<(), Fail> {
-    for (text, want) in [
-        ("add-source,7,\"a, b\",,,,\n", ('S', 7)),
-        ("add-point,5,0,-999999999999999999,,,\n", ('P', 5)),
-        ("drop-point,999999999,,,,,\n", ('D', 999_999_999)),
-        ("split,11,5,500,-500,22,23\n", ('s', 11)),
-        ("split,11,5,500,0,22,\n", ('x', 0)),
-        ("split,011,5,500,0,22,23\n", ('x', 0)),
-        ("join,2,21,,,,\n", ('j', 2)),
-        ("join,2,21,,,,1\n", ('x', 0)),
-        ("move,3,-1000,1200,,,\n", ('m', 3)),
-        ("move,3,-1000,+1200,,,\n", ('x', 0)),
-        ("detach,point,1,2,,,\n", ('d', 1)),
-        ("detach,string,3,2,,,\n", ('e', 3)),
-        ("detach,parcel,4,2,,,\n", ('f', 4)),
-        ("detach,source,4,2,,,\n", ('x', 0)),
-        ("rename,1,\"North, B\",,,,\n", ('n', 1)),
-        ("rename,0,X,,,,\n", ('x', 0)),
-        ("divide,1,1 3,21,2,C,1\n", ('v', 2)),
-        ("divide,1,,,2,C,1\n", ('v', 2)),
-        ("divide,1,1 3 ,21,2,C,1\n", ('x', 0)),
-        ("divide,1,1 03,21,2,C,1\n", ('x', 0)),
-        ("divide,1,1 3,21,0,C,1\n", ('x', 0)),
-        ("merge,1,0,,,,\n", ('g', 1)),
-        ("merge,1,2,,,,1\n", ('x', 0)),
-        ("enclose,0,1 2 3,11 12 13,7,A,1\n", ('c', 7)),
-        ("enclose,0,0,11,7,A,1\n", ('x', 0)),
-        ("rename,1,,,,,\n", ('x', 0)),
-        ("attach,point,1,2,,,\n", ('A', 1)),
-        ("attach,string,3,2,,,\n", ('B', 3)),
-        ("attach,parcel,4,2,,,\n", ('C', 4)),
-        ("undo,,,,,,\n", ('u', 0)),
-        ("redo,,,,,,\n", ('r', 0)),
-        ("print,,,,,,\n", ('p', 0)),
-        ("areas,,,,,,\n", ('a', 0)),
-        ("outline,0,,,,,\n", ('o', 0)),
-        ("outline,4,,,,,\n", ('o', 4)),
-        ("areas,0,,,,,\n", ('x', 0)),
-        ("outline,,,,,,\n", ('x', 0)),
-        ("outline,00,,,,,\n", ('x', 0)),
-        ("outline,4,4,,,,\n", ('x', 0)),
-        ("attach,source,1,1,,,\n", ('x', 0)),
-        ("add-point,5,1000000000000000000,0,,,\n", ('x', 0)),
-        ("add-point,5,+5,0,,,\n", ('x', 0)),
-        ("add-source,7,,,,,\n", ('x', 0)),
-        ("drop-point,1000000000,,,,,\n", ('x', 0)),
-        ("Undo,,,,,,\n", ('x', 0)),
-        ("undo,,,,,,0\n", ('x', 0)),
-        ("frob,,,,,,\n", ('x', 0)),
-        ("undo\n", ('x', 0)),
-    ] {
-        let mut reader = ReaderBuilder::new()
-            .has_headers(false)
-            .from_reader(rt.alloc(), text.as_bytes());
-        let mut row = ByteRecord::new(rt.alloc());
-        assert_eq!(rt; next_row(&mut reader, &mut row), Ok(true));
-        let line = read_line(rt.alloc(), &row);
-        assert_eq!(rt; letter(&line), want, "{text}");
+    for (text, kind, number) in LINES {
+        assert_eq!(rt;
+            letter_of(&rt, rt.alloc(), text),
+            (*kind, *number),
+            "{text}"
+        );
     }
     Ok(())
 }
@@ -488,7 +518,7 @@ fn hundredths_of_areas(rt: HostRuntime) -> Result<(), Fail> {
 }
 
 #[test]
-fn sinks(rt: HostRuntime) -> Result<(), Fail> {
+fn a_sink_in_memory(rt: HostRuntime) -> Result<(), Fail> {
     let mut sink = MemSink::new(rt.alloc(), 4);
     assert_eq!(rt; write_all(&mut sink, b"ok".as_slice()), Ok(()));
     assert_eq!(rt; sink.write(b",,".as_slice()), Ok(2));
@@ -496,6 +526,11 @@ fn sinks(rt: HostRuntime) -> Result<(), Fail> {
     assert_eq!(rt; sink.write(b"lost".as_slice()), Err(SinkFault));
     assert_eq!(rt; sink.flush(), Err(SinkFault));
     assert!(rt; sink.bytes() == b"ok,,".as_slice());
+    Ok(())
+}
+
+#[test]
+fn a_sink_with_little_room(rt: HostRuntime) -> Result<(), Fail> {
     let mut room = [0u8; 3];
     let mut out = OutSink::new(room.as_mut_slice());
     assert_eq!(rt; write_all(&mut out, b"ok".as_slice()), Ok(()));

@@ -54,23 +54,24 @@ fn strings_alone(rt: &impl Abort, alloc: Global) -> Result<PlainMap, Memory> {
     Ok(map)
 }
 
+// Whether two strings end at a point, each with its far end, where that lies, and its place.
+fn check_ends(rt: &impl Abort, stars: &Stars, at: u32, wanted: [(u32, i64, i64, usize); 2]) {
+    let ends = stars.ends(point(rt, at));
+    assert_eq!(rt; ends.len(), wanted.len());
+    for (end, (far, x, y, place)) in ends.iter().zip(wanted) {
+        assert!(rt; end.far == point(rt, far), "{at} {far}");
+        assert!(rt; end.position == position(rt, x, y), "{at} {far}");
+        assert_eq!(rt; end.place, place);
+    }
+}
+
 #[test]
 fn strings_stand_at_their_points_in_order(rt: HostRuntime) -> Result<(), Fail> {
     let map = strings_alone(&rt, rt.alloc())?;
     let stars = Stars::of(rt.alloc(), &map)?;
-    for (at, wanted) in [
-        (1, [(2, 30, -4, 0), (3, 0, 0, 2)]),
-        // a string from a point to itself stands there once
-        (3, [(3, 0, 0, 1), (1, 0, 0, 2)]),
-    ] {
-        let ends = stars.ends(point(&rt, at));
-        assert_eq!(rt; ends.len(), wanted.len());
-        for (end, (far, x, y, place)) in ends.iter().zip(wanted) {
-            assert!(rt; end.far == point(&rt, far), "{at} {far}");
-            assert!(rt; end.position == position(&rt, x, y), "{at} {far}");
-            assert_eq!(rt; end.place, place);
-        }
-    }
+    check_ends(&rt, &stars, 1, [(2, 30, -4, 0), (3, 0, 0, 2)]);
+    // a string from a point to itself stands there once
+    check_ends(&rt, &stars, 3, [(3, 0, 0, 1), (1, 0, 0, 2)]);
     assert!(rt; stars.ends(point(&rt, 4)).is_empty());
     Ok(())
 }
