@@ -2,6 +2,7 @@
 
 pub(crate) mod counted;
 pub(crate) mod crossing;
+pub(crate) mod given;
 pub(crate) mod hidden;
 pub(crate) mod joining;
 pub(crate) mod moved;

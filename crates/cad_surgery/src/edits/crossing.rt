@@ -5,7 +5,6 @@ ghost use Rattle.cad_rings.specs.Cycle.{has_side, sides_of};
 ghost use Rattle.cad_map.specs.Chain.{start_of, next_of, end_of, last_but_one, leaving};
 ghost use Rattle.cad_map.specs.Chain.{chosen_corner as chosen_corner_of};
 ghost use Rattle.cad_map.specs.Map.{all_sides};
-ghost use Rattle.cad_map.specs.Rings.{HasWholeRings};
 ghost use Rattle.cad_map.specs.Valid.{IsValid};
 ghost use Rattle.half_table.specs.Rows.{origin_of, cycle};
 ghost use Rattle.half_paths.specs.Path.{AreIn};

@@ -1,5 +1,5 @@
 //! A division on a map on half-edges: tried, taken back where it breaks a rule, and made again.
-ghost use Rattle.std.specs.Prelude.{◌≡◌, ◌<◌, ◌∷◌, length, map as map_by, IfOk, IfErr, OnOk, OnErr};
+ghost use Rattle.std.specs.Prelude.{◌≡◌, map as map_by, IfOk, IfErr, OnOk, OnErr};
 ghost use Rattle.cad_map.specs.Asked.{GivesInRange};
 ghost use Rattle.cad_map.specs.Costs.{work_bound};
 ghost use Rattle.cad_map.specs.Effects.{after};
@@ -24,8 +24,8 @@ ghost use Rattle.cad_surgery.specs.Work.{TakesWork};
 use crate::draft::Draft;
 use crate::edits::counted::is_work_in_range;
 use crate::edits::crossing::{Crossing, crossing_of};
+use crate::edits::given::{Kept, first_and_rest, halves_of, kept_of};
 use crate::edits::hidden::drop_hidden;
-use crate::edits::try_enclose::{Kept, kept_of};
 use cad_edit::rows_along;
 use cad_rows::{
     Face, Label, Memory, Numbers, ParcelNo, ParcelRow, PointNo, Refusal, SourceNo, StringNo,
@@ -34,7 +34,7 @@ use cad_rows::{
 use cad_valid::{Touched, first_broken_near};
 use edit_records::SmallRecord;
 use half_table::{Half, Tally};
-use map_parts::{begin_divide, begin_undivide, forward, undivide};
+use map_parts::{begin_divide, begin_undivide, undivide};
 use std::alloc::Global;
 
 /// What a division names and gives.
@@ -46,14 +46,6 @@ pub(crate) struct Division<'a> {
     pub(crate) parcel: ParcelNo,
     pub(crate) label: &'a Label,
     pub(crate) source: SourceNo,
-}
-
-// The first half of a path, and the others.
-fn first_and_rest(path: &[Half]) -> (&Half, &[Half])
-    requires { 0 < length path.now }
-    ensures { path.now ≡ result.0.now ∷ result.1.now }
-{
-    (&path[0], &path[1..])
 }
 
 /// Divides a face with the rows that come, and takes it back where it breaks a rule. The halves
@@ -168,17 +160,6 @@ pub(crate) fn divide_again<T: Tally>(
         end,
         moved,
     )
-}
-
-// The halves of strings, each from its string's first point to its second.
-fn halves_of(alloc: Global, strings: &[StringNo]) -> Result<Vec<Half>, Memory>
-    ensures { IfOk result (λ path. path.items ≡ map_by forward_of strings.now) }
-{
-    let mut path = Vec::new(alloc);
-    for place in 0..strings.len() {
-        path.push(forward(&strings[place]))?;
-    }
-    Ok(path)
 }
 
 // What the record of a division tells: the division, the halves that follow the chain's two ends,

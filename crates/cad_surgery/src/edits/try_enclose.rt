@@ -1,5 +1,5 @@
 //! An enclosure on a map on half-edges: tried, taken back, and made again.
-ghost use Rattle.std.specs.Prelude.{◌≡◌, ◌<◌, ◌≤◌, ◌++◌, ◌∷◌, [], length, map as map_by, IfOk, IfErr, OnOk, OnErr};
+ghost use Rattle.std.specs.Prelude.{◌≡◌, ◌≤◌, ◌++◌, ◌∷◌, [], length, map as map_by, IfOk, IfErr, OnOk, OnErr};
 ghost use Rattle.cad_map.specs.Asked.{GivesInRange};
 ghost use Rattle.cad_map.specs.Chain.{start_of, strings_along};
 ghost use Rattle.cad_map.specs.Costs.{work_bound};
@@ -22,6 +22,7 @@ ghost use Rattle.cad_surgery.specs.Work.{TakesWork};
 
 use crate::draft::Draft;
 use crate::edits::counted::is_work_in_range;
+use crate::edits::given::{Kept, first_and_rest, halves_of, kept_of};
 use crate::edits::hidden::drop_hidden;
 use crate::edits::moved::moved_halves;
 use cad_edit::rows_along;
@@ -33,7 +34,7 @@ use cad_rows::{
 use cad_valid::{Touched, first_broken_near};
 use edit_records::SmallRecord;
 use half_table::{Half, Tally};
-use map_parts::{begin_enclose, begin_open, forward, open};
+use map_parts::{begin_enclose, begin_open, open};
 use std::alloc::Global;
 
 /// What an enclosure names and gives.
@@ -45,14 +46,6 @@ pub(crate) struct Enclosure<'a> {
     pub(crate) parcel: ParcelNo,
     pub(crate) label: &'a Label,
     pub(crate) source: SourceNo,
-}
-
-// The first half of a path, and the others.
-fn first_and_rest(path: &[Half]) -> (&Half, &[Half])
-    requires { 0 < length path.now }
-    ensures { path.now ≡ result.0.now ∷ result.1.now }
-{
-    (&path[0], &path[1..])
 }
 
 // Encloses a part of a face with the rows that come, and takes it back where it breaks a rule.
@@ -160,17 +153,6 @@ fn enclose_again<T: Tally>(
     )
 }
 
-// The halves along strings, from their first points to their second.
-fn halves_along(alloc: Global, strings: &[StringNo]) -> Result<Vec<Half>, Memory>
-    ensures { IfOk result (λ path. path.items ≡ map_by forward_of strings.now) }
-{
-    let mut path = Vec::new(alloc);
-    for place in 0..strings.len() {
-        path.push(forward(&strings[place]))?;
-    }
-    Ok(path)
-}
-
 // Takes an enclosure back, with the halves along its strings.
 fn open_along<T: Tally>(
     draft: &mut Draft<T>,
@@ -227,7 +209,7 @@ pub(crate) fn back_enclose<T: Tally>(
         → TakesWork draft.old.table draft.new.table (work_bound m (map_of draft.old)) }
 {
     is_work_in_range(&draft.table);
-    let path = halves_along(draft.rows.points.allocator(), enclosure.strings)?;
+    let path = halves_of(draft.rows.points.allocator(), enclosure.strings)?;
     open_along(draft, enclosure, path.as_slice(), moved)
 }
 
@@ -290,7 +272,7 @@ fn coming_by<T: Tally>(draft: &Draft<T>, enclosure: &Enclosure<'_>) -> Result<Co
     let alloc = draft.rows.points.allocator();
     let strings = rows_round(alloc, enclosure)?;
     let parcel = parcel_of(alloc, enclosure)?;
-    let path = halves_along(alloc, enclosure.strings)?;
+    let path = halves_of(alloc, enclosure.strings)?;
     let ring = Ring::from_points(alloc, enclosure.points)?;
     let moved = moved_halves(alloc, draft, &enclosure.face, &ring)?;
     Ok(Coming {
@@ -332,30 +314,6 @@ pub(crate) fn forward_enclose<T: Tally>(
         path.as_slice(),
         moved.as_slice(),
     )
-}
-
-/// What the record of a division or an enclosure keeps of the edit: the points, strings and label
-/// that it gives.
-#[derive(Drop)]
-pub(crate) struct Kept {
-    pub(crate) points: Numbers<PointNo>,
-    pub(crate) strings: Numbers<StringNo>,
-    pub(crate) label: Label,
-}
-
-/// Copies of what an edit gives.
-pub(crate) fn kept_of(
-    points: &Numbers<PointNo>,
-    strings: &Numbers<StringNo>,
-    label: &Label,
-) -> Result<Kept, Memory>
-    ensures { IfOk result (λ k. k ≡ record { points = points.now; strings = strings.now; label = label.now }) }
-{
-    Ok(Kept {
-        points: points.copy()?,
-        strings: strings.copy()?,
-        label: label.copy()?,
-    })
 }
 
 // The record of an enclosure that these halves name the rings of.

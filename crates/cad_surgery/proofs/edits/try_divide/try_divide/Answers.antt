@@ -7,7 +7,7 @@ use Rattle.cad_map.specs.Outcome.{MayRefuse, out_of_memory}
 use Rattle.cad_map.specs.Touched.{IsTouched}
 use Rattle.cad_laws.specs.Tried.{IsTried}
 use Rattle.cad_valid.specs.Near.{HoldsMap, touched_of}
-use Rattle.cad_surgery.specs.declared.edits.try_enclose.Kept.{Kept}
+use Rattle.cad_surgery.specs.declared.edits.given.Kept.{Kept}
 use Rattle.map_parts.specs.Parts.{map_of}
 use Rattle.edit_records.specs.Record.{edit_of}
 use Rattle.cad_surgery.specs.Work.{TakesWork}

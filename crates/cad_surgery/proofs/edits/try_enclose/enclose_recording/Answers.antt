@@ -3,7 +3,7 @@ use Rattle.cad_rows.specs.declared.edits.Edit.TheVariants.{Enclose}
 use Rattle.cad_rows.specs.declared.names.Face.TheVariants.{Parcel}
 use Rattle.cad_map.specs.Effects.{after}
 use Rattle.cad_map.specs.Outcome.{out_of_memory}
-use Rattle.cad_surgery.specs.declared.edits.try_enclose.Kept.{Kept}
+use Rattle.cad_surgery.specs.declared.edits.given.Kept.{Kept}
 use Rattle.edit_records.specs.declared.record.SmallRecord.{SmallRecord}
 use Rattle.edit_records.specs.HeldChains.{HeldIsland}
 use Rattle.map_parts.specs.Parts.{FitTogether, map_of}

@@ -1,6 +1,6 @@
 use Rattle.std.proofs.Common.{◌≡◌, ◌++◌, drop, map}
 use Rattle.half_table.specs.Half.{forward_of}
-use Rattle.cad_surgery.proofs.edits.try_divide.halves_of.Given as goal
+use Rattle.cad_surgery.proofs.edits.given.halves_of.Given as goal
 
 -- the halves so far, and those of the other strings
 abbrev pub invariant-loop-place : goal.invariant-loop-place

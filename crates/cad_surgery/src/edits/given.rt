@@ -1,0 +1,52 @@
+//! What a division or an enclosure gives: the halves along its strings, and what its record keeps.
+ghost use Rattle.std.specs.Prelude.{◌≡◌, ◌<◌, ◌∷◌, length, map as map_by, IfOk};
+ghost use Rattle.half_table.specs.Half.{forward_of};
+
+use cad_rows::{Label, Memory, Numbers, PointNo, StringNo};
+use half_table::Half;
+use map_parts::forward;
+use std::alloc::Global;
+
+/// The first half of a path, and the others.
+pub(crate) fn first_and_rest(path: &[Half]) -> (&Half, &[Half])
+    requires { 0 < length path.now }
+    ensures { path.now ≡ result.0.now ∷ result.1.now }
+{
+    (&path[0], &path[1..])
+}
+
+/// The halves of strings, each from its string's first point to its second.
+pub(crate) fn halves_of(alloc: Global, strings: &[StringNo]) -> Result<Vec<Half>, Memory>
+    ensures { IfOk result (λ path. path.items ≡ map_by forward_of strings.now) }
+{
+    let mut path = Vec::new(alloc);
+    for place in 0..strings.len() {
+        path.push(forward(&strings[place]))?;
+    }
+    Ok(path)
+}
+
+/// What the record of a division or an enclosure keeps of the edit: the points, strings and label
+/// that it gives.
+#[derive(Drop)]
+pub(crate) struct Kept {
+    pub(crate) points: Numbers<PointNo>,
+    pub(crate) strings: Numbers<StringNo>,
+    pub(crate) label: Label,
+}
+
+/// Copies of what an edit gives.
+pub(crate) fn kept_of(
+    points: &Numbers<PointNo>,
+    strings: &Numbers<StringNo>,
+    label: &Label,
+) -> Result<Kept, Memory>
+    ensures { IfOk result
+        (λ k. k ≡ record { points = points.now; strings = strings.now; label = label.now }) }
+{
+    Ok(Kept {
+        points: points.copy()?,
+        strings: strings.copy()?,
+        label: label.copy()?,
+    })
+}
