@@ -8,6 +8,10 @@ pub mod EnclosedDraft
 pub mod EnclosedWork
 pub mod HeldEnclosures
 pub mod MovedHalves
+pub mod CrossedRing
+pub mod CrossedHoles
+pub mod DividedCrossing
+pub mod HeldDivisions
 pub mod RowsMade
 pub mod RowsKept
 pub mod DraftRows
