@@ -1,5 +1,5 @@
 -- Room in the stars for the halves of strings that close a ring.
-use Rattle.std.proofs.Common.{◌≡◌, ◌≢◌, ℕ, ◌+◌, ◌<◌, ◌≤◌, ◌==◌, Bool, true, false, refl, sym, ap, subst, ◌∙◌, List, [], ◌∷◌, ◌++◌, map, length, length-append, cond, arith}
+use Rattle.std.proofs.Common.{◌≡◌, ◌≢◌, ℕ, ◌+◌, ◌<◌, ◌≤◌, ◌==◌, Bool, true, false, true≢false, refl, sym, ap, subst, ◌∙◌, List, [], ◌∷◌, ◌++◌, map, length, length-append, cond, arith}
 use Rattle.std.specs.Prelude.{count_by, IsPermutation}
 use Rattle.std.specs.List.{AllByRecursion}
 use Rattle.std.proofs.lemmas.Bool.{eqb-true, eq-eqb}
@@ -9,12 +9,13 @@ use Rattle.cad_rings.specs.Cycle.{Ring, Side, sides_along, sides_of}
 use Rattle.cad_map.specs.Map.{side_of}
 use Rattle.cad_map.specs.Valid.{EachPair}
 use Rattle.cad_map.proofs.CallerLemmas.{count-yes, count-no}
-use Rattle.key_lists.specs.Held.{Held, HasRoomAt}
+use Rattle.key_lists.specs.Held.{Held, HasRoomAt, KeepsOthers}
 use Rattle.map_parts.specs.declared.stars.Spoke.{Spoke}
 use Rattle.map_parts.specs.Stars.{spokes_of, spokes_at}
 use Rattle.map_parts.specs.StringRows.{HasRoomFor}
 use Rattle.map_parts.proofs.AlongPaths.{starts-along}
 use Rattle.map_parts.proofs.CycleRings.{map-map}
+use Rattle.map_parts.proofs.Passing.StarsChanged.{same-room}
 
 module _ (p : ℕ) where
   abbrev pub is : ℕ → Bool
@@ -117,3 +118,11 @@ ring-room added ring sides each stars room p some =
     let one = once p ring each in
     let two = room-found p stars added (omega (arith, few, from_count, to_count, some)) room in
     omega (arith, few, from_count, to_count, one, two)
+
+-- room at one key takes none from another
+pub room-stays : (key : ℕ) (old new : Held Spoke) → KeepsOthers key old new → HasRoomAt new key 2 → (p : ℕ) → HasRoomAt old p 2 → HasRoomAt new p 2
+room-stays key old new others here p room = by (key == p) refl
+  where
+    by : (b : Bool) → (key == p) ≡ b → HasRoomAt new p 2
+    by true e = subst (λ (n : ℕ). HasRoomAt new n 2) (eqb-true key p e) here
+    by false e = same-room old new p 2 (others p (λ same. true≢false (sym (eq-eqb key p same) ∙ e))) room

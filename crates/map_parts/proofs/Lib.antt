@@ -61,3 +61,4 @@ pub mod Merging
 pub mod MergingIsland
 pub mod MergingBegun
 pub mod MergingIslandBegun
+pub mod UnmergingBegun

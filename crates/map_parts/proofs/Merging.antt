@@ -1,8 +1,11 @@
 -- A merger along a chain on a map on half-edges that is made in place, and taken back.
-use Rattle.std.proofs.Common.{◌≡◌, ◌≢◌, ℕ, suc, ◌+◌, ◌≤◌, false, sym, ap, subst, ◌∙◌, List, [], ◌∷◌, ◌++◌, length, reverse, take, add-one, arith}
+use Rattle.std.proofs.Common.{◌≡◌, ◌≢◌, ℕ, suc, ◌+◌, ◌≤◌, ◌==◌, false, sym, ap, subst, ◌∙◌, List, [], ◌∷◌, ◌++◌, length, reverse, take, add-one, arith}
+use Rattle.std.specs.Prelude.{IsPermutation}
 use Rattle.std.specs.List.{AllByRecursion}
+use Rattle.std.proofs.lemmas.Bool.{eqb-true, eq-eqb}
 use Rattle.std.proofs.lemmas.List.{length-take-le, reverse-reverse}
 use Rattle.std.proofs.lemmas.List.Elements.{Contains-append_right}
+use Rattle.std.proofs.lemmas.List.Sorted.{IsPermutation-reverse}
 use Rattle.cad_rows.specs.declared.names.Face.{Face}
 use Rattle.cad_rows.specs.declared.names.Face.TheVariants.{Parcel}
 use Rattle.cad_rows.specs.declared.rows.ParcelRow.{ParcelRow}
@@ -17,7 +20,7 @@ use Rattle.cad_map.specs.Merger.{ChainInRings, shared_sides}
 use Rattle.cad_map.specs.Merger.ChainInRings.{along, around}
 use Rattle.cad_map.specs.Rings.{HasWholeRings}
 use Rattle.cad_map.specs.Valid.{EachPair, IsValid}
-use Rattle.cad_map.proofs.CallerLemmas.{IsFound, found, along-passed, pairs-from_distinct, All-at_each, Contains-first, Contains-later}
+use Rattle.cad_map.proofs.CallerLemmas.{IsFound, found, along-passed, pairs-from_distinct, pairs-IsPermutation, All-at_each, Contains-first, Contains-later}
 use Rattle.half_table.specs.declared.half.Half.{Half}
 use Rattle.half_table.specs.Half.{twin}
 use Rattle.half_table.specs.Rows.{HalfRows, IsLinked, next}
@@ -58,6 +61,7 @@ chain-ends chain long each =
 pub record IsOpenChain (chain : List ℕ) : Type 0 where
   pub long : 2 ≤ length chain
   pub apart : start_of chain ≢ end_of chain
+  pub differ : EachPair (λ a b. a ≢ b) chain
 
 abbrev OpenChain : ChainInRings → Type 0
 OpenChain (along n k i e j) = IsOpenChain (chain_from j n e)
@@ -84,6 +88,9 @@ open-chain m valid keeper ended x (IsFound.by_chain k i e j k_there e_there is) 
       apart = λ same.
           chain-ends own (omega (arith, own_long, some)) each
           (ap start_of common ∙ sym same ∙ ap start_of (sym (reverse-reverse other) ∙ ap reverse (sym common)));
+      differ =
+          pairs-IsPermutation (λ a b. a == b) (λ a b. (eqb-true a b, eq-eqb a b)) own other
+          (subst (λ (l : List ℕ). IsPermutation own l) (ap reverse common ∙ reverse-reverse other) (IsPermutation-reverse own)) each;
     }
 
 -- ---- The merger

@@ -1,24 +1,24 @@
 -- A merger of two parcels along a chain, made in place and taken back.
-use Rattle.std.specs.Prelude.{◌≡◌, ℕ, ◌+◌, List, map, length, slice_get, Some, IsPermutation}
+use Rattle.std.specs.Prelude.{◌≡◌, ℕ, ◌+◌, if◌then◌else◌, List, [], ◌∷◌, map, length, slice_get, Some, IsPermutation}
 use Rattle.std.specs.List.{AllByRecursion, Contains}
 use Rattle.cad_rows.specs.declared.edits.Edit.TheVariants.{Merge}
 use Rattle.cad_rows.specs.declared.names.Face.{Face}
 use Rattle.cad_rows.specs.declared.names.Face.TheVariants.{Parcel}
 use Rattle.cad_rows.specs.declared.rows.ParcelRow.{ParcelRow}
 use Rattle.cad_rows.specs.declared.rows.StringRow.{StringRow}
-use Rattle.cad_rings.specs.Cycle.{Corner, Ring}
+use Rattle.cad_rings.specs.Cycle.{Corner, Ring, Side, opposite}
 use Rattle.cad_rings.specs.Surgery.{chain_from, sides_of_chain}
 use Rattle.cad_map.specs.declared.boundary.Boundary.{Boundary}
 use Rattle.cad_map.specs.Boundaries.{face_place}
 use Rattle.cad_map.specs.Chain.{leaving}
 use Rattle.cad_map.specs.Effects.{after}
-use Rattle.cad_map.specs.Map.{Map}
+use Rattle.cad_map.specs.Map.{Map, side_of}
 use Rattle.cad_map.specs.Merger.{shared_chains}
 use Rattle.cad_map.specs.Merger.ChainInRings.{along}
 use Rattle.half_table.specs.declared.half.Half.{Half}
 use Rattle.half_table.specs.Rows.{HalfRows, next}
-use Rattle.half_paths.specs.Loose.{AreLoose, numbers_of}
-use Rattle.half_paths.specs.Path.{strings_of}
+use Rattle.half_paths.specs.Loose.{AreLoose, AreNew, numbers_of}
+use Rattle.half_paths.specs.Path.{AreIn, strings_of}
 use Rattle.entry_list.specs.Slots.{HasSlot}
 use Rattle.key_lists.specs.Held.{Held, items_at, HasRoomAt}
 use Rattle.cad_laws.specs.Counts.{shared_strings}
@@ -96,6 +96,20 @@ pub record CanBeginMerge (keeper : Face) (ended : ℕ) (strings : List ℕ) (pat
 abbrev pub rows_gone : List PlacedString → List StringRow
 rows_gone gone = map (λ (g : PlacedString). g.row) gone
 
+-- a string's row without its sources
+abbrev pub bare_row : StringRow → StringRow
+bare_row r = record r { sources = [] }
+
+-- at both ends of the string two halves more can begin
+abbrev pub HasRoomAtEnds : Held Spoke → StringRow → Type 0
+HasRoomAtEnds stars s = HasRoomAt stars s.from 2 × HasRoomAt stars s.to 2
+
+-- the sides along which strings lead, as these halves of them do
+abbrev pub sides_led : List Half → List StringRow → List Side
+sides_led (h ∷ path) (r ∷ rows) =
+    (if h.forward then side_of r else opposite (side_of r)) ∷ sides_led path rows
+sides_led path rows = []
+
 -- The map is that after a merger which was tried, and the rows that went are at hand with their
 -- places: the strings are in the table, loose, there is room for all that comes back, and so are the
 -- halves that leave the two corners, and those of the rings that pass over.
@@ -118,3 +132,21 @@ pub record CanUnmerge (keeper : Face) (row : ParcelRow) (place : ℕ) (path : Li
   pub room : HasRoomFor (rows_gone gone) stars
   pub inner_room : HasRoomAt held (face_place (Parcel row.number)) (length (items_at held (face_place keeper)) + 1)
   pub outer_room : HasRoomAt held (face_place keeper) 1
+
+-- The map is that after a merger which was tried, and the rows that went are at hand with their
+-- places: the table has none of the strings. So are the halves that leave the two corners, and those
+-- of the rings that pass over.
+pub record CanBeginUnmerge (keeper : Face) (row : ParcelRow) (place : ℕ) (path : List Half) (start end : Half) (moved : List Half) (gone : List PlacedString)
+    (rows : MapRows) (table : HalfRows) (held : Held Half) (stars : Held Spoke) : Type 0 where
+  pub map : Map
+  pub is : IsMerging map keeper row.number path
+  pub fits : FitMap (merged is) rows table held stars
+  pub new : AreNew table (rows_gone gone)
+  pub sides : sides_led path (rows_gone gone) ≡ sides_of_chain (shared_chain is)
+  pub start_on : IsAlong (merged is) table (leaving (first_corner is)) start
+  pub end_on : IsAlong (merged is) table (leaving (last_corner is)) end
+  pub moved_in : AreIn table moved
+  pub moved_are : AreOfRings map table moved (Parcel row.number) (rings_past is)
+  pub numbers_are : numbers_placed gone ≡ strings_of path
+  pub stood : StoodIn map.strings gone
+  pub at : slice_get map.parcels place ≡ Some row

@@ -24,7 +24,7 @@ pub use edits::labels::rename;
 pub use edits::merging::{merge_along, unmerge_along};
 pub use edits::merging_island::{merge_island, unmerge_island};
 pub use edits::merging_island_tried::begin_merge_island;
-pub use edits::merging_tried::{EndedParcel, begin_merge_along};
+pub use edits::merging_tried::{EndedParcel, begin_merge_along, begin_unmerge_along};
 pub use edits::placed_strings::PlacedString;
 pub use edits::points::{add_point, move_point, put_point_back, take_point};
 pub use edits::sources::{add_source, attach, attach_at, detach, take_source};

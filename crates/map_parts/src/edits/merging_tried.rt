@@ -1,31 +1,37 @@
 //! A merger along a chain with the room that it takes: made, and taken back.
 ghost use Rattle.std.specs.Prelude.{◌≡◌, ◌≢◌, ◌+◌, ◌*◌, ◌∷◌, ℕ, Some, length, slice_get};
-ghost use Rattle.std.specs.Prelude.{IfOk, OnOk, OnErr};
+ghost use Rattle.std.specs.Prelude.{◌≤◌, nat_eq, true, map, if◌then◌else◌, IfOk, OnOk, OnErr};
+ghost use Rattle.std.specs.List.{AllByRecursion, IsDistinct};
 ghost use Rattle.cad_map.specs.Boundaries.{face_place as face_place_of};
 ghost use Rattle.cad_map.specs.Chain.{leaving};
 ghost use Rattle.cad_map.specs.Map.{parcel_of};
 ghost use Rattle.cad_rows.specs.declared.names.Face.TheVariants.{Parcel};
 ghost use Rattle.half_table.specs.declared.half.Half.{Half as HalfOf};
 ghost use Rattle.half_table.specs.Count.{ticked};
-ghost use Rattle.half_table.specs.Rows.{next, has, origin_of, cycle};
-ghost use Rattle.half_paths.specs.Loose.{AreLoose};
+ghost use Rattle.half_table.specs.Rows.{IsLinked, next, has, origin_of, cycle};
+ghost use Rattle.half_paths.specs.Loose.{is_of, numbers_of, AddsStrings, AreLoose, AreNew};
 ghost use Rattle.key_lists.specs.Held.{items_at, HasRoomAt, IsSame};
 ghost use Rattle.map_parts.specs.Labels.{IsAlong};
-ghost use Rattle.map_parts.specs.Merging.{CanBeginMerge, CanUnmerge, merged};
+ghost use Rattle.entry_list.specs.Slots.{HasSlot};
+ghost use Rattle.map_parts.specs.Merging.{CanBeginMerge, CanBeginUnmerge, CanUnmerge, merged};
+ghost use Rattle.map_parts.specs.Merging.{bare_row, rows_gone, HasRoomAtEnds};
 ghost use Rattle.map_parts.specs.Merging.{first_corner, last_corner};
 ghost use Rattle.map_parts.specs.PlacedStrings.{numbers_placed, StoodIn};
 ghost use Rattle.map_parts.specs.Relabelled.{cycles_length};
 ghost use Rattle.map_parts.specs.Rows.{map_in};
 ghost use Rattle.map_parts.specs.Splitting.{FitMap};
 
-use crate::edits::merging::merge_along;
+use crate::edits::island_rooms::{keep_slots, make_kept_room};
+use crate::edits::merging::{merge_along, unmerge_along};
 use crate::edits::placed_strings::PlacedString;
 use crate::kept::face_place;
 use crate::map_rows::MapRows;
 use crate::stars::Spoke;
-use cad_rows::{Face, Memory, ParcelNo, ParcelRow, StringNo};
+use cad_rows::{Face, Memory, Numbers, ParcelNo, ParcelRow, StringNo, StringRow};
+use half_paths::add_strings;
 use half_table::{Half, HalfTable, Tally};
 use key_lists::KeyLists;
+use std::alloc::Global;
 
 /// What goes by a merger: the ended parcel's row and its place, and the strings with theirs.
 #[derive(Debug, Drop)]
@@ -118,4 +124,137 @@ pub fn begin_merge_along<T: Tally>(
         place,
         strings: gone,
     })
+}
+
+// The strings that went, without their sources.
+fn bare_rows(alloc: Global, gone: &[PlacedString]) -> Result<Vec<StringRow>, Memory>
+    ensures { IfOk result (λ rows. rows.items ≡ map bare_row (rows_gone gone.now)) }
+{
+    let mut rows = Vec::new(alloc);
+    for place in 0..gone.len() {
+        let row = &gone[place].row;
+        rows.push(StringRow {
+            number: row.number,
+            from: row.from,
+            to: row.to,
+            sources: Numbers::new(alloc),
+        })?;
+    }
+    Ok(rows)
+}
+
+// Sees that at both ends of each of these strings two halves more can begin without memory.
+fn make_end_room(stars: &mut KeyLists<Spoke>, strings: &[StringRow]) -> Result<(), Memory>
+    ensures same { IsSame stars.old stars.new }
+    ensures room { OnOk result (AllByRecursion (HasRoomAtEnds stars.new) strings.now) }
+{
+    for string in strings {
+        stars.reserve(u64::from(string.from.get()), 2)?;
+        stars.reserve(u64::from(string.to.get()), 2)?;
+    }
+    Ok(())
+}
+
+// Sees that what a merger took can come back without memory, and adds its strings to the table,
+// loose. Where memory runs out, the table has the strings that it had.
+fn make_unmerge_room<T: Tally>(
+    rows: &mut MapRows,
+    table: &mut HalfTable<T>,
+    kept: &mut KeyLists<Half>,
+    stars: &mut KeyLists<Spoke>,
+    keeper: &Face,
+    gone: &EndedParcel,
+) -> Result<(), Memory>
+    requires linked { IsLinked table.old.rows }
+    requires new { AreNew table.old.rows (rows_gone gone.now.strings.items) }
+    requires different { IsDistinct nat_eq (numbers_placed gone.now.strings.items) }
+    ensures rows { map_in rows.new ≡ map_in rows.old }
+    ensures slots { OnOk result
+        (AllByRecursion (λ s. HasSlot rows.new.strings s.number) (rows_gone gone.now.strings.items)) }
+    ensures parcel_slot { OnOk result (HasSlot rows.new.parcels gone.now.row.number) }
+    ensures stars { IsSame stars.old stars.new }
+    ensures room { OnOk result
+        (AllByRecursion (HasRoomAtEnds stars.new) (rows_gone gone.now.strings.items)) }
+    ensures kept { IsSame kept.old kept.new }
+    ensures inner { OnOk result (HasRoomAt kept.new (face_place_of (Parcel gone.now.row.number))
+        (length (items_at kept.new (face_place_of keeper.now)) + 2)) }
+    ensures outer { OnOk result (HasRoomAt kept.new (face_place_of keeper.now) 2) }
+    ensures adds { OnOk result
+        (AddsStrings (rows_gone gone.now.strings.items) table.old.rows table.new.rows) }
+    ensures linked { IsLinked table.new.rows }
+    ensures err { OnErr result (table.new.rows ≡ table.old.rows) }
+    ensures work { OnOk result
+        (table.new.work ≡ ticked (length gone.now.strings.items) table.old.work) }
+    ensures err_work { OnErr result ((count : ℕ) × (count ≤ length gone.now.strings.items)
+        × (table.new.work ≡ ticked count (ticked count table.old.work))) }
+{
+    let bare = bare_rows(rows.strings.allocator(), gone.strings.as_slice())?;
+    keep_slots(rows, bare.as_slice())?;
+    rows.parcels.keep_slot(gone.row.number.get())?;
+    make_end_room(stars, bare.as_slice())?;
+    make_kept_room(kept, keeper, gone.row.number)?;
+    add_strings(table, bare.as_slice())?;
+    Ok(())
+}
+
+/// Takes a merger along a chain back, with the room that it takes and its strings in the table.
+///
+/// # Errors
+///
+/// Where memory runs out the map stays, and the table has the strings that it had.
+pub fn begin_unmerge_along<T: Tally>(
+    rows: &mut MapRows,
+    table: &mut HalfTable<T>,
+    kept: &mut KeyLists<Half>,
+    stars: &mut KeyLists<Spoke>,
+    keeper: &Face,
+    gone: EndedParcel,
+    first: &Half,
+    rest: &[Half],
+    start: &Half,
+    end: &Half,
+    moved: &[Half],
+) -> Result<(), Memory>
+    requires { CanBeginUnmerge keeper.now gone.row gone.place (first.now ∷ rest.now) start.now
+        end.now moved.now gone.strings.items rows.old table.old.rows kept.old stars.old }
+    ensures fits { (can : CanBeginUnmerge keeper.now gone.row gone.place (first.now ∷ rest.now)
+        start.now end.now moved.now gone.strings.items rows.old table.old.rows kept.old stars.old)
+        → OnOk result (FitMap can.map rows.new table.new.rows kept.new stars.new) }
+    ensures err { (can : CanBeginUnmerge keeper.now gone.row gone.place (first.now ∷ rest.now)
+        start.now end.now moved.now gone.strings.items rows.old table.old.rows kept.old stars.old)
+        → OnErr result (FitMap (merged can.is) rows.new table.new.rows kept.new stars.new) }
+    ensures err_table { OnErr result (table.new.rows ≡ table.old.rows) }
+    ensures has { OnOk result ((h : HalfOf) → has table.new.rows h
+        ≡ (if is_of (numbers_placed gone.strings.items) h then true else has table.old.rows h)) }
+    ensures origin { OnOk result ((h : HalfOf) → has table.old.rows h ≡ true
+        → origin_of table.new.rows h ≡ origin_of table.old.rows h) }
+    ensures work { OnOk result (table.new.work ≡ ticked (2 + 2 * length rest.now
+        + (length rest.now + 2)
+        + (length (cycle table.new.rows first.now) + cycles_length table.new.rows moved.now))
+        (ticked (length gone.strings.items) table.old.work)) }
+    ensures err_work { OnErr result ((count : ℕ) × (count ≤ length gone.strings.items)
+        × (table.new.work ≡ ticked count (ticked count table.old.work))) }
+{
+    make_unmerge_room(rows, table, kept, stars, keeper, &gone)?;
+    let EndedParcel {
+        row,
+        place,
+        mut strings,
+    } = gone;
+    unmerge_along(
+        rows,
+        table,
+        kept,
+        stars,
+        keeper,
+        row,
+        place,
+        first,
+        rest,
+        start,
+        end,
+        moved,
+        &mut strings,
+    );
+    Ok(())
 }

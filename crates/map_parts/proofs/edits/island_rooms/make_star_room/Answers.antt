@@ -1,21 +1,12 @@
-use Rattle.std.proofs.Common.{◌≡◌, ◌∷◌, [], ◌++◌, ◌+◌, ◌==◌, ℕ, List, Bool, true, false, true≢false, take, refl, sym, ap, subst, ◌∙◌, arith}
+use Rattle.std.proofs.Common.{◌≡◌, ◌∷◌, [], ◌++◌, ◌+◌, ℕ, List, take, refl, sym, ap, subst, ◌∙◌, arith}
 use Rattle.std.specs.List.{AllByRecursion}
-use Rattle.std.proofs.lemmas.Bool.{eqb-true, eq-eqb}
 use Rattle.std.proofs.lemmas.List.{take_more, take_all}
 use Rattle.cad_rows.specs.declared.rows.StringRow.{StringRow}
 use Rattle.cad_map.proofs.CallerLemmas.{All-follows, All-push}
-use Rattle.key_lists.specs.Held.{Held, HasRoomAt, KeepsOthers}
+use Rattle.key_lists.specs.Held.{Held, HasRoomAt}
 use Rattle.map_parts.specs.declared.stars.Spoke.{Spoke}
-use Rattle.map_parts.proofs.Passing.StarsChanged.{same-room}
+use Rattle.map_parts.proofs.IslandRoom.{room-stays}
 use Rattle.map_parts.proofs.edits.island_rooms.make_star_room.Goals as goal
-
--- room at one key takes none from another
-room-stays : (key : ℕ) (old new : Held Spoke) → KeepsOthers key old new → HasRoomAt new key 2 → (p : ℕ) → HasRoomAt old p 2 → HasRoomAt new p 2
-room-stays key old new others here p room = by (key == p) refl
-  where
-    by : (b : Bool) → (key == p) ≡ b → HasRoomAt new p 2
-    by true e = subst (λ (n : ℕ). HasRoomAt new n 2) (eqb-true key p e) here
-    by false e = same-room old new p 2 (others p (λ same. true≢false (sym (eq-eqb key p same) ∙ e))) room
 
 pub loop-string-init : goal.loop-string-init
 loop-string-init c = record { same = λ p. refl; room = tt }
