@@ -40,5 +40,6 @@ pub mod CrossedHoles
 pub mod DividedCrossing
 pub mod HeldDivisions
 pub mod MergedIslandDraft
+pub mod SharedRings
 pub mod MergedDraft
 pub mod HeldMergers

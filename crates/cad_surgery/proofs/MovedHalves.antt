@@ -107,7 +107,7 @@ module _ (d : Parts) (fit : FitTogether d) (whole : HasWholeRings (map_of d)) wh
   keeps = to-each d m.boundaries whole rings
 
   -- the ring of a half that is kept, and that half's home
-  kept-home : (f : Face) (h : Half) → Contains (kept_at d f) h
+  pub kept-home : (f : Face) (h : Half) → Contains (kept_at d f) h
       → ((home_of m rows h).face ≡ f) × IsSameRing (home_of m rows h).ring (map (origin_of rows) (cycle rows h))
   kept-home f h among =
       let at = keeps.on f h among in
@@ -195,31 +195,43 @@ module _ (d : Parts) (fit : FitTogether d) (whole : HasWholeRings (map_of d)) wh
       by true is = inl (face-known d f is)
       by false is = inr (fit.no_face f is)
 
-  -- the halves whose homes pass are one half of each ring that passes
+  -- the halves whose homes pass a test of the face are one half of each ring that passes
+  module _ (f : Face) (test : Boundary → Bool) (own : (b : Boundary) → is_face f b.face ≡ false → test b ≡ false) (halves : List Half)
+      (is : halves ≡ filter (λ h. test (home_of m rows h)) (kept_at d f)) where
+    pub passing-on : AllByRecursion (λ h. IsOnRing m rows (home_of m rows h) h) halves
+    passing-on = All-from_each (λ h. IsOnRing m rows (home_of m rows h) h) halves (λ h among.
+        let kept = (filter-Contains (λ h. test (home_of m rows h)) (kept_at d f) h (subst (λ (l : List Half). Contains l h) is among)).0 in
+        let at = keeps.on f h kept in
+        subst (λ (b : Boundary). IsOnRing m rows b h) (sym (home-is m whole rows at.0 at.1 h at.2)) at.2)
+
+    pub passing-all : IsPermutation (map (home_of m rows) halves) (filter test m.boundaries)
+    passing-all =
+        subst (λ (l : List Boundary). IsPermutation l (filter test m.boundaries)) (sym told)
+        (filter-permuted test (map (home_of m rows) (halves_kept m d.kept)) m.boundaries keeps.all)
+      where
+        passes : Half → Bool
+        passes h = test (home_of m rows h)
+
+        other : (g : Face) → g ≢ f → (h : Half) → Contains (kept_at d g) h → passes h ≡ false
+        other g apart h among = by (is_face f (home_of m rows h).face) refl
+          where
+            by : (t : Bool) → is_face f (home_of m rows h).face ≡ t → passes h ≡ false
+            by true same = absurd (apart (sym (kept-home g h among).0 ∙ sym (is_face-same f (home_of m rows h).face same)))
+            by false same = own (home_of m rows h) same
+
+        told : map (home_of m rows) halves ≡ filter test (map (home_of m rows) (halves_kept m d.kept))
+        told =
+            ap (map (home_of m rows))
+            (is ∙ sym (at-face f passes other (faces m) (faces-once m whole) (known f)))
+            ∙ sym (filter-of_map test (home_of m rows) (halves_kept m d.kept))
+
+  -- as those of the holes in a ring are
   pub holes-are : (f : Face) (ring : Ring) (halves : List Half)
       → halves ≡ filter (λ h. moves_in m f ring (home_of m rows h)) (kept_at d f) → AreOfHoles m rows f ring halves
   holes-are f ring halves is = record {
-    on = All-from_each (λ h. IsOnRing m rows (home_of m rows h) h) halves (λ h among.
-        let kept = (filter-Contains passes (kept_at d f) h (subst (λ (l : List Half). Contains l h) is among)).0 in
-        let at = keeps.on f h kept in
-        subst (λ (b : Boundary). IsOnRing m rows b h) (sym (home-is m whole rows at.0 at.1 h at.2)) at.2);
-    all =
-        subst (λ (l : List Boundary). IsPermutation l (filter (moves_in m f ring) m.boundaries)) (sym told)
-        (filter-permuted (moves_in m f ring) (map (home_of m rows) (halves_kept m d.kept)) m.boundaries keeps.all);
+    on = passing-on f (moves_in m f ring) own halves is;
+    all = passing-all f (moves_in m f ring) own halves is;
   }
     where
-      passes : Half → Bool
-      passes h = moves_in m f ring (home_of m rows h)
-
-      other : (g : Face) → g ≢ f → (h : Half) → Contains (kept_at d g) h → passes h ≡ false
-      other g apart h among = by (is_face f (home_of m rows h).face) refl
-        where
-          by : (t : Bool) → is_face f (home_of m rows h).face ≡ t → passes h ≡ false
-          by true same = absurd (apart (sym (kept-home g h among).0 ∙ sym (is_face-same f (home_of m rows h).face same)))
-          by false same = ap (λ (t : Bool). t && is_negative m (home_of m rows h).ring && is_in_ring m ring (anchor_of (home_of m rows h).ring)) same
-
-      told : map (home_of m rows) halves ≡ filter (moves_in m f ring) (map (home_of m rows) (halves_kept m d.kept))
-      told =
-          ap (map (home_of m rows))
-          (is ∙ sym (at-face f passes other (faces m) (faces-once m whole) (known f)))
-          ∙ sym (filter-of_map (moves_in m f ring) (home_of m rows) (halves_kept m d.kept))
+      own : (b : Boundary) → is_face f b.face ≡ false → moves_in m f ring b ≡ false
+      own b same = ap (λ (t : Bool). t && is_negative m b.ring && is_in_ring m ring (anchor_of b.ring)) same

@@ -7,6 +7,7 @@ pub(crate) mod hidden;
 pub(crate) mod joining;
 pub(crate) mod moved;
 pub(crate) mod rows;
+pub(crate) mod shared_ring;
 pub(crate) mod try_divide;
 pub(crate) mod try_enclose;
 pub(crate) mod try_join;
