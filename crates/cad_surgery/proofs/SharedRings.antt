@@ -270,10 +270,10 @@ module _ (d : Parts) (fit : FitTogether d) (keeper : Face) (ended : ℕ) (tried 
     pub names-rings : NamesRings m moved (rings_beside m (Parcel ended) s)
     names-rings = record {
       each = All-from_each (λ g. (b : Boundary) × Contains (rings_beside m (Parcel ended) s) b × IsOfRing m b g) moved (λ g among. (
-          home_of m rows g,
-          Contains-permutation (map (home_of m rows) moved) (rings_beside m (Parcel ended) s) (home_of m rows g) homes (Contains-map (home_of m rows) moved g among),
-          named g among,
-        ));
+        home_of m rows g,
+        Contains-permutation (map (home_of m rows) moved) (rings_beside m (Parcel ended) s) (home_of m rows g) homes (Contains-map (home_of m rows) moved g among),
+        named g among,
+      ));
       all = λ b among.
           let g = map-Contains (home_of m rows) moved b
           (Contains-permutation (rings_beside m (Parcel ended) s) (map (home_of m rows) moved) b (IsPermutation-sym (map (home_of m rows) moved) (rings_beside m (Parcel ended) s) homes) among) in

@@ -12,6 +12,7 @@ ghost use Rattle.cad_surgery.specs.IslandMergers.{HasSharedRing};
 ghost use Rattle.map_parts.specs.Parts.{map_of};
 
 use crate::draft::Draft;
+use crate::edits::try_merge_along::numbers_of;
 use cad_rows::{Face, Memory, ParcelNo, PointNo, StringNo};
 use half_table::{Half, HalfTable, Tally};
 use map_parts::face_place;
@@ -42,24 +43,11 @@ fn halves_round<T: Tally>(
     Ok(path)
 }
 
-// The strings of halves, in their order.
-fn strings_round(alloc: Global, path: &[Half]) -> Result<Vec<StringNo>, Memory>
-    ensures { IfOk result (λ strings. strings.items ≡ strings_of path.now) }
-{
-    let mut strings = Vec::new(alloc);
-    for place in 0..path.len() {
-        strings.push(path[place].string)?;
-    }
-    Ok(strings)
-}
-
 // Whether a half is one of these.
 fn is_among(halves: &[Half], half: &Half) -> bool
     ensures { result ≡ holds halves.now half.now }
 {
-    halves
-        .iter()
-        .any(|other| half.string == other.string && half.forward == other.forward)
+    halves.iter().any(|other| half.string == other.string && half.forward == other.forward)
 }
 
 // Those of some halves that are not among others.
@@ -92,7 +80,7 @@ pub(crate) fn shared_ring<T: Tally>(
     let alloc = draft.rows.points.allocator();
     let first = draft.half(side.1, side.0).unwrap();
     let path = halves_round(alloc, &draft.table, &first)?;
-    let strings = strings_round(alloc, path.as_slice())?;
+    let strings = numbers_of(alloc, path.as_slice())?;
     let own = draft.kept.at(face_place(Face::Parcel(ended)));
     let moved = halves_beside(alloc, own, path.as_slice())?;
     Ok(SharedRing {

@@ -152,8 +152,8 @@ fn merge_along_again<T: Tally>(draft: &mut Draft<T>, merger: &Merger<'_>) -> Res
     Ok(())
 }
 
-// The halves of strings that went with a chain.
-fn path_of(alloc: Global, strings: &[ChainString]) -> Result<Vec<Half>, Memory>
+/// The halves of strings that went with a chain, or an island.
+pub(crate) fn path_of(alloc: Global, strings: &[ChainString]) -> Result<Vec<Half>, Memory>
     ensures { IfOk result (λ path. path.items ≡ halves_of strings.now) }
 {
     let mut path = Vec::new(alloc);
@@ -163,8 +163,8 @@ fn path_of(alloc: Global, strings: &[ChainString]) -> Result<Vec<Half>, Memory>
     Ok(path)
 }
 
-// The numbers of the strings of halves.
-fn numbers_of(alloc: Global, path: &[Half]) -> Result<Vec<StringNo>, Memory>
+/// The numbers of the strings of halves.
+pub(crate) fn numbers_of(alloc: Global, path: &[Half]) -> Result<Vec<StringNo>, Memory>
     ensures { IfOk result (λ numbers. numbers.items ≡ strings_of path.now) }
 {
     let mut numbers = Vec::new(alloc);
