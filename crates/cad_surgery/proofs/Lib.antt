@@ -41,5 +41,6 @@ pub mod DividedCrossing
 pub mod HeldDivisions
 pub mod MergedIslandDraft
 pub mod SharedRings
+pub mod HeldIslandMergers
 pub mod MergedDraft
 pub mod HeldMergers

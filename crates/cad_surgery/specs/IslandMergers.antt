@@ -1,5 +1,5 @@
 -- A merger round an island: what it names, and the halves that it goes by.
-use Rattle.std.specs.Prelude.{ℕ, List, map, filter, IsPermutation}
+use Rattle.std.specs.Prelude.{ℕ, ⊤, List, map, filter, IsPermutation}
 use Rattle.cad_rows.specs.declared.edits.Edit.{Edit}
 use Rattle.cad_rows.specs.declared.edits.Edit.TheVariants.{Merge}
 use Rattle.cad_rows.specs.declared.names.Face.{Face}
@@ -10,6 +10,8 @@ use Rattle.cad_map.specs.Map.{Map}
 use Rattle.half_table.specs.declared.half.Half.{Half}
 use Rattle.half_table.specs.Rows.{HalfRows}
 use Rattle.cad_surgery.specs.declared.edits.try_merge_island.IslandMerger.{IslandMerger}
+use Rattle.edit_records.specs.declared.record.SmallRecord.{SmallRecord}
+use Rattle.edit_records.specs.declared.record.SmallRecord.TheVariants as change
 use Rattle.map_parts.specs.Handing.{home_of}
 use Rattle.map_parts.specs.Islands.{AreOfRings}
 use Rattle.map_parts.specs.MergingIsland.{IsMergingIsland, rings_apart}
@@ -18,6 +20,11 @@ use Rattle.map_parts.specs.Paths.{AreAlong}
 -- the edit
 abbrev pub merged_round : IslandMerger → Edit
 merged_round g = Merge g.kept (Parcel g.ended)
+
+-- the record is of a merger round an island
+abbrev pub IsOfMergeIsland : SmallRecord → Type 0
+IsOfMergeIsland (change.MergeIsland kept row place points strings moved) = ⊤
+IsOfMergeIsland _ = ⊥
 
 -- In a table that goes with the map, the halves round the ring that the two share, as the ended
 -- parcel has it, and one half of each other ring of that parcel.

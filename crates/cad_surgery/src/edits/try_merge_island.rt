@@ -1,13 +1,19 @@
-//! A merger round an island on a map on half-edges: tried, and taken back where it breaks a rule.
+//! A merger round an island on a map on half-edges: tried, taken back where it breaks a rule, and made
+//! again.
 ghost use Rattle.std.specs.Prelude.{◌≡◌, ◌<◌, ◌∷◌, Some, length, slice_get, IfOk, IfErr, OnOk, OnErr};
+ghost use Rattle.cad_map.specs.Asked.{GivesInRange};
 ghost use Rattle.cad_map.specs.Costs.{work_bound};
 ghost use Rattle.cad_map.specs.Effects.{after};
+ghost use Rattle.cad_map.specs.Map.{Map};
 ghost use Rattle.cad_map.specs.Outcome.{MayRefuse};
 ghost use Rattle.cad_map.specs.Touched.{IsTouched};
 ghost use Rattle.cad_map.specs.Valid.{IsValid};
+ghost use Rattle.cad_rows.specs.declared.edits.Edit.TheVariants.{Merge};
+ghost use Rattle.cad_rows.specs.declared.names.Face.TheVariants.{Parcel};
+ghost use Rattle.edit_records.specs.Record.{edit_of, Holds, Belongs, HeldMergedIsland};
 ghost use Rattle.half_paths.specs.Path.{strings_of};
 ghost use Rattle.cad_valid.specs.Near.{HoldsMap, touched_of};
-ghost use Rattle.cad_surgery.specs.IslandMergers.{HasSharedRing, merged_round};
+ghost use Rattle.cad_surgery.specs.IslandMergers.{HasSharedRing, IsOfMergeIsland, merged_round};
 ghost use Rattle.cad_surgery.specs.Proper.{IsProper};
 ghost use Rattle.cad_surgery.specs.Work.{TakesWork};
 ghost use Rattle.map_parts.specs.Parts.{map_of, kept_at};
@@ -16,8 +22,10 @@ ghost use Rattle.map_parts.specs.PlacedStrings.{numbers_placed, StoodIn};
 use crate::draft::Draft;
 use crate::edits::counted::is_work_in_range;
 use crate::edits::hidden::drop_hidden;
-use cad_rows::{Face, ParcelNo, Refusal, StringNo};
+use crate::edits::try_merge_along::{numbers_of, path_of};
+use cad_rows::{Face, Memory, ParcelNo, ParcelRow, PointNo, Refusal, StringNo};
 use cad_valid::{Touched, first_broken_near};
+use edit_records::{ChainString, SmallRecord};
 use half_table::{Half, Tally};
 use map_parts::{EndedParcel, begin_merge_island, unmerge_island};
 
@@ -107,4 +115,108 @@ pub(crate) fn merge_island_within_rules<T: Tally>(
     }
     drop_hidden(draft, merger.path);
     Ok(gone)
+}
+
+// Merges a parcel into a face round the ring that they share again. Where memory runs out the map
+// stays.
+fn merge_island_again<T: Tally>(
+    draft: &mut Draft<T>,
+    merger: &IslandMerger<'_>,
+) -> Result<(), Memory>
+    requires ring { HasSharedRing (map_of draft.old) draft.old.table.rows merger.now.kept
+        merger.now.ended merger.now.path.now merger.now.moved.now }
+    requires strings { merger.now.strings.now ≡ strings_of merger.now.path.now }
+    requires proper { IsProper (map_of draft.old) draft.old.table.rows (kept_at draft.old) }
+    ensures after { OnOk result (map_of draft.new ≡ after (map_of draft.old) (merged_round merger.now)) }
+    ensures err { OnErr result (map_of draft.new ≡ map_of draft.old) }
+    ensures grid { draft.new.grid ≡ draft.old.grid }
+    ensures proper { IsProper (map_of draft.new) draft.new.table.rows (kept_at draft.new) }
+    ensures work { TakesWork draft.old.table draft.new.table
+        (work_bound (map_of draft.old) (after (map_of draft.old) (merged_round merger.now))) }
+{
+    is_work_in_range(&draft.table);
+    let (first, rest) = first_and_rest(merger.path);
+    begin_merge_island(
+        &mut draft.rows,
+        &mut draft.table,
+        &mut draft.kept,
+        &mut draft.stars,
+        &merger.kept,
+        merger.ended,
+        merger.strings,
+        first,
+        rest,
+        merger.moved,
+    )?;
+    drop_hidden(draft, merger.path);
+    Ok(())
+}
+
+// What the record of a merger round an island tells.
+#[derive(Clone, Copy)]
+struct MergedRound<'a> {
+    kept: Face,
+    row: &'a ParcelRow,
+    place: usize,
+    points: &'a [PointNo],
+    strings: &'a [ChainString],
+    moved: &'a [Half],
+}
+
+fn merger_of(change: &SmallRecord) -> MergedRound<'_>
+    requires { IsOfMergeIsland change.now }
+    ensures edit { edit_of change.now ≡ Merge result.kept (Parcel result.row.now.number) }
+    ensures held { (b : Map) → Holds change.now b → HeldMergedIsland b result.kept result.row.now
+        result.place result.points.now result.strings.now result.moved.now }
+{
+    let SmallRecord::MergeIsland {
+        kept,
+        row,
+        place,
+        points,
+        strings,
+        moved,
+    } = change
+    else {
+        unreachable!()
+    };
+    MergedRound {
+        kept: *kept,
+        row,
+        place: *place,
+        points: points.as_slice(),
+        strings: strings.as_slice(),
+        moved: moved.as_slice(),
+    }
+}
+
+/// Merges a parcel into a face round the ring that they share again, by the record. Where memory runs
+/// out the map stays.
+pub(crate) fn forward_merge_island<T: Tally>(
+    draft: &mut Draft<T>,
+    change: &SmallRecord,
+) -> Result<(), Memory>
+    requires merger { IsOfMergeIsland change.now }
+    requires given { GivesInRange (edit_of change.now) }
+    requires made { (n : Map) × Belongs change.now (map_of draft.old) n }
+    requires proper { IsProper (map_of draft.old) draft.old.table.rows (kept_at draft.old) }
+    ensures after { OnOk result (map_of draft.new ≡ after (map_of draft.old) (edit_of change.now)) }
+    ensures err { OnErr result (map_of draft.new ≡ map_of draft.old) }
+    ensures grid { draft.new.grid ≡ draft.old.grid }
+    ensures proper { IsProper (map_of draft.new) draft.new.table.rows (kept_at draft.new) }
+    ensures work { TakesWork draft.old.table draft.new.table
+        (work_bound (map_of draft.old) (after (map_of draft.old) (edit_of change.now))) }
+{
+    let alloc = draft.rows.points.allocator();
+    let told = merger_of(change);
+    let path = path_of(alloc, told.strings)?;
+    let strings = numbers_of(alloc, path.as_slice())?;
+    let merger = IslandMerger {
+        kept: told.kept,
+        ended: told.row.number,
+        path: path.as_slice(),
+        strings: strings.as_slice(),
+        moved: told.moved,
+    };
+    merge_island_again(draft, &merger)
 }

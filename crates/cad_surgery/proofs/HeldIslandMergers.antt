@@ -1,0 +1,135 @@
+-- A merger round an island that a record tells, in a table that goes with the map.
+use Rattle.std.proofs.Common.{◌≡◌, ◌≤◌, ℕ, ◌+◌, sym, ap, subst, ◌∙◌, List, [], ◌∷◌, ◌++◌, map, length, arith}
+use Rattle.std.specs.Prelude.{IsPermutation}
+use Rattle.std.specs.List.{AllByRecursion, Contains}
+use Rattle.std.proofs.lemmas.List.Sorted.{Contains-permutation, IsPermutation-map, IsPermutation-sym}
+use Rattle.cad_rows.specs.declared.edits.Edit.TheVariants.{Merge}
+use Rattle.cad_rows.specs.declared.names.Face.{Face}
+use Rattle.cad_rows.specs.declared.names.Face.TheVariants.{Parcel}
+use Rattle.cad_rows.specs.declared.rows.ParcelRow.{ParcelRow}
+use Rattle.cad_rows.specs.declared.rows.StringRow.{StringRow}
+use Rattle.cad_rings.specs.Cycle.{Side, sides_of}
+use Rattle.cad_rings.specs.Surgery.{sides_of_chain}
+use Rattle.cad_rings.proofs.CallerLemmas.{sides_of_chain-is, sides_of-same}
+use Rattle.cad_map.specs.declared.boundary.Boundary.{Boundary}
+use Rattle.cad_map.specs.Boundaries.{bounding}
+use Rattle.cad_map.specs.Chain.{start_of, next_of}
+use Rattle.cad_map.specs.Asked.{GivesInRange}
+use Rattle.cell_grid.specs.Grid.{Grid}
+use Rattle.cad_map.specs.Map.{Map}
+use Rattle.cad_map.specs.Merger.{is_shared}
+use Rattle.cad_map.specs.Rings.{HasWholeRings}
+use Rattle.cad_map.proofs.CallerLemmas.{Contains-first, filter-Contains, whole_valid}
+use Rattle.half_table.specs.declared.half.Half.{Half}
+use Rattle.half_table.specs.Rows.{HalfRows, Table}
+use Rattle.half_paths.specs.Path.{strings_of}
+use Rattle.half_paths.specs.Loose.{numbers_of}
+use Rattle.cad_laws.specs.Counts.{shared_strings}
+use Rattle.cad_laws.specs.Tried.{IsTried}
+use Rattle.edit_records.specs.declared.record.ChainString.{ChainString}
+use Rattle.edit_records.specs.HeldChains.{rows_along, closed}
+use Rattle.edit_records.specs.declared.record.SmallRecord.{SmallRecord}
+use Rattle.edit_records.specs.Record.{edit_of, Holds, Belongs, HeldMergedIsland}
+use Rattle.key_lists.specs.Held.{Held}
+use Rattle.cad_surgery.specs.Mergers.{halves_of}
+use Rattle.cad_surgery.specs.IslandMergers.{HasSharedRing}
+use Rattle.map_parts.specs.Islands.{IsIslandOf}
+use Rattle.map_parts.specs.MergingIsland.{IsMergingIsland, without_island, rings_apart}
+use Rattle.map_parts.specs.declared.map_rows.MapRows.{MapRows}
+use Rattle.map_parts.specs.declared.stars.Spoke.{Spoke}
+use Rattle.map_parts.specs.Parts.{Parts, FitTogether, HasHalves, map_of}
+use Rattle.map_parts.specs.Paths.{AreAlong}
+use Rattle.map_parts.proofs.MergedIsland.{merged-island}
+use Rattle.map_parts.proofs.MergingIsland as merging
+use Rattle.cad_surgery.proofs.DraftFits.{draft-fits}
+use Rattle.cad_surgery.proofs.FitParts.{parts}
+use Rattle.cad_surgery.proofs.HeldMergers.{along-rows, numbers-along, record-tried}
+use Rattle.cad_surgery.proofs.NamedRings.{named-on, named-once, named-rings}
+
+-- points of which there are two or more have the sides of the chain back to the first
+closed-sides : (points : List ℕ) → 2 ≤ length points → sides_of_chain (closed points) ≡ sides_of points
+closed-sides [] long = absurd (omega (arith, long))
+closed-sides (a ∷ points) long = sides_of_chain-is a points a
+
+-- and the first of them
+first-side : (points : List ℕ) → 2 ≤ length points → Contains (sides_of points) (start_of points, next_of points)
+first-side [] long = absurd (omega (arith, long))
+first-side (a ∷ []) long = absurd (omega (arith, long))
+first-side (a ∷ b ∷ points) long = Contains-first (a, b) _
+
+module _ (m : Map) (kept : Face) (row : ParcelRow) (place : ℕ) (points : List ℕ) (strings : List ChainString) (moved : List Half)
+    (tried : IsTried m (Merge kept (Parcel row.number))) (it : HeldMergedIsland m kept row place points strings moved) (rows : HalfRows) (ends : AllByRecursion (HasHalves rows) m.strings) where
+  abbrev path : List Half
+  path = halves_of strings
+
+  abbrev inner : Face
+  inner = Parcel row.number
+
+  shared : IsPermutation (numbers_of (shared_strings m kept inner)) (strings_of path)
+  shared =
+      subst (IsPermutation (numbers_of (shared_strings m kept inner))) (numbers-along strings (closed points) it.gone.as_many)
+      (IsPermutation-sym (numbers_of (rows_along strings (closed points))) (numbers_of (shared_strings m kept inner))
+      (IsPermutation-map (λ (s : StringRow). s.number) (rows_along strings (closed points)) (shared_strings m kept inner) it.gone.shared))
+
+  abbrev is_it : IsMergingIsland m kept row.number points path
+  is_it = record {
+    tried = tried;
+    kept_ring = it.shared.kept_ring;
+    ended_ring = it.shared.ended_ring;
+    there = it.shared.there;
+    leads = it.shared.is;
+    taken = merged-island m kept inner points it.shared.kept_ring it.shared.ended_ring tried it.shared.there it.shared.is;
+    shared = shared;
+  }
+
+  whole_old : HasWholeRings m
+  whole_old = whole_valid m tried.valid
+
+  abbrev left : Boundary
+  left = bounding inner is_it.ended_ring
+
+  abbrev right : Boundary
+  right = bounding kept is_it.kept_ring
+
+  law : IsIslandOf (without_island is_it) m kept inner points left right (rings_apart is_it)
+  law = merging.island m kept row.number points path is_it
+
+  long : 2 ≤ length points
+  long = merging.long m kept row.number points path is_it
+
+  along : AreAlong rows path (sides_of points)
+  along =
+      along-rows m rows ends strings (closed points) it.gone.as_many (λ r among.
+      (filter-Contains (is_shared m kept inner) m.strings r (Contains-permutation (rows_along strings (closed points)) (shared_strings m kept inner) r it.gone.shared among)).0)
+      ∙ closed-sides points long
+
+  abbrev s : Side
+  s = (start_of points, next_of points)
+
+  on_left : Contains (sides_of left.ring) s
+  on_left = Contains-permutation (sides_of points) (sides_of left.ring) s law.left_sides (first-side points long)
+
+  -- what the record tells is at hand
+  pub shared-ring : HasSharedRing m rows kept row.number path moved
+  shared-ring = record {
+    points = points;
+    is = is_it;
+    along = along;
+    moved_are =
+        named-rings m whole_old inner left right (rings_apart is_it) law.were law.left_face (λ e. law.differ (sym law.right_face ∙ e)) s on_left rows (λ b among h. named-on m rows ends b h) moved it.held;
+    once =
+        named-once m whole_old inner left right (rings_apart is_it) law.were law.left_face (λ e. law.differ (sym law.right_face ∙ e)) s on_left rows (λ b among h. named-on m rows ends b h) moved it.held;
+  }
+
+-- ---- By its record, on a draft
+
+module _ (rows : MapRows) (table : Table) (held : Held Half) (stars : Held Spoke) (grid : Grid) (v : Parts)
+    (view : parts rows table held stars grid ≡ v) (fit : FitTogether (parts rows table held stars grid)) (r : SmallRecord)
+    (kept : Face) (row : ParcelRow) (place : ℕ) (points : List ℕ) (strings : List ChainString) (moved : List Half)
+    (given : GivesInRange (edit_of r)) (same : edit_of r ≡ Merge kept (Parcel row.number))
+    (told : (b : Map) → Holds r b → HeldMergedIsland b kept row place points strings moved) (after_it : Map) (it : Belongs r (map_of v) after_it) where
+  pub again-ring : HasSharedRing (map_of v) v.table.rows kept row.number (halves_of strings) moved
+  again-ring =
+      subst (λ (q : Parts). HasSharedRing (map_of v) q.table.rows kept row.number (halves_of strings) moved) view
+      (shared-ring (map_of v) kept row place points strings moved (record-tried r (Merge kept (Parcel row.number)) given same (map_of v) after_it it) (told (map_of v) it.holds)
+      table.rows (draft-fits rows table held stars grid v view fit (whole_valid (map_of v) it.valid)).fits.ends)
