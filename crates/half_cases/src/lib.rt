@@ -2,6 +2,14 @@
 #![tactic(auto)]
 
 #[cfg(test)]
+mod counted;
+#[cfg(test)]
+mod far;
+#[cfg(test)]
 mod half_maps;
 #[cfg(test)]
+mod near_checks;
+#[cfg(test)]
 mod plans;
+#[cfg(test)]
+mod plans_after;

@@ -1,0 +1,151 @@
+//! The check near an edit beside the whole one: both tell the same of the map that an edit makes. The near one goes
+//! through no list of all rows, and asks no more often where the map is larger.
+ghost use Rattle.std.specs.Prelude.{◌≡◌};
+ghost use Rattle.cad_map.specs.Effects.{after};
+ghost use Rattle.cad_map.specs.Valid.{IsValid, CanBeTested};
+ghost use Rattle.cad_laws.specs.Tried.{IsTried};
+ghost use Rattle.cad_valid.specs.Near.{HoldsMap, ComesFromValid, touched_of};
+
+use crate::counted::Counted;
+use crate::far::far_plan;
+use crate::plans::{ISLAND, SQUARE, edit_of, map_of};
+use crate::plans_after::{DIVIDED, DIVIDED_ISLAND, JOINED};
+use cad_edit::try_edit;
+use cad_map::{MapView, PlainMap};
+use cad_rows::{Edit, Memory, Rule};
+use cad_surgery::touched_by;
+use cad_valid::{Touched, first_broken, first_broken_near};
+use cell_grid::CellGrid;
+use edit_records::grid_of;
+use std::alloc::Global;
+use std::process::Abort;
+use std::test::Fail;
+
+/// What a check told of a map, and how often it asked: at all, and for a row by its place.
+#[derive(Drop)]
+struct Told {
+    rule: Option<Rule>,
+    calls: u64,
+    by_place: u64,
+}
+
+/// What the near check tells.
+fn told_near(made: &PlainMap, grid: &CellGrid, touched: &Touched) -> Told
+    requires tested { CanBeTested made.now }
+    requires held { HoldsMap grid.now made.now }
+    requires touched { ComesFromValid (touched_of touched.now) made.now }
+{
+    let view = Counted::new(made);
+    let rule = first_broken_near(&view, grid, touched);
+    let (calls, by_place) = view.counted();
+    Told {
+        rule,
+        calls,
+        by_place,
+    }
+}
+
+/// What the whole check tells.
+fn told_whole(made: &PlainMap) -> Told
+    requires { CanBeTested made.now }
+{
+    let view = Counted::new(made);
+    let rule = first_broken(&view);
+    let (calls, by_place) = view.counted();
+    Told {
+        rule,
+        calls,
+        by_place,
+    }
+}
+
+/// What the near check tells of the map that an edit makes of another.
+fn told_after(
+    alloc: Global,
+    before: &PlainMap,
+    edit: &Edit,
+    made: &PlainMap,
+) -> Result<Told, Memory>
+    requires tried { IsTried before.now edit.now }
+    requires made { made.now ≡ after before.now edit.now }
+    requires tested { CanBeTested made.now }
+{
+    let grid = grid_of(alloc, made)?;
+    let touched = touched_by(alloc, before, edit)?;
+    Ok(told_near(made, &grid, &touched))
+}
+
+/// How often the near check asks of the map that an edit makes. Fails where it tells another rule than the whole one, or
+/// asks for a point, a string or a parcel by its place.
+pub(crate) fn check_edit<R: Abort + AllocGlobal>(
+    rt: &R,
+    map: &PlainMap,
+    edit: &Edit,
+) -> Result<u64, Memory>
+    requires { IsValid map.now }
+{
+    let Ok(made) = try_edit(map, edit) else {
+        return Ok(0);
+    };
+    let near = told_after(rt.alloc(), map, edit, &made)?;
+    let whole = told_whole(&made);
+    assert!(rt; near.rule == whole.rule);
+    assert_eq!(rt; near.by_place, 0);
+    assert!(rt; whole.by_place > 0 || made.counts().points == 0);
+    Ok(near.calls)
+}
+
+/// How often the near check asks of the map that an edit of a plan makes.
+fn calls_after<R: Abort + AllocGlobal>(rt: &R, plan: &str, edit: &str) -> Result<u64, Fail> {
+    let map = map_of(rt.alloc(), plan)?;
+    let edit = edit_of(rt.alloc(), edit)?;
+    Ok(check_edit(rt, &map, &edit)?)
+}
+
+#[test]
+fn points_and_strings_changed(rt: HostRuntime) -> Result<(), Fail> {
+    for (plan, edit) in [
+        (SQUARE, "split,11,5,500,0,22,23"),
+        (SQUARE, "join,1,21,,,,"),
+        (JOINED, "join,2,22,,,,"),
+        (SQUARE, "move,3,500,-500,,,"),
+        (SQUARE, "move,3,-1000,-1000,,,"),
+        (SQUARE, "move,3,1200,1000,,,"),
+        (SQUARE, "add-point,5,500,500,,,"),
+        (SQUARE, "add-point,6,1000,1000,,,"),
+        (SQUARE, "add-point,6,500,0,,,"),
+    ] {
+        let calls = calls_after(&rt, plan, edit)?;
+        assert!(rt; calls > 0);
+    }
+    Ok(())
+}
+
+#[test]
+fn parcels_divided_and_merged(rt: HostRuntime) -> Result<(), Fail> {
+    for (plan, edit) in [
+        (SQUARE, "divide,1,1 3,21,2,C,1"),
+        (SQUARE, "divide,1,3 1,21,2,C,1"),
+        (DIVIDED, "merge,1,2,,,,"),
+        (ISLAND, "divide,1,1 3,21,3,C,1"),
+        (DIVIDED_ISLAND, "merge,1,3,,,,"),
+        (ISLAND, "move,3,400,400,,,"),
+        (ISLAND, "merge,1,2,,,,"),
+        (ISLAND, "merge,2,1,,,,"),
+    ] {
+        let calls = calls_after(&rt, plan, edit)?;
+        assert!(rt; calls > 0);
+    }
+    Ok(())
+}
+
+#[test]
+fn division_is_checked_no_longer_on_a_larger_map(rt: HostRuntime) -> Result<(), Fail> {
+    let division = "divide,1,1 3,21,2,C,1";
+    let far = far_plan(rt.alloc())?;
+    let few = calls_after(&rt, SQUARE, division)?;
+    let many = calls_after(&rt, far.as_str(), division)?;
+    assert!(rt; few > 0);
+    assert_eq!(rt; few, many);
+    Ok(())
+}
