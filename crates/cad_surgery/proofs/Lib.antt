@@ -44,3 +44,4 @@ pub mod SharedRings
 pub mod HeldIslandMergers
 pub mod MergedDraft
 pub mod HeldMergers
+pub mod UnmergedDraft

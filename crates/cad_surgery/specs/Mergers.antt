@@ -1,5 +1,5 @@
 -- A merger along a chain: what it names, and the halves that it goes by.
-use Rattle.std.specs.Prelude.{ℕ, ⊤, List, map, filter, IsPermutation}
+use Rattle.std.specs.Prelude.{◌≡◌, ℕ, ⊤, List, map, filter, IsPermutation}
 use Rattle.cad_rows.specs.declared.edits.Edit.{Edit}
 use Rattle.cad_rows.specs.declared.edits.Edit.TheVariants.{Merge}
 use Rattle.cad_rows.specs.declared.names.Face.{Face}
@@ -7,13 +7,17 @@ use Rattle.cad_rows.specs.declared.names.Face.TheVariants.{Parcel}
 use Rattle.cad_rings.specs.Surgery.{sides_of_chain}
 use Rattle.cad_map.specs.Boundaries.{is_face}
 use Rattle.cad_map.specs.Chain.{leaving}
+use Rattle.cad_map.specs.Effects.{after}
 use Rattle.cad_map.specs.Map.{Map}
 use Rattle.half_table.specs.declared.half.Half.{Half}
 use Rattle.half_table.specs.Rows.{HalfRows}
 use Rattle.cad_surgery.specs.declared.edits.try_merge_along.Merger.{Merger}
+use Rattle.cad_surgery.specs.declared.edits.try_merge_along.Merged.{Merged}
+use Rattle.cad_laws.specs.Tried.{IsTried}
 use Rattle.edit_records.specs.declared.record.ChainString.{ChainString}
 use Rattle.edit_records.specs.declared.record.SmallRecord.{SmallRecord}
 use Rattle.edit_records.specs.declared.record.SmallRecord.TheVariants as change
+use Rattle.edit_records.specs.Record.{HeldMergedAlong}
 use Rattle.map_parts.specs.Handing.{home_of}
 use Rattle.map_parts.specs.Islands.{AreOfRings}
 use Rattle.map_parts.specs.Labels.{IsAlong}
@@ -42,3 +46,9 @@ pub record HasSharedPath (m : Map) (rows : HalfRows) (kept : Face) (ended : ℕ)
   pub end_on : IsAlong (merged is) rows (leaving (last_corner is)) end
   pub moved_are : AreOfRings m rows moved (Parcel ended) (rings_past is)
   pub once : IsPermutation (map (home_of m rows) moved) (filter (λ b. is_face (Parcel ended) b.face) (rings_past is))
+
+-- The second map is that after the merger, which was tried, and what the record tells was so.
+pub record IsMergedBy (m now : Map) (t : Merged) : Type 0 where
+  pub tried : IsTried m (Merge t.kept (Parcel t.row.now.number))
+  pub is : now ≡ after m (Merge t.kept (Parcel t.row.now.number))
+  pub held : HeldMergedAlong m t.kept t.row.now t.place t.chain.now t.strings.now t.start t.end t.moved.now

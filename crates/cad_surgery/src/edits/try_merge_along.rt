@@ -1,6 +1,7 @@
-//! A merger along a chain on a map on half-edges: tried, taken back where it breaks a rule, and made
-//! again.
-ghost use Rattle.std.specs.Prelude.{◌≡◌, ◌<◌, ◌∷◌, Some, length, slice_get, IfOk, IfErr, OnOk, OnErr};
+//! A merger along a chain on a map on half-edges: made, taken back where it breaks a rule, and taken
+//! back and made again by its record.
+ghost use Rattle.std.specs.Prelude.{◌≡◌, ◌<◌, ◌+◌, ◌∷◌, Some, length, slice_get, map as map_by};
+ghost use Rattle.std.specs.Prelude.{IfOk, IfErr, OnOk, OnErr};
 ghost use Rattle.cad_rows.specs.declared.edits.Edit.TheVariants.{Merge};
 ghost use Rattle.cad_rows.specs.declared.names.Face.TheVariants.{Parcel};
 ghost use Rattle.cad_map.specs.Asked.{GivesInRange};
@@ -12,21 +13,24 @@ ghost use Rattle.cad_map.specs.Touched.{IsTouched};
 ghost use Rattle.cad_map.specs.Valid.{IsValid};
 ghost use Rattle.half_paths.specs.Path.{strings_of};
 ghost use Rattle.cad_valid.specs.Near.{HoldsMap, touched_of};
-ghost use Rattle.cad_surgery.specs.Mergers.{HasSharedPath, IsOfMergeAlong, halves_of, merged_by};
+ghost use Rattle.cad_surgery.specs.Mergers.{HasSharedPath, IsMergedBy, IsOfMergeAlong};
+ghost use Rattle.cad_surgery.specs.Mergers.{halves_of, merged_by};
 ghost use Rattle.cad_surgery.specs.Proper.{IsProper};
 ghost use Rattle.cad_surgery.specs.Work.{TakesWork};
+ghost use Rattle.edit_records.specs.HeldChains.{row_between, rows_along};
 ghost use Rattle.edit_records.specs.Record.{edit_of, Holds, Belongs, HeldMergedAlong};
+ghost use Rattle.map_parts.specs.Merging.{rows_gone};
 ghost use Rattle.map_parts.specs.Parts.{map_of, kept_at};
 ghost use Rattle.map_parts.specs.PlacedStrings.{numbers_placed, StoodIn};
 
 use crate::draft::Draft;
 use crate::edits::counted::is_work_in_range;
 use crate::edits::hidden::drop_hidden;
-use cad_rows::{Face, Memory, ParcelNo, ParcelRow, PointNo, Refusal, StringNo};
+use cad_rows::{Face, Memory, ParcelNo, ParcelRow, PointNo, Refusal, StringNo, StringRow};
 use cad_valid::{Touched, first_broken_near};
 use edit_records::{ChainString, SmallRecord};
 use half_table::{Half, Tally};
-use map_parts::{EndedParcel, begin_merge_along, unmerge_along};
+use map_parts::{EndedParcel, PlacedString, begin_merge_along, begin_unmerge_along, unmerge_along};
 use std::alloc::Global;
 
 /// What a merger along a chain names, with the halves along the chain and their strings, the halves
@@ -249,4 +253,136 @@ pub(crate) fn forward_merge_along<T: Tally>(
         moved: told.moved,
     };
     merge_along_again(draft, &merger)
+}
+
+// A string that went between two neighbours of a chain, with its place.
+fn string_between(
+    string: &ChainString,
+    before: PointNo,
+    behind: PointNo,
+) -> Result<PlacedString, Memory>
+    ensures row { IfOk result (λ g. g.row ≡ row_between string.now before behind) }
+    ensures place { IfOk result (λ g. g.place ≡ string.now.place) }
+{
+    let sources = string.sources.copy()?;
+    let (from, to) = if string.half.forward {
+        (before, behind)
+    } else {
+        (behind, before)
+    };
+    Ok(PlacedString {
+        row: StringRow {
+            number: string.half.string,
+            from,
+            to,
+            sources,
+        },
+        place: string.place,
+    })
+}
+
+// The strings that went along a chain, with their places.
+fn strings_back(
+    alloc: Global,
+    strings: &[ChainString],
+    chain: &[PointNo],
+) -> Result<Vec<PlacedString>, Memory>
+    requires { length chain.now ≡ length strings.now + 1 }
+    ensures rows { IfOk result (λ gone. rows_gone gone.items ≡ rows_along strings.now chain.now) }
+    ensures places { IfOk result
+        (λ gone. map_by (λ g. g.place) gone.items ≡ map_by (λ s. s.place) strings.now) }
+{
+    let mut gone = Vec::new(alloc);
+    for place in 0..strings.len() {
+        let string = string_between(&strings[place], chain[place], chain[place + 1])?;
+        gone.push(string)?;
+    }
+    Ok(gone)
+}
+
+// All that went by a merger along a chain.
+fn ended_by(alloc: Global, told: &Merged<'_>) -> Result<EndedParcel, Memory>
+    requires { length told.now.chain.now ≡ length told.now.strings.now + 1 }
+    ensures row { IfOk result (λ e. e.row ≡ told.now.row.now) }
+    ensures place { IfOk result (λ e. e.place ≡ told.now.place) }
+    ensures rows { IfOk result
+        (λ e. rows_gone e.strings.items ≡ rows_along told.now.strings.now told.now.chain.now) }
+    ensures places { IfOk result (λ e. map_by (λ g. g.place) e.strings.items
+        ≡ map_by (λ s. s.place) told.now.strings.now) }
+{
+    let strings = strings_back(alloc, told.strings, told.chain)?;
+    let row = told.row.copy()?;
+    Ok(EndedParcel {
+        row,
+        place: told.place,
+        strings,
+    })
+}
+
+// Takes a merger along a chain back, with all that went.
+fn unmerge_with<T: Tally>(
+    draft: &mut Draft<T>,
+    told: &Merged<'_>,
+    path: &[Half],
+    gone: EndedParcel,
+) -> Result<(), Memory>
+    requires path { path.now ≡ halves_of told.now.strings.now }
+    requires row { gone.row ≡ told.now.row.now }
+    requires place { gone.place ≡ told.now.place }
+    requires rows { rows_gone gone.strings.items
+        ≡ rows_along told.now.strings.now told.now.chain.now }
+    requires places { map_by (λ g. g.place) gone.strings.items
+        ≡ map_by (λ s. s.place) told.now.strings.now }
+    requires made { (m : Map) × IsMergedBy m (map_of draft.old) told.now }
+    requires proper { IsProper (map_of draft.old) draft.old.table.rows (kept_at draft.old) }
+    ensures before { OnOk result ((m : Map) → IsMergedBy m (map_of draft.old) told.now
+        → map_of draft.new ≡ m) }
+    ensures err { OnErr result (map_of draft.new ≡ map_of draft.old) }
+    ensures grid { draft.new.grid ≡ draft.old.grid }
+    ensures proper { IsProper (map_of draft.new) draft.new.table.rows (kept_at draft.new) }
+    ensures work { (m : Map) → IsMergedBy m (map_of draft.old) told.now
+        → TakesWork draft.old.table draft.new.table (work_bound m (map_of draft.old)) }
+{
+    is_work_in_range(&draft.table);
+    let (first, rest) = first_and_rest(path);
+    begin_unmerge_along(
+        &mut draft.rows,
+        &mut draft.table,
+        &mut draft.kept,
+        &mut draft.stars,
+        &told.kept,
+        gone,
+        first,
+        rest,
+        &told.start,
+        &told.end,
+        told.moved,
+    )?;
+    Ok(())
+}
+
+/// Takes a merger along a chain back, by the record: puts the parcel and the strings in at their
+/// places again, and left of the chain is the parcel's ring. Where memory runs out the map stays.
+pub(crate) fn back_merge_along<T: Tally>(
+    draft: &mut Draft<T>,
+    change: &SmallRecord,
+) -> Result<(), Memory>
+    requires merger { IsOfMergeAlong change.now }
+    requires given { GivesInRange (edit_of change.now) }
+    requires made { (m : Map) × Belongs change.now m (map_of draft.old) }
+    requires proper { IsProper (map_of draft.old) draft.old.table.rows (kept_at draft.old) }
+    ensures before { OnOk result ((m : Map) → Belongs change.now m (map_of draft.old)
+        → map_of draft.new ≡ m) }
+    ensures err { OnErr result (map_of draft.new ≡ map_of draft.old) }
+    ensures grid { draft.new.grid ≡ draft.old.grid }
+    ensures proper { IsProper (map_of draft.new) draft.new.table.rows (kept_at draft.new) }
+    ensures work { (m : Map) → Belongs change.now m (map_of draft.old)
+        → TakesWork draft.old.table draft.new.table (work_bound m (map_of draft.old)) }
+{
+    is_work_in_range(&draft.table);
+    let alloc = draft.rows.points.allocator();
+    let told = merger_of(change);
+    let path = path_of(alloc, told.strings)?;
+    let gone = ended_by(alloc, &told)?;
+    unmerge_with(draft, &told, path.as_slice(), gone)
 }

@@ -1,0 +1,33 @@
+use Rattle.std.proofs.Common.{◌∙◌}
+use Rattle.map_parts.specs.Parts.{map_of}
+use Rattle.cad_surgery.proofs.DividedBack.{ok-then}
+use Rattle.cad_surgery.proofs.UnmergedDraft.{by-record}
+use Rattle.cad_surgery.proofs.edits.try_merge_along.back_merge_along.Goals as goal
+
+pub ended_by-requires : goal.ended_by-requires
+ended_by-requires g c =
+    (c.merger_of-told.ensures.held c.requires.made.0 c.requires.made.1.holds).gone.as_many
+
+pub unmerge_with-requires-clause-path : goal.unmerge_with-requires-clause-path
+unmerge_with-requires-clause-path g c = c.as_slice.ensures.value ∙ c.in_ok-path.ensures
+
+pub unmerge_with-requires-clause-made : goal.unmerge_with-requires-clause-made
+unmerge_with-requires-clause-made g c = (
+  c.requires.made.0,
+  by-record c.args.change.now c.merger_of-told.result c.requires.given c.merger_of-told.ensures.edit
+      c.merger_of-told.ensures.held c.requires.made.0
+      (map_of c.args.draft.now) c.requires.made.1,
+)
+
+pub returns-clause-before : goal.returns-clause-before
+returns-clause-before g c =
+    ok-then c.unmerge_with.result c.unmerge_with.ensures.before (λ back m it.
+    back m (by-record c.args.change.now c.merger_of-told.result c.requires.given c.merger_of-told.ensures.edit
+    c.merger_of-told.ensures.held m
+    (map_of c.args.draft.now) it))
+
+pub returns-clause-work : goal.returns-clause-work
+returns-clause-work g c = λ m it.
+    c.unmerge_with.ensures.work m (by-record c.args.change.now c.merger_of-told.result c.requires.given c.merger_of-told.ensures.edit
+    c.merger_of-told.ensures.held m
+    (map_of c.args.draft.now) it)
