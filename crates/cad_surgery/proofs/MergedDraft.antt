@@ -4,6 +4,7 @@ use Rattle.std.specs.Prelude.{IsPermutation}
 use Rattle.std.specs.List.{AllByRecursion, Contains}
 use Rattle.std.proofs.lemmas.List.{length-map}
 use Rattle.std.proofs.lemmas.List.Sorted.{length_permutation}
+use Rattle.cad_rows.specs.declared.names.Face.{Face}
 use Rattle.cad_rows.specs.declared.names.Face.TheVariants.{Parcel}
 use Rattle.cad_rows.specs.declared.rows.ParcelRow.{ParcelRow}
 use Rattle.cad_rows.specs.declared.rows.StringRow.{StringRow}
@@ -25,7 +26,7 @@ use Rattle.half_paths.specs.Path.{AreIn, AreDifferent, strings_of}
 use Rattle.half_paths.specs.Loose.{is_of, AreLoose, DropsStrings}
 use Rattle.key_lists.specs.Held.{Held}
 use Rattle.cad_laws.specs.Counts.{sides_of_face, shared_strings}
-use Rattle.cad_laws.specs.Local.{IsShown, side_by}
+use Rattle.cad_laws.specs.Local.{IsLocal, IsShown, side_by}
 use Rattle.cad_surgery.specs.declared.edits.try_merge_along.Merger.{Merger}
 use Rattle.cad_surgery.specs.Mergers.{HasSharedPath, merged_by}
 use Rattle.cad_surgery.specs.Proper.{IsProper}
@@ -37,7 +38,7 @@ use Rattle.map_parts.specs.Handing.{home_of}
 use Rattle.map_parts.specs.Islands.{AreOfRings}
 use Rattle.map_parts.specs.Merging.{IsMerging, merged, shared_chain, first_corner, last_corner, rings_past, CanBeginMerge}
 use Rattle.map_parts.specs.Parts.{Parts, FitTogether, HasHalves, map_of, kept_at}
-use Rattle.map_parts.specs.Paths.{HasStringsMore}
+use Rattle.map_parts.specs.Paths.{AreAlong, HasStringsMore}
 use Rattle.map_parts.specs.Relabelled.{cycles_length}
 use Rattle.map_parts.specs.Splitting.{FitMap}
 use Rattle.map_parts.proofs.ChainRings.{first-on}
@@ -64,6 +65,22 @@ path-some m rows g it = by g.path.now refl
         let low = (subst (λ (l : List Side). Contains l (start_of (shared_chain it.is), next_of (shared_chain it.is))) (sym empty) there).1 in
         absurd (omega (arith, low))
     by (h ∷ path) is = let some = ap length is in omega (arith, some)
+
+-- the halves along the rings of the ended parcel are as many as their sides
+pub path-rings : (m : Map) (rows : HalfRows) (kept : Face) (ended : ℕ) (first : Half) (others moved : List Half) (is : IsMerging m kept ended (first ∷ others)) → IsLocal m rows
+    → AreAlong rows (first ∷ others) (sides_of_chain (shared_chain is)) → AreOfRings m rows moved (Parcel ended) (rings_past is)
+    → IsPermutation (map (home_of m rows) moved) (filter (λ b. is_face (Parcel ended) b.face) (rings_past is))
+    → length (cycle rows first) + cycles_length rows moved ≡ sides_of_face (Parcel ended) m
+path-rings m rows kept ended first others moved is local leads moved_are once =
+    let path = first ∷ others in
+    let law = merging.chain-of m kept ended path is in
+    let whole = merging.whole m kept ended path is in
+    let left = bounding (Parcel ended) is.ended_ring in
+    let right = bounding kept is.kept_ring in
+    face-lengths m whole rows local (Parcel ended) left right (rings_past is) law.were law.left_face (λ e. law.differ (sym law.right_face ∙ e)) first
+    (first-on (merged is) m kept (Parcel ended) (shared_chain is) (first_corner is) (last_corner is) (merging.one_ring m kept ended path is) left right (rings_past is) law whole
+    (merging.chain-open m kept ended path is).long first others (merging.more m kept ended path is) rows leads)
+    moved moved_are once
 
 module _ (rows : MapRows) (table : Table) (held : Held Half) (stars : Held Spoke) (grid : Grid) (v : Parts)
     (view : parts rows table held stars grid ≡ v) (fit : FitTogether (parts rows table held stars grid)) (g : Merger)
@@ -132,13 +149,9 @@ module _ (rows : MapRows) (table : Table) (held : Held Half) (stars : Held Spoke
 
     all-rings : length (cycle t first) + cycles_length t g.moved.now ≡ sides_of_face (Parcel g.ended) old
     all-rings =
-        let law = merging.chain-of old g.kept g.ended path is_it in
-        let left = bounding (Parcel g.ended) is_it.ended_ring in
-        let right = bounding g.kept is_it.kept_ring in
-        face-lengths old whole_old t goes.fits.local (Parcel g.ended) left right (rings_past is_it) law.were law.left_face (λ e. law.differ (sym law.right_face ∙ e)) first
-        (first-on made old g.kept (Parcel g.ended) (shared_chain is_it) (first_corner is_it) (last_corner is_it) (merging.one_ring old g.kept g.ended path is_it) left right (rings_past is_it) law whole_old
-        (merging.chain-open old g.kept g.ended path is_it).long first others more t (along-same table.rows t origins path (sides_of_chain (shared_chain is_it)) ready.leads))
-        g.moved.now (of-same table.rows t origins old g.moved.now (Parcel g.ended) (rings_past is_it) ready.moved_are) once_here
+        path-rings old t g.kept g.ended first others g.moved.now is_it goes.fits.local
+        (along-same table.rows t origins path (sides_of_chain (shared_chain is_it)) ready.leads)
+        (of-same table.rows t origins old g.moved.now (Parcel g.ended) (rings_past is_it) ready.moved_are) once_here
 
   -- ---- Where memory ran out
 

@@ -15,7 +15,6 @@ use Rattle.cad_map.specs.Map.{Map, all_sides, string_of}
 use Rattle.cad_map.specs.Rings.{HasWholeRings}
 use Rattle.cad_map.proofs.CallerLemmas.{All-at_each, All-follows, All-from_each, Contains-cases, Contains-first, Contains-later, Contains-map, Contains-filter, filter-Contains, Contains-has_side, has_side-Contains, is_face-same, is_face-refl, found-number, count-no, once-from_pairs}
 use Rattle.half_table.specs.declared.half.Half.{Half}
-use Rattle.half_table.specs.Half.{half_of}
 use Rattle.half_table.specs.Rows.{HalfRows}
 use Rattle.cad_laws.specs.Local.{side_by}
 use Rattle.map_parts.specs.Handing.{home_of}
@@ -27,6 +26,7 @@ use Rattle.map_parts.proofs.KeptEach.{home-is}
 use Rattle.map_parts.proofs.RingsOnce.{stands-once}
 use Rattle.map_parts.proofs.StringRowsPut.{found-there}
 use Rattle.map_parts.proofs.ToHalves.{one_part}
+use Rattle.map_parts.proofs.UnmergingBegun.{row-led}
 
 both : (a b : Bool) → (a && b) ≡ true → (a ≡ true) × (b ≡ true)
 both true true h = (refl, refl)
@@ -63,12 +63,7 @@ covers (b ∷ these) those apart within many =
 module _ (m : Map) (rows : HalfRows) (ends : AllByRecursion (HasHalves rows) m.strings) where
   -- a half leads along the side of its string's row
   pub row-side : (row : StringRow) (h : Half) → row.number ≡ h.string → HasHalves rows row → side_by rows h ≡ side_along row h
-  row-side row h number halves =
-      subst (λ (g : Half). side_by rows g ≡ side_along row g) (λ i. half_of (number i) h.forward) (by h.forward)
-    where
-      by : (f : Bool) → side_by rows (half_of row.number f) ≡ side_along row (half_of row.number f)
-      by true = λ i. (halves.from i, halves.to i)
-      by false = λ i. (halves.to i, halves.from i)
+  row-side row h number halves = row-led rows row h number halves
 
   pub named-on : (b : Boundary) (h : Half) → IsOfRing m b h → IsOnRing m rows b h
   named-on b h it =

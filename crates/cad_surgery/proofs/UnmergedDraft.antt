@@ -14,7 +14,6 @@ use Rattle.cad_rows.specs.declared.rows.StringRow.{StringRow}
 use Rattle.cad_rings.specs.Surgery.{sides_of_chain}
 use Rattle.cell_grid.specs.Grid.{Grid}
 use Rattle.cad_map.specs.Asked.{GivesInRange}
-use Rattle.cad_map.specs.Boundaries.{bounding}
 use Rattle.cad_map.specs.Costs.{work_bound}
 use Rattle.cad_map.specs.Effects.{after}
 use Rattle.cad_map.specs.Map.{Map, has_string}
@@ -30,7 +29,6 @@ use Rattle.half_paths.specs.Loose.{AreNew, is_of, numbers_of}
 use Rattle.half_paths.proofs.Along.{ticked-add}
 use Rattle.key_lists.specs.Held.{Held}
 use Rattle.cad_laws.specs.Counts.{shared_strings, sides_of_face}
-use Rattle.cad_laws.specs.Local.{IsLocal}
 use Rattle.cad_laws.specs.Taken.{AreAtPlaces}
 use Rattle.edit_records.specs.declared.record.ChainString.{ChainString}
 use Rattle.edit_records.specs.declared.record.SmallRecord.{SmallRecord}
@@ -50,29 +48,14 @@ use Rattle.map_parts.specs.Paths.{HasStringsMore}
 use Rattle.map_parts.specs.PlacedStrings.{numbers_placed}
 use Rattle.map_parts.specs.Relabelled.{cycles_length}
 use Rattle.map_parts.specs.Splitting.{FitMap}
-use Rattle.map_parts.proofs.ChainRings.{first-on}
 use Rattle.map_parts.proofs.Merging as merging
 use Rattle.map_parts.proofs.UnmergingBegun.{placed-numbers}
 use Rattle.cad_surgery.proofs.DividedDraft.{either}
 use Rattle.cad_surgery.proofs.DraftFits.{draft-fits, draft-all, draft-work}
 use Rattle.cad_surgery.proofs.FitParts.{parts, fit-parts, fit-map, fit-proper}
 use Rattle.cad_surgery.proofs.HeldMergers as told
-use Rattle.cad_surgery.proofs.RingLengths.{face-lengths}
+use Rattle.cad_surgery.proofs.MergedDraft.{path-rings}
 use Rattle.cad_surgery.proofs.WorkTaken.{work-allowed, ticks-just}
-
--- the halves along the rings of the ended parcel are as many as their sides
-pub path-rings : (m : Map) (rows : HalfRows) (kept : Face) (ended : ℕ) (first : Half) (others : List Half) (start end : Half) (moved : List Half) → IsLocal m rows
-    → HasSharedPath m rows kept ended (first ∷ others) start end moved → length (cycle rows first) + cycles_length rows moved ≡ sides_of_face (Parcel ended) m
-path-rings m rows kept ended first others start end moved local it =
-    let path = first ∷ others in
-    let law = merging.chain-of m kept ended path it.is in
-    let whole = merging.whole m kept ended path it.is in
-    let left = bounding (Parcel ended) it.is.ended_ring in
-    let right = bounding kept it.is.kept_ring in
-    face-lengths m whole rows local (Parcel ended) left right (rings_past it.is) law.were law.left_face (λ e. law.differ (sym law.right_face ∙ e)) first
-    (first-on (merged it.is) m kept (Parcel ended) (shared_chain it.is) (first_corner it.is) (last_corner it.is) (merging.one_ring m kept ended path it.is) left right (rings_past it.is) law whole
-    (merging.chain-open m kept ended path it.is).long first others (merging.more m kept ended path it.is) rows it.leads)
-    moved it.moved_are it.once
 
 -- rows along a chain lead along its sides
 led-rows : (strings : List ChainString) (chain : List ℕ) → length chain ≡ length strings + 1 → sides_led (halves_of strings) (rows_along strings chain) ≡ sides_of_chain chain
@@ -237,7 +220,7 @@ module _ (rows : MapRows) (table : Table) (held : Held Half) (stars : Held Spoke
           let long = gone-long in
           let shared = subst (λ (l : List Half). HasSharedPath m u.rows t.kept t.row.now.number l t.start t.end t.moved.now) (sym path_is)
           (told.shared-path m t.kept t.row.now t.place t.chain.now t.strings.now t.start t.end t.moved.now it.tried it.held u.rows in-fits.fits.ends) in
-          let rings = path-rings m u.rows t.kept t.row.now.number first others t.start t.end t.moved.now in-fits.fits.local shared in
+          let rings = path-rings m u.rows t.kept t.row.now.number first others t.moved.now shared.is in-fits.fits.local shared.leads shared.moved_are shared.once in
           subst (λ (q : Map). TakesWork v.table u (work_bound m q)) (sym it.is)
           (draft-work rows table held stars grid v view u (k + n) (work_bound m now) within (omega (arith, most, long, rings))
           (ticks-just table u (k + n) (work ∙ sym (ticked-add k n table.work))))
