@@ -6,6 +6,8 @@ mod counted;
 #[cfg(test)]
 mod far;
 #[cfg(test)]
+mod half_edits;
+#[cfg(test)]
 mod half_maps;
 #[cfg(test)]
 mod near_checks;

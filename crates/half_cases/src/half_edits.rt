@@ -1,0 +1,421 @@
+//! Edits of maps on half-edges: each is answered as the plain store answers it, and comes to the same map; its record
+//! leads back and on again, on its own map and on another one. Where a growth is refused nothing has changed, and the
+//! same call is made again.
+ghost use Rattle.std.specs.Prelude.{◌≡◌, IsTrue, OnOk, OnErr, IfOk};
+ghost use Rattle.cad_map.specs.Map.{Map};
+ghost use Rattle.cad_map.specs.Valid.{IsValid};
+ghost use Rattle.map_parts.specs.Parts.{map_of as map_that_stands};
+ghost use Rattle.edit_records.specs.Record.{edit_of as edit_of_record, Belongs};
+ghost use Rattle.cad_surgery.specs.InPlace.{is_in_place as is_made_in_place};
+
+use crate::half_maps::half;
+use crate::plans::{SQUARE, edit_of, map_of};
+use crate::plans_after::{DETACHED, EMPTY, JOINED, MOVED, RENAMED, SPLIT, WITH_POINT, WITH_POINTS};
+use cad_edit::PlainStore;
+use cad_files::{answer_text, plan_text};
+use cad_history::Answer;
+use cad_map::{MapStore, MapView, PlainMap};
+use cad_rows::{Edit, Face, Memory, Refusal, StringNo};
+use cad_surgery::{HalfMap, SmallRecord};
+use half_table::{Half, HalfTable, Ticks};
+use std::process::Abort;
+use std::test::Fail;
+
+/// An edit of a worked job: the plan, the record, its answer and the plan after it.
+#[derive(Drop)]
+struct Step {
+    before: &'static str,
+    edit: &'static str,
+    answer: &'static str,
+    after: &'static str,
+}
+
+/// What is seen of a map on half-edges: its plan text, what follows and what has each half, and the work on its table.
+#[derive(Drop)]
+struct Sight {
+    text: Vec<u8>,
+    next: Vec<Half>,
+    faces: Vec<Face>,
+    work: u64,
+}
+
+/// What follows a half.
+fn next_of(rt: &impl Abort, table: &HalfTable<Ticks>, string: StringNo, forward: bool) -> Half {
+    let half = half(rt, table, string.get(), forward);
+    table.next(half)
+}
+
+/// The face of a half.
+fn face_of(rt: &impl Abort, table: &HalfTable<Ticks>, string: StringNo, forward: bool) -> Face {
+    let half = half(rt, table, string.get(), forward);
+    table.face(half)
+}
+
+/// What follows each half.
+fn all_next<R: Abort + AllocGlobal>(rt: &R, store: &HalfMap<Ticks>) -> Result<Vec<Half>, Memory> {
+    let mut halves = Vec::new(rt.alloc());
+    for place in 0..store.counts().strings {
+        let string = store.string_at(place).unwrap().number;
+        halves.push(next_of(rt, store.table(), string, true))?;
+        halves.push(next_of(rt, store.table(), string, false))?;
+    }
+    Ok(halves)
+}
+
+/// The face of each half.
+fn all_faces<R: Abort + AllocGlobal>(rt: &R, store: &HalfMap<Ticks>) -> Result<Vec<Face>, Memory> {
+    let mut faces = Vec::new(rt.alloc());
+    for place in 0..store.counts().strings {
+        let string = store.string_at(place).unwrap().number;
+        faces.push(face_of(rt, store.table(), string, true))?;
+        faces.push(face_of(rt, store.table(), string, false))?;
+    }
+    Ok(faces)
+}
+
+fn sight_of<R: Abort + AllocGlobal>(rt: &R, store: &HalfMap<Ticks>) -> Result<Sight, Memory>
+    requires { IsValid (map_that_stands store.now) }
+{
+    let text = plan_text(rt.alloc(), store)?;
+    let next = all_next(rt, store)?;
+    let faces = all_faces(rt, store)?;
+    let work = store.table().work();
+    Ok(Sight {
+        text,
+        next,
+        faces,
+        work,
+    })
+}
+
+/// Fails where something else is seen of a map than before.
+fn check_same<R: Abort + AllocGlobal>(
+    rt: &R,
+    store: &HalfMap<Ticks>,
+    before: &Sight,
+) -> Result<(), Memory>
+    requires { IsValid (map_that_stands store.now) }
+{
+    let now = sight_of(rt, store)?;
+    assert!(rt; now.work == before.work);
+    assert!(rt; now.text.as_slice() == before.text.as_slice());
+    assert!(rt; now.next.as_slice() == before.next.as_slice());
+    assert!(rt; now.faces.as_slice() == before.faces.as_slice());
+    Ok(())
+}
+
+/// Makes an edit; where a growth is refused, once more.
+fn make<R: Abort + AllocGlobal>(
+    rt: &R,
+    store: &mut HalfMap<Ticks>,
+    edit: &Edit,
+) -> Result<Result<SmallRecord, Refusal>, Memory>
+    requires valid { IsValid (map_that_stands store.old) }
+    requires place { IsTrue (is_made_in_place edit.now) }
+    ensures recorded { IfOk result (λ made. IfOk made
+        (λ r. Belongs r (map_that_stands store.old) (map_that_stands store.new))) }
+    ensures err { IfOk result (λ made. OnErr made
+        (map_that_stands store.new ≡ map_that_stands store.old)) }
+{
+    let before = sight_of(rt, store)?;
+    match store.apply(edit) {
+        Err(Refusal::Memory) => {
+            check_same(rt, store, &before)?;
+            Ok(store.apply(edit))
+        }
+        made => Ok(made),
+    }
+}
+
+/// Goes back; where a growth is refused, once more.
+fn go_back<R: Abort + AllocGlobal>(
+    rt: &R,
+    store: &mut HalfMap<Ticks>,
+    change: &SmallRecord,
+) -> Result<(), Memory>
+    requires valid { IsValid (map_that_stands store.old) }
+    requires belongs { (before : Map) × Belongs change.now before (map_that_stands store.old) }
+    requires place { IsTrue (is_made_in_place (edit_of_record change.now)) }
+    ensures { OnOk result ((before : Map) → Belongs change.now before (map_that_stands store.old)
+        → map_that_stands store.new ≡ before) }
+{
+    let before = sight_of(rt, store)?;
+    match store.back(change) {
+        Ok(()) => Ok(()),
+        Err(_) => {
+            check_same(rt, store, &before)?;
+            store.back(change)
+        }
+    }
+}
+
+/// Goes on again; where a growth is refused, once more.
+fn go_forward<R: Abort + AllocGlobal>(
+    rt: &R,
+    store: &mut HalfMap<Ticks>,
+    change: &SmallRecord,
+) -> Result<(), Memory>
+    requires valid { IsValid (map_that_stands store.old) }
+    requires belongs { (after : Map) × Belongs change.now (map_that_stands store.old) after }
+    requires place { IsTrue (is_made_in_place (edit_of_record change.now)) }
+    ensures { OnOk result ((after : Map) → Belongs change.now (map_that_stands store.old) after
+        → map_that_stands store.new ≡ after) }
+{
+    let before = sight_of(rt, store)?;
+    match store.forward(change) {
+        Ok(()) => Ok(()),
+        Err(_) => {
+            check_same(rt, store, &before)?;
+            store.forward(change)
+        }
+    }
+}
+
+/// Fails where a map has another plan text.
+fn check_text<R: Abort + AllocGlobal, M: MapView>(
+    rt: &R,
+    map: &M,
+    wanted: &str,
+) -> Result<(), Memory>
+    requires { IsValid (M.map map.now) }
+{
+    let text = plan_text(rt.alloc(), map)?;
+    assert!(rt; text.as_slice() == wanted.as_bytes());
+    Ok(())
+}
+
+/// Fails where an edit was to be answered otherwise.
+fn check_answer<R: Abort + AllocGlobal>(
+    rt: &R,
+    refusal: Option<Refusal>,
+    wanted: &str,
+) -> Result<(), Memory> {
+    let answer = match refusal {
+        None => Answer::Done,
+        Some(refusal) => Answer::Refused(refusal),
+    };
+    let text = answer_text(rt.alloc(), &answer)?;
+    assert!(rt; text.as_slice() == wanted.as_bytes());
+    Ok(())
+}
+
+/// Goes back and on again by a record.
+fn go_both_ways<R: Abort + AllocGlobal>(
+    rt: &R,
+    store: &mut HalfMap<Ticks>,
+    change: &SmallRecord,
+    step: &Step,
+) -> Result<(), Memory>
+    requires belongs { (before : Map) × Belongs change.now before (map_that_stands store.old) }
+    requires place { IsTrue (is_made_in_place (edit_of_record change.now)) }
+{
+    go_back(rt, store, change)?;
+    check_text(rt, store, step.before)?;
+    go_forward(rt, store, change)?;
+    check_text(rt, store, step.after)
+}
+
+/// Goes both ways on another map on half-edges.
+fn go_on_another<R: Abort + AllocGlobal>(
+    rt: &R,
+    after: &PlainMap,
+    change: &SmallRecord,
+    step: &Step,
+) -> Result<(), Memory>
+    requires belongs { (before : Map) × Belongs change.now before after.now }
+    requires place { IsTrue (is_made_in_place (edit_of_record change.now)) }
+{
+    let mut other = HalfMap::of(rt.alloc(), after, Ticks::new())?;
+    go_both_ways(rt, &mut other, change, step)
+}
+
+/// Whether the edit of a record is made on the half-edges of a map in place.
+fn is_record_in_place(change: &SmallRecord) -> bool
+    ensures { result ≡ is_made_in_place (edit_of_record change.now) }
+{
+    !matches!(
+        change,
+        SmallRecord::Divide { .. }
+            | SmallRecord::MergeAlong { .. }
+            | SmallRecord::MergeIsland { .. }
+    )
+}
+
+/// Goes both ways by a record, on its own map and on another one.
+fn check_record<R: Abort + AllocGlobal>(
+    rt: &R,
+    store: &mut HalfMap<Ticks>,
+    change: &SmallRecord,
+    step: &Step,
+) -> Result<(), Memory>
+    requires { (before : Map) × Belongs change.now before (map_that_stands store.old) }
+{
+    assert!(rt; is_record_in_place(change));
+    check_text(rt, store, step.after)?;
+    let after = PlainMap::of_view(rt.alloc(), store)?;
+    go_on_another(rt, &after, change, step)?;
+    go_both_ways(rt, store, change, step)
+}
+
+/// Makes an edit on half-edges, and looks at its answer, its map and its record.
+fn check_made<R: Abort + AllocGlobal>(
+    rt: &R,
+    store: &mut HalfMap<Ticks>,
+    edit: &Edit,
+    step: &Step,
+) -> Result<(), Memory>
+    requires valid { IsValid (map_that_stands store.old) }
+    requires place { IsTrue (is_made_in_place edit.now) }
+{
+    match make(rt, store, edit)? {
+        Ok(change) => {
+            check_answer(rt, None, step.answer)?;
+            check_record(rt, store, &change, step)
+        }
+        Err(refusal) => {
+            check_answer(rt, Some(refusal), step.answer)?;
+            check_text(rt, store, step.after)
+        }
+    }
+}
+
+/// Whether an edit is made on the half-edges of a map in place.
+fn is_in_place(edit: &Edit) -> bool
+    ensures { result ≡ is_made_in_place edit.now }
+{
+    !matches!(edit, Edit::Divide { .. } | Edit::Merge { .. })
+}
+
+/// Makes an edit on the half-edges of a map.
+fn check_on_halves<R: Abort + AllocGlobal>(
+    rt: &R,
+    map: &PlainMap,
+    edit: &Edit,
+    step: &Step,
+) -> Result<(), Memory>
+    requires { IsValid map.now }
+{
+    assert!(rt; is_in_place(edit));
+    let mut halves = HalfMap::of(rt.alloc(), map, Ticks::new())?;
+    check_made(rt, &mut halves, edit, step)
+}
+
+/// Why the plain store refuses an edit. One that it doesn't refuse is made.
+fn apply_plain(store: &mut PlainStore, edit: &Edit) -> Option<Refusal>
+    requires { IsValid store.old.map }
+    ensures { IsValid store.new.map }
+{
+    match store.apply(edit) {
+        Ok(_made) => None,
+        Err(refusal) => Some(refusal),
+    }
+}
+
+/// Makes an edit on the plain store, and looks at its answer and its map.
+fn check_plain<R: Abort + AllocGlobal>(
+    rt: &R,
+    store: &mut PlainStore,
+    edit: &Edit,
+    step: &Step,
+) -> Result<(), Memory>
+    requires { IsValid store.old.map }
+{
+    let refusal = apply_plain(store, edit);
+    if refusal == Some(Refusal::Memory) {
+        return Err(Memory);
+    }
+    check_answer(rt, refusal, step.answer)?;
+    check_text(rt, &store.map, step.after)
+}
+
+/// Makes an edit of a worked job on both stores.
+fn check_step<R: Abort + AllocGlobal>(rt: &R, step: &Step) -> Result<(), Fail> {
+    let edit = edit_of(rt.alloc(), step.edit)?;
+    let map = map_of(rt.alloc(), step.before)?;
+    check_on_halves(rt, &map, &edit, step)?;
+    check_plain(rt, &mut PlainStore { map }, &edit, step)?;
+    Ok(())
+}
+
+const OK: &str = "ok,,,,,,\n";
+
+/// A refusal on a plan, which stays as it is.
+fn refused(before: &'static str, edit: &'static str, answer: &'static str) -> Step {
+    Step {
+        before,
+        edit,
+        answer,
+        after: before,
+    }
+}
+
+/// An edit that is made.
+fn made(before: &'static str, edit: &'static str, after: &'static str) -> Step {
+    Step {
+        before,
+        edit,
+        answer: OK,
+        after,
+    }
+}
+
+#[test]
+fn strings_split_and_joined(rt: HostRuntime) -> Result<(), Fail> {
+    for step in [
+        made(SQUARE, "split,11,5,500,0,22,23", SPLIT),
+        made(SQUARE, "join,1,21,,,,", JOINED),
+        refused(JOINED, "join,2,22,,,,", "refused,18,breaks,V4,,,\n"),
+    ] {
+        check_step(&rt, &step)?;
+    }
+    Ok(())
+}
+
+#[test]
+fn points_added_and_moved(rt: HostRuntime) -> Result<(), Fail> {
+    for step in [
+        refused(SQUARE, "move,3,500,-500,,,", "refused,18,breaks,V4,,,\n"),
+        refused(SQUARE, "move,3,-1000,-1000,,,", "refused,18,breaks,V7,,,\n"),
+        refused(
+            SQUARE,
+            "add-point,6,10000000001,0,,,",
+            "refused,1,range,,,,\n",
+        ),
+        refused(
+            SQUARE,
+            "add-point,6,1000,1000,,,",
+            "refused,18,breaks,V3,,,\n",
+        ),
+        refused(SQUARE, "add-point,6,500,0,,,", "refused,18,breaks,V4,,,\n"),
+        made(SQUARE, "add-point,5,500,500,,,", WITH_POINT),
+        made(WITH_POINT, "add-point,6,600,600,,,", WITH_POINTS),
+        refused(SQUARE, "drop-point,9,,,,,", "refused,2,unknown,point,9,,\n"),
+        made(WITH_POINT, "drop-point,5,,,,,", SQUARE),
+    ] {
+        check_step(&rt, &step)?;
+    }
+    Ok(())
+}
+
+#[test]
+fn rows_changed(rt: HostRuntime) -> Result<(), Fail> {
+    for step in [
+        made(SQUARE, "rename,1,\"North, B\",,,,", RENAMED),
+        made(RENAMED, "move,3,1200,1000,,,", MOVED),
+        made(MOVED, "detach,point,1,1,,,", DETACHED),
+        refused(
+            DETACHED,
+            "detach,point,1,1,,,",
+            "refused,16,not-attached,,,,\n",
+        ),
+        made(DETACHED, "attach,point,1,1,,,", MOVED),
+        made(
+            EMPTY,
+            "add-source,1,Plan 7,,,,",
+            "plan,2,,,,,\nsource,1,Plan 7,,,,\nopen,,,,,,\n",
+        ),
+    ] {
+        check_step(&rt, &step)?;
+    }
+    Ok(())
+}
