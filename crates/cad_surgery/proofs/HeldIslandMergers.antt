@@ -47,7 +47,7 @@ use Rattle.cad_surgery.proofs.HeldMergers.{along-rows, numbers-along, record-tri
 use Rattle.cad_surgery.proofs.NamedRings.{named-on, named-once, named-rings}
 
 -- points of which there are two or more have the sides of the chain back to the first
-closed-sides : (points : List ℕ) → 2 ≤ length points → sides_of_chain (closed points) ≡ sides_of points
+pub closed-sides : (points : List ℕ) → 2 ≤ length points → sides_of_chain (closed points) ≡ sides_of points
 closed-sides [] long = absurd (omega (arith, long))
 closed-sides (a ∷ points) long = sides_of_chain-is a points a
 
@@ -119,6 +119,7 @@ module _ (m : Map) (kept : Face) (row : ParcelRow) (place : ℕ) (points : List 
         named-rings m whole_old inner left right (rings_apart is_it) law.were law.left_face (λ e. law.differ (sym law.right_face ∙ e)) s on_left rows (λ b among h. named-on m rows ends b h) moved it.held;
     once =
         named-once m whole_old inner left right (rings_apart is_it) law.were law.left_face (λ e. law.differ (sym law.right_face ∙ e)) s on_left rows (λ b among h. named-on m rows ends b h) moved it.held;
+    named = it.held;
   }
 
 -- ---- By its record, on a draft

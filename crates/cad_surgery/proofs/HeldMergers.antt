@@ -51,6 +51,7 @@ use Rattle.map_parts.proofs.AlongPaths.{on-path}
 use Rattle.map_parts.proofs.IslandTable.{more-rest}
 use Rattle.map_parts.proofs.KeptShown.{bare}
 use Rattle.map_parts.proofs.MergedChain.{merged-chain}
+use Rattle.map_parts.proofs.MergedRows as rows_of
 use Rattle.map_parts.proofs.Merging as merging
 use Rattle.map_parts.proofs.PartsRings.{found-row, half-there}
 use Rattle.map_parts.proofs.SharedRows.{one-row}
@@ -286,7 +287,7 @@ module _ (m : Map) (kept : Face) (row : ParcelRow) (place : ℕ) (chain : List �
   -- what the record tells is at hand
   pub shared-path : (rows : HalfRows) → AllByRecursion (HasHalves rows) m.strings → HasSharedPath m rows kept row.number path start end moved
   shared-path rows ends =
-      let now_ends = merging.ends-left m kept row.number path is_it rows ends in
+      let now_ends = rows_of.ends-left m kept row.number path (is_it.tried) (is_it.shared) rows ends in
       record {
         is = is_it;
         leads = subst (λ (l : List ℕ). AreAlong rows path (sides_of_chain l)) it.shared.is (along-rows m rows ends strings chain it.gone.as_many along-there);

@@ -35,13 +35,11 @@ pub mod NamedRings
 pub mod DividedBack
 pub mod DividedAgain
 pub mod LeadsBy
-pub mod CrossedRing
-pub mod CrossedHoles
-pub mod DividedCrossing
-pub mod HeldDivisions
 pub mod MergedIslandDraft
 pub mod SharedRings
 pub mod HeldIslandMergers
 pub mod MergedDraft
 pub mod HeldMergers
 pub mod UnmergedDraft
+pub mod PlacedChains
+pub mod RecordedIsland

@@ -56,7 +56,7 @@ use Rattle.cad_surgery.proofs.SplitDraft.{come-and-gone}
 use Rattle.cad_surgery.proofs.WorkTaken.{work-allowed, ticks-just, ticks-then}
 
 -- the path is as long as the ring
-path-points : (m : Map) (rows : HalfRows) (kept : Face) (ended : ℕ) (path moved : List Half) → (it : HasSharedRing m rows kept ended path moved) → length path ≡ length it.points
+pub path-points : (m : Map) (rows : HalfRows) (kept : Face) (ended : ℕ) (path moved : List Half) → (it : HasSharedRing m rows kept ended path moved) → length path ≡ length it.points
 path-points m rows kept ended path moved it = sym (length-map path (side_by rows)) ∙ ap length it.along ∙ length-sides_of it.points
 
 -- the path has a first half

@@ -12,6 +12,7 @@ use Rattle.cad_rings.specs.Cycle.{Ring, Side, has_side, opposite, sides_of, IsSa
 use Rattle.cad_rings.proofs.CallerLemmas.{IsSameRing-length, IsSameRing-sym, length-sides_of, sides_of-same}
 use Rattle.cad_map.specs.declared.boundary.Boundary.{Boundary}
 use Rattle.cad_map.specs.Boundaries.{bounding, is_face}
+use Rattle.cad_map.specs.Chain.{start_of, next_of}
 use Rattle.cad_map.specs.Map.{Map, all_sides, side_of}
 use Rattle.cad_map.specs.Merger.{ChainInRings, is_around, is_shared, shared_chains, shared_sides}
 use Rattle.cad_map.specs.Merger.ChainInRings.{along, around}
@@ -41,10 +42,12 @@ use Rattle.map_parts.specs.Labels.{IsOnRing}
 use Rattle.map_parts.specs.MergingIsland.{IsMergingIsland}
 use Rattle.map_parts.specs.Parts.{Parts, FitTogether, HasHalves, map_of, kept_at}
 use Rattle.map_parts.specs.Paths.{AreAlong}
+use Rattle.map_parts.proofs.AlongPaths.{first-of}
 use Rattle.map_parts.proofs.CycleRings.{cycle-each, cycle-sides}
 use Rattle.map_parts.proofs.KeptEach.{home-is, map-cong, to-each}
 use Rattle.map_parts.proofs.MergedChain.{faces-apart}
 use Rattle.map_parts.proofs.MergedIsland.{merged-island}
+use Rattle.map_parts.proofs.MergingIsland as merging
 use Rattle.map_parts.proofs.PartsRings.{in_table, other, row-there}
 use Rattle.map_parts.proofs.RingsOfHalves.{cycle-same_ring}
 use Rattle.map_parts.proofs.StringRowsPut.{each-left}
@@ -198,6 +201,15 @@ module _ (d : Parts) (fit : FitTogether d) (keeper : Face) (ended : ℕ) (tried 
     shared = round-strings;
   }
 
+  -- the first of them is the half itself
+  first-is : side_by rows h ≡ (start_of points, next_of points)
+  first-is = by points (merging.long m keeper ended points path round-is) leads-round
+    where
+      by : (ps : Ring) → 2 ≤ length ps → AreAlong rows path (sides_of ps) → side_by rows h ≡ (start_of ps, next_of ps)
+      by [] low sides = absurd (omega (arith, low))
+      by (a ∷ []) low sides = absurd (omega (arith, low))
+      by (a ∷ b ∷ ps) low sides = first-of sides
+
   -- ---- The other rings of the ended parcel
 
   abbrev left : Boundary
@@ -299,6 +311,7 @@ module _ (d : Parts) (fit : FitTogether d) (keeper : Face) (ended : ℕ) (tried 
           moved_are =
               named-rings m whole (Parcel ended) left right round-is.taken.0 law.were refl (faces-apart m keeper (Parcel ended) tried) s on rows led moved names-rings;
           once = named-once m whole (Parcel ended) left right round-is.taken.0 law.were refl (faces-apart m keeper (Parcel ended) tried) s on rows led moved names-rings;
+          named = subst (λ (t : Side). NamesRings m moved (rings_beside m (Parcel ended) t)) first-is names-rings;
         }
 
   -- by what is at hand

@@ -6,12 +6,14 @@ use Rattle.cad_rows.specs.declared.names.Face.{Face}
 use Rattle.cad_rows.specs.declared.names.Face.TheVariants.{Parcel}
 use Rattle.cad_rings.specs.Cycle.{sides_of}
 use Rattle.cad_map.specs.Boundaries.{is_face}
+use Rattle.cad_map.specs.Chain.{start_of, next_of}
 use Rattle.cad_map.specs.Map.{Map}
 use Rattle.half_table.specs.declared.half.Half.{Half}
 use Rattle.half_table.specs.Rows.{HalfRows}
 use Rattle.cad_surgery.specs.declared.edits.try_merge_island.IslandMerger.{IslandMerger}
 use Rattle.edit_records.specs.declared.record.SmallRecord.{SmallRecord}
 use Rattle.edit_records.specs.declared.record.SmallRecord.TheVariants as change
+use Rattle.edit_records.specs.HeldChains.{NamesRings, rings_beside}
 use Rattle.map_parts.specs.Handing.{home_of}
 use Rattle.map_parts.specs.Islands.{AreOfRings}
 use Rattle.map_parts.specs.MergingIsland.{IsMergingIsland, rings_apart}
@@ -34,3 +36,4 @@ pub record HasSharedRing (m : Map) (rows : HalfRows) (kept : Face) (ended : ℕ)
   pub along : AreAlong rows path (sides_of points)
   pub moved_are : AreOfRings m rows moved (Parcel ended) (rings_apart is)
   pub once : IsPermutation (map (home_of m rows) moved) (filter (λ b. is_face (Parcel ended) b.face) (rings_apart is))
+  pub named : NamesRings m moved (rings_beside m (Parcel ended) (start_of points, next_of points))

@@ -8,4 +8,5 @@ pub mod Enclosures
 pub mod Halvings
 pub mod Joinings
 pub mod IslandMergers
+pub mod ChainStrings
 pub mod Mergers

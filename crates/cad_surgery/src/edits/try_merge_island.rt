@@ -1,17 +1,23 @@
 //! A merger round an island on a map on half-edges: tried, taken back where it breaks a rule, and made
 //! again.
-ghost use Rattle.std.specs.Prelude.{◌≡◌, ◌<◌, ◌∷◌, Some, length, slice_get, IfOk, IfErr, OnOk, OnErr};
+ghost use Rattle.std.specs.Prelude.{◌≡◌, ◌<◌, ◌≤◌, ◌+◌, ◌∷◌, [], Some, length, slice_get, map as map_by, IfOk, IfErr, OnOk, OnErr};
+ghost use Rattle.std.specs.Vec.{vec_len, vec_capacity};
 ghost use Rattle.cad_map.specs.Asked.{GivesInRange};
 ghost use Rattle.cad_map.specs.Costs.{work_bound};
 ghost use Rattle.cad_map.specs.Effects.{after};
 ghost use Rattle.cad_map.specs.Map.{Map};
 ghost use Rattle.cad_map.specs.Outcome.{MayRefuse};
+ghost use Rattle.cad_map.specs.SharedChains.{IsSharedChain};
+ghost use Rattle.cad_map.specs.declared.shared_chain.SharedChain.TheVariants.{Around};
 ghost use Rattle.cad_map.specs.Touched.{IsTouched};
 ghost use Rattle.cad_map.specs.Valid.{IsValid};
 ghost use Rattle.cad_rows.specs.declared.edits.Edit.TheVariants.{Merge};
 ghost use Rattle.cad_rows.specs.declared.names.Face.TheVariants.{Parcel};
 ghost use Rattle.edit_records.specs.Record.{edit_of, Holds, Belongs, HeldMergedIsland};
-ghost use Rattle.half_paths.specs.Path.{strings_of};
+ghost use Rattle.edit_records.specs.declared.record.SmallRecord.TheVariants.{MergeIsland as MergeIslandRecord};
+ghost use Rattle.half_table.specs.Rows.{origin_of};
+ghost use Rattle.half_paths.specs.Path.{AreIn, strings_of};
+ghost use Rattle.cad_laws.specs.Tried.{IsTried};
 ghost use Rattle.cad_valid.specs.Near.{HoldsMap, touched_of};
 ghost use Rattle.cad_surgery.specs.IslandMergers.{HasSharedRing, IsOfMergeIsland, merged_round};
 ghost use Rattle.cad_surgery.specs.Proper.{IsProper};
@@ -20,14 +26,17 @@ ghost use Rattle.map_parts.specs.Parts.{map_of, kept_at};
 ghost use Rattle.map_parts.specs.PlacedStrings.{numbers_placed, StoodIn};
 
 use crate::draft::Draft;
+use crate::edits::chain_strings::chain_strings;
 use crate::edits::counted::is_work_in_range;
 use crate::edits::hidden::drop_hidden;
+use crate::edits::shared_ring::{SharedRing, shared_ring};
 use crate::edits::try_merge_along::{numbers_of, path_of};
-use cad_rows::{Face, Memory, ParcelNo, ParcelRow, PointNo, Refusal, StringNo};
+use cad_rows::{Face, Memory, Numbers, ParcelNo, ParcelRow, PointNo, Refusal, StringNo};
 use cad_valid::{Touched, first_broken_near};
 use edit_records::{ChainString, SmallRecord};
-use half_table::{Half, Tally};
+use half_table::{Half, HalfTable, Tally};
 use map_parts::{EndedParcel, begin_merge_island, unmerge_island};
+use std::alloc::Global;
 
 /// What a merger round an island names, with the halves round the ring that the two parcels share
 /// and their strings, and one half of each other ring of the ended parcel.
@@ -219,4 +228,132 @@ pub(crate) fn forward_merge_island<T: Tally>(
         moved: told.moved,
     };
     merge_island_again(draft, &merger)
+}
+
+// The points at which halves begin.
+fn points_round<T: Tally>(
+    alloc: Global,
+    table: &HalfTable<T>,
+    path: &[Half],
+) -> Result<Numbers<PointNo>, Memory>
+    requires { AreIn table.now.rows path.now }
+    ensures { IfOk result (λ points. points ≡ map_by (origin_of table.now.rows) path.now) }
+{
+    let mut points = Numbers::new(alloc);
+    for place in 0..path.len() {
+        points.push(table.origin(path[place]))?;
+    }
+    Ok(points)
+}
+
+// What a merger round an island goes by, its points, and room for what the record tells of its
+// strings.
+#[derive(Drop)]
+struct Found {
+    ring: SharedRing,
+    points: Numbers<PointNo>,
+    strings: Vec<ChainString>,
+}
+
+fn found_ring<T: Tally>(
+    draft: &Draft<T>,
+    kept: &Face,
+    ended: ParcelNo,
+    side: (PointNo, PointNo),
+) -> Result<Found, Memory>
+    requires tried { IsTried (map_of draft.now) (Merge kept.now (Parcel ended)) }
+    requires shared { IsSharedChain (map_of draft.now) kept.now (Parcel ended) (Around side) }
+    ensures ring { IfOk result (λ f. HasSharedRing (map_of draft.now) draft.now.table.rows kept.now
+        ended f.ring.path.items f.ring.moved.items) }
+    ensures along { IfOk result (λ f. f.ring.strings.items ≡ strings_of f.ring.path.items) }
+    ensures points { IfOk result (λ f. f.points
+        ≡ map_by (origin_of draft.now.table.rows) f.ring.path.items) }
+    ensures none { IfOk result (λ f. f.strings.items ≡ []) }
+    ensures room { IfOk result (λ f. vec_len f.strings + length f.ring.path.items ≤ vec_capacity f.strings) }
+{
+    let alloc = draft.rows.points.allocator();
+    let ring = shared_ring(draft, kept, ended, side)?;
+    let points = points_round(alloc, &draft.table, ring.path.as_slice())?;
+    let strings = Vec::with_capacity(alloc, ring.path.len())?;
+    Ok(Found {
+        ring,
+        points,
+        strings,
+    })
+}
+
+// The record of a merger round an island that these halves name the rings of.
+fn record_of_merger(
+    kept: Face,
+    row: ParcelRow,
+    place: usize,
+    points: Numbers<PointNo>,
+    strings: Vec<ChainString>,
+    moved: Vec<Half>,
+) -> SmallRecord
+    ensures { result ≡ MergeIslandRecord kept row place points strings moved }
+{
+    SmallRecord::MergeIsland {
+        kept,
+        row,
+        place,
+        points,
+        strings,
+        moved,
+    }
+}
+
+/// Merges a parcel into a face round the ring that they share, and takes it back where it breaks a
+/// rule. The ring is told by one of the face's sides of it. The grid holds the strings and points of
+/// the map after it.
+pub(crate) fn try_merge_island<T: Tally>(
+    draft: &mut Draft<T>,
+    kept: Face,
+    ended: ParcelNo,
+    side: (PointNo, PointNo),
+    touched: &Touched,
+) -> Result<SmallRecord, Refusal>
+    requires tried { IsTried (map_of draft.old) (Merge kept (Parcel ended)) }
+    requires shared { IsSharedChain (map_of draft.old) kept (Parcel ended) (Around side) }
+    requires held { HoldsMap draft.old.grid (after (map_of draft.old) (Merge kept (Parcel ended))) }
+    requires touched { IsTouched (map_of draft.old)
+        (after (map_of draft.old) (Merge kept (Parcel ended))) (touched_of touched.now) }
+    requires proper { IsProper (map_of draft.old) draft.old.table.rows (kept_at draft.old) }
+    ensures made { OnOk result
+        (map_of draft.new ≡ after (map_of draft.old) (Merge kept (Parcel ended))) }
+    ensures valid { OnOk result (IsValid (map_of draft.new)) }
+    ensures edit { IfOk result (λ r. edit_of r ≡ Merge kept (Parcel ended)) }
+    ensures holds { IfOk result (λ r. Holds r (map_of draft.old)) }
+    ensures refused { IfErr result (MayRefuse (map_of draft.old) (Merge kept (Parcel ended))) }
+    ensures err { OnErr result (map_of draft.new ≡ map_of draft.old) }
+    ensures grid { draft.new.grid ≡ draft.old.grid }
+    ensures proper { IsProper (map_of draft.new) draft.new.table.rows (kept_at draft.new) }
+    ensures work { TakesWork draft.old.table draft.new.table
+        (work_bound (map_of draft.old) (after (map_of draft.old) (Merge kept (Parcel ended)))) }
+{
+    is_work_in_range(&draft.table);
+    let Ok(found) = found_ring(draft, &kept, ended, side) else {
+        return Err(Refusal::Memory);
+    };
+    let Found {
+        ring,
+        points,
+        mut strings,
+    } = found;
+    let merger = IslandMerger {
+        kept,
+        ended,
+        path: ring.path.as_slice(),
+        strings: ring.strings.as_slice(),
+        moved: ring.moved.as_slice(),
+    };
+    let gone = merge_island_within_rules(draft, &merger, touched)?;
+    let EndedParcel {
+        row,
+        place,
+        strings: placed,
+    } = gone;
+    chain_strings(ring.path.as_slice(), placed, &mut strings);
+    let SharedRing { moved, .. } = ring;
+    Ok(record_of_merger(kept, row, place, points, strings, moved))
 }
