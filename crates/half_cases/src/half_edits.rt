@@ -235,9 +235,7 @@ fn is_record_in_place(change: &SmallRecord) -> bool
 {
     !matches!(
         change,
-        SmallRecord::Divide { .. }
-            | SmallRecord::MergeAlong { .. }
-            | SmallRecord::MergeIsland { .. }
+        SmallRecord::MergeAlong { .. } | SmallRecord::MergeIsland { .. }
     )
 }
 
@@ -283,7 +281,7 @@ fn check_made<R: Abort + AllocGlobal>(
 fn is_in_place(edit: &Edit) -> bool
     ensures { result ≡ is_made_in_place edit.now }
 {
-    !matches!(edit, Edit::Divide { .. } | Edit::Merge { .. })
+    !matches!(edit, Edit::Merge { .. })
 }
 
 /// Makes an edit on the half-edges of a map.
