@@ -32,6 +32,7 @@ pub mod AddedStrings
 pub mod EachFits
 pub mod Enclosing
 pub mod IslandRoom
+pub mod IslandPoints
 pub mod PlacedHalves
 pub mod EnclosingBegun
 pub mod RowsUndone
@@ -62,3 +63,4 @@ pub mod MergingIsland
 pub mod MergingBegun
 pub mod MergingIslandBegun
 pub mod UnmergingBegun
+pub mod UnmergingIslandBegun

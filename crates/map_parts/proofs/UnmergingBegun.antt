@@ -1,5 +1,5 @@
 -- A merger along a chain that is taken back with the room that it takes and its strings in the table.
-use Rattle.std.proofs.Common.{◌≡◌, ◌≢◌, ℕ, zero, suc, ◌+◌, ◌<◌, ◌≤◌, ◌==◌, Bool, true, false, refl, sym, ap, subst, ◌∙◌, List, [], ◌∷◌, ◌++◌, map, length, nat_eq, if◌then◌else◌, Some, slice_get, arith}
+use Rattle.std.proofs.Common.{◌≡◌, ◌≢◌, ℕ, suc, ◌+◌, ◌<◌, ◌≤◌, ◌==◌, Bool, true, false, refl, sym, ap, subst, ◌∙◌, List, [], ◌∷◌, ◌++◌, map, length, nat_eq, if◌then◌else◌, Some, slice_get, arith}
 use Rattle.std.specs.Prelude.{IsPermutation}
 use Rattle.std.specs.List.{AllByRecursion, Contains, IsDistinct}
 use Rattle.std.proofs.lemmas.List.{length-append, length-map}
@@ -7,7 +7,7 @@ use Rattle.cad_rows.specs.declared.names.Face.{Face}
 use Rattle.cad_rows.specs.declared.names.Face.TheVariants.{Outside, Parcel}
 use Rattle.cad_rows.specs.declared.rows.ParcelRow.{ParcelRow}
 use Rattle.cad_rows.specs.declared.rows.StringRow.{StringRow}
-use Rattle.cad_rings.specs.Cycle.{Side, opposite, sides_of}
+use Rattle.cad_rings.specs.Cycle.{Ring, Side, opposite, sides_of}
 use Rattle.cad_rings.specs.Surgery.{sides_of_chain}
 use Rattle.cad_rings.proofs.CallerLemmas.{sides_of_chain-is}
 use Rattle.cad_map.specs.declared.boundary.Boundary.{Boundary}
@@ -23,11 +23,10 @@ use Rattle.half_paths.specs.Path.{strings_of}
 use Rattle.half_paths.specs.Loose.{AddsStrings, AreNew, HasEnds, numbers_of, is_of}
 use Rattle.entry_list.specs.Slots.{HasSlot}
 use Rattle.key_lists.specs.Held.{Held, IsSame, items_at, HasRoomAt}
-use Rattle.cad_laws.specs.Local.{IsShown, side_by}
+use Rattle.cad_laws.specs.Local.{side_by}
 use Rattle.map_parts.specs.declared.edits.placed_strings.PlacedString.{PlacedString}
 use Rattle.map_parts.specs.declared.map_rows.MapRows.{MapRows}
 use Rattle.map_parts.specs.declared.stars.Spoke.{Spoke}
-use Rattle.map_parts.specs.Islands.{AreOfRings}
 use Rattle.map_parts.specs.Labels.{IsAlong, IsOnRing}
 use Rattle.map_parts.specs.Merging.{merged, shared_chain, first_corner, last_corner, rings_past, rows_gone, bare_row, sides_led, HasRoomAtEnds, CanBeginUnmerge, CanUnmerge}
 use Rattle.map_parts.specs.Parts.{HasHalves}
@@ -44,6 +43,7 @@ use Rattle.map_parts.proofs.ChainAcross.{last-string}
 use Rattle.map_parts.proofs.ChainRoom.{chain-room}
 use Rattle.map_parts.proofs.EnclosingBegun.{fit-room}
 use Rattle.map_parts.proofs.HiddenStrings.{fit-shown, added-halves, added-loose}
+use Rattle.map_parts.proofs.IslandRoom.{ring-room}
 use Rattle.map_parts.proofs.KeptShown.{adds-hidden, new-apart, side-kept}
 use Rattle.map_parts.proofs.MergedRows as rows_of
 use Rattle.map_parts.proofs.Merging as merging
@@ -167,6 +167,15 @@ ends-room path rows chain long each many sides stars all p some =
     last-of [] some = absurd (omega (arith, some))
     last-of (x ∷ []) some = (0, x, refl, refl)
     last-of (x ∷ y ∷ xs) some = let it = last-of (y ∷ xs) (omega arith) in (suc it.0, it.1, ap suc it.2, it.3)
+
+-- and so it is where they close a ring
+pub ring_ends-room : (path : List Half) (rows : List StringRow) (ring : Ring) → EachPair (λ a b. a ≢ b) ring → length rows ≡ length path → sides_led path rows ≡ sides_of ring
+    → (stars : Held Spoke) → AllByRecursion (HasRoomAtEnds stars) rows → HasRoomFor rows stars
+ring_ends-room path rows ring each many sides stars all p some =
+    let own = all-turned path rows in
+    let same = turned-many p path rows many in
+    let had = ring-room own ring (turned-sides path rows ∙ sides) each stars (first-ends stars own (turned-room stars path rows all)) p (omega (arith, same, some)) in
+    omega (arith, same, had)
 
 -- a half of a string in the table leads as the string does, or back
 pub row-led : (table : HalfRows) (r : StringRow) (h : Half) → r.number ≡ h.string → HasHalves table r → side_by table h ≡ (if h.forward then side_of r else opposite (side_of r))

@@ -14,8 +14,8 @@ use Rattle.cad_map.specs.Merger.{shared_chains}
 use Rattle.cad_map.specs.Merger.ChainInRings.{around}
 use Rattle.half_table.specs.declared.half.Half.{Half}
 use Rattle.half_table.specs.Rows.{HalfRows, next}
-use Rattle.half_paths.specs.Loose.{AreLoose, numbers_of}
-use Rattle.half_paths.specs.Path.{strings_of}
+use Rattle.half_paths.specs.Loose.{AreLoose, AreNew, numbers_of}
+use Rattle.half_paths.specs.Path.{AreIn, strings_of}
 use Rattle.entry_list.specs.Slots.{HasSlot}
 use Rattle.key_lists.specs.Held.{Held, items_at, HasRoomAt}
 use Rattle.cad_laws.specs.Counts.{shared_strings}
@@ -26,7 +26,7 @@ use Rattle.map_parts.specs.declared.stars.Spoke.{Spoke}
 use Rattle.map_parts.specs.Parts.{HasHalves}
 use Rattle.map_parts.specs.Paths.{AreAlong}
 use Rattle.map_parts.specs.Islands.{AreOfRings, IsTakenIsland}
-use Rattle.map_parts.specs.Merging.{rows_gone}
+use Rattle.map_parts.specs.Merging.{rows_gone, sides_led}
 use Rattle.map_parts.specs.PlacedStrings.{numbers_placed, StoodIn}
 use Rattle.map_parts.specs.Splitting.{FitMap}
 use Rattle.map_parts.specs.StringRows.{HasRoomFor}
@@ -99,3 +99,19 @@ pub record CanUnmergeIsland (keeper : Face) (row : ParcelRow) (place : ℕ) (pat
   pub room : HasRoomFor (rows_gone gone) stars
   pub inner_room : HasRoomAt held (face_place (Parcel row.number)) (length (items_at held (face_place keeper)) + 1)
   pub outer_room : HasRoomAt held (face_place keeper) 1
+
+-- The map is that after a merger which was tried, and the rows that went are at hand with their
+-- places: the table has none of the strings. So are the halves of the rings that pass over.
+pub record CanBeginUnmergeIsland (keeper : Face) (row : ParcelRow) (place : ℕ) (path moved : List Half) (gone : List PlacedString)
+    (rows : MapRows) (table : HalfRows) (held : Held Half) (stars : Held Spoke) : Type 0 where
+  pub map : Map
+  pub points : List ℕ
+  pub is : IsMergingIsland map keeper row.number points path
+  pub fits : FitMap (without_island is) rows table held stars
+  pub new : AreNew table (rows_gone gone)
+  pub sides : sides_led path (rows_gone gone) ≡ sides_of points
+  pub moved_in : AreIn table moved
+  pub moved_are : AreOfRings map table moved (Parcel row.number) (rings_apart is)
+  pub numbers_are : numbers_placed gone ≡ strings_of path
+  pub stood : StoodIn map.strings gone
+  pub at : slice_get map.parcels place ≡ Some row

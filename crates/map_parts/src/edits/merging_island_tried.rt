@@ -1,20 +1,21 @@
 //! A merger round an island with the room that it takes: made, and taken back.
 ghost use Rattle.std.specs.Prelude.{◌≡◌, ◌+◌, ◌∷◌, ℕ, Some, length, slice_get};
-ghost use Rattle.std.specs.Prelude.{IfOk, OnOk, OnErr};
+ghost use Rattle.std.specs.Prelude.{◌≤◌, true, if◌then◌else◌, IfOk, OnOk, OnErr};
 ghost use Rattle.cad_map.specs.Map.{parcel_of};
 ghost use Rattle.half_table.specs.declared.half.Half.{Half as HalfOf};
 ghost use Rattle.half_table.specs.Count.{ticked};
 ghost use Rattle.half_table.specs.Half.{twin};
 ghost use Rattle.half_table.specs.Rows.{next, has, origin_of, cycle};
-ghost use Rattle.half_paths.specs.Loose.{AreLoose};
-ghost use Rattle.map_parts.specs.MergingIsland.{CanBeginMergeIsland, CanUnmergeIsland, without_island};
+ghost use Rattle.half_paths.specs.Loose.{AreLoose, is_of};
+ghost use Rattle.map_parts.specs.MergingIsland.{CanBeginMergeIsland, CanBeginUnmergeIsland};
+ghost use Rattle.map_parts.specs.MergingIsland.{CanUnmergeIsland, without_island};
 ghost use Rattle.map_parts.specs.PlacedStrings.{numbers_placed, StoodIn};
 ghost use Rattle.map_parts.specs.Relabelled.{cycles_length};
 ghost use Rattle.map_parts.specs.Rows.{map_in};
 ghost use Rattle.map_parts.specs.Splitting.{FitMap};
 
-use crate::edits::merging_island::merge_island;
-use crate::edits::merging_tried::{EndedParcel, make_merge_room};
+use crate::edits::merging_island::{merge_island, unmerge_island};
+use crate::edits::merging_tried::{EndedParcel, make_merge_room, make_unmerge_room};
 use crate::map_rows::MapRows;
 use crate::stars::Spoke;
 use cad_rows::{Face, Memory, ParcelNo, StringNo};
@@ -42,19 +43,20 @@ pub fn begin_merge_island<T: Tally>(
 ) -> Result<EndedParcel, Memory>
     requires { CanBeginMergeIsland keeper.now ended strings.now (first.now ∷ rest.now) moved.now
         rows.old table.old.rows kept.old stars.old }
-    ensures fits { (can : CanBeginMergeIsland keeper.now ended strings.now (first.now ∷ rest.now) moved.now
-        rows.old table.old.rows kept.old stars.old)
-        → OnOk result (FitMap (without_island can.is) rows.new table.new.rows kept.new stars.new) }
-    ensures err { (can : CanBeginMergeIsland keeper.now ended strings.now (first.now ∷ rest.now) moved.now
-        rows.old table.old.rows kept.old stars.old)
+    ensures fits { (can : CanBeginMergeIsland keeper.now ended strings.now (first.now ∷ rest.now)
+        moved.now rows.old table.old.rows kept.old stars.old)
+        → OnOk result
+        (FitMap (without_island can.is) rows.new table.new.rows kept.new stars.new) }
+    ensures err { (can : CanBeginMergeIsland keeper.now ended strings.now (first.now ∷ rest.now)
+        moved.now rows.old table.old.rows kept.old stars.old)
         → OnErr result (FitMap can.map rows.new table.new.rows kept.new stars.new) }
     ensures err_table { OnErr result (table.new ≡ table.old) }
 
     // It can be taken back.
-    ensures back { (can : CanBeginMergeIsland keeper.now ended strings.now (first.now ∷ rest.now) moved.now
-        rows.old table.old.rows kept.old stars.old)
-        → IfOk result (λ r. (undo : CanUnmergeIsland keeper.now r.row r.place (first.now ∷ rest.now)
-        moved.now r.strings.items rows.new table.new.rows kept.new stars.new)
+    ensures back { (can : CanBeginMergeIsland keeper.now ended strings.now (first.now ∷ rest.now)
+        moved.now rows.old table.old.rows kept.old stars.old)
+        → IfOk result (λ r. (undo : CanUnmergeIsland keeper.now r.row r.place
+        (first.now ∷ rest.now) moved.now r.strings.items rows.new table.new.rows kept.new stars.new)
         × (undo.map ≡ can.map)) }
 
     ensures row { IfOk result (λ r. slice_get (map_in rows.old).parcels r.place ≡ Some r.row) }
@@ -65,7 +67,8 @@ pub fn begin_merge_island<T: Tally>(
     ensures has { (h : HalfOf) → has table.new.rows h ≡ has table.old.rows h }
     ensures origin { (h : HalfOf) → origin_of table.new.rows h ≡ origin_of table.old.rows h }
     ensures work { OnOk result (table.new.work ≡ ticked (cycles_length table.old.rows moved.now
-        + (length (cycle table.old.rows (twin first.now)) + (length rest.now + 1))) table.old.work) }
+        + (length (cycle table.old.rows (twin first.now)) + (length rest.now + 1)))
+        table.old.work) }
 {
     rows.retired.keep_slot(ended.get())?;
     make_merge_room(kept, keeper, ended)?;
@@ -78,4 +81,66 @@ pub fn begin_merge_island<T: Tally>(
         place,
         strings: gone,
     })
+}
+
+/// Takes a merger round an island back, with the room that it takes and its strings in the table.
+///
+/// # Errors
+///
+/// Where memory runs out the map stays, and the table has the strings that it had.
+pub fn begin_unmerge_island<T: Tally>(
+    rows: &mut MapRows,
+    table: &mut HalfTable<T>,
+    kept: &mut KeyLists<Half>,
+    stars: &mut KeyLists<Spoke>,
+    keeper: &Face,
+    gone: EndedParcel,
+    first: &Half,
+    rest: &[Half],
+    moved: &[Half],
+) -> Result<(), Memory>
+    requires { CanBeginUnmergeIsland keeper.now gone.row gone.place (first.now ∷ rest.now)
+        moved.now gone.strings.items rows.old table.old.rows kept.old stars.old }
+    ensures fits { (can : CanBeginUnmergeIsland keeper.now gone.row gone.place
+        (first.now ∷ rest.now) moved.now gone.strings.items rows.old table.old.rows kept.old
+        stars.old)
+        → OnOk result (FitMap can.map rows.new table.new.rows kept.new stars.new) }
+    ensures err { (can : CanBeginUnmergeIsland keeper.now gone.row gone.place
+        (first.now ∷ rest.now) moved.now gone.strings.items rows.old table.old.rows kept.old
+        stars.old)
+        → OnErr result
+        (FitMap (without_island can.is) rows.new table.new.rows kept.new stars.new) }
+    ensures err_table { OnErr result (table.new.rows ≡ table.old.rows) }
+    ensures has { OnOk result ((h : HalfOf) → has table.new.rows h
+        ≡ (if is_of (numbers_placed gone.strings.items) h then true else has table.old.rows h)) }
+    ensures origin { OnOk result ((h : HalfOf) → has table.old.rows h ≡ true
+        → origin_of table.new.rows h ≡ origin_of table.old.rows h) }
+    ensures work { OnOk result (table.new.work ≡ ticked (length rest.now + 1
+        + (length (cycle table.new.rows first.now)
+        + (length (cycle table.new.rows (twin first.now))
+        + cycles_length table.new.rows moved.now)))
+        (ticked (length gone.strings.items) table.old.work)) }
+    ensures err_work { OnErr result ((count : ℕ) × (count ≤ length gone.strings.items)
+        × (table.new.work ≡ ticked count (ticked count table.old.work))) }
+{
+    make_unmerge_room(rows, table, kept, stars, keeper, &gone)?;
+    let EndedParcel {
+        row,
+        place,
+        mut strings,
+    } = gone;
+    unmerge_island(
+        rows,
+        table,
+        kept,
+        stars,
+        keeper,
+        row,
+        place,
+        first,
+        rest,
+        moved,
+        &mut strings,
+    );
+    Ok(())
 }

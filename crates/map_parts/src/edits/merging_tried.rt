@@ -155,9 +155,9 @@ fn make_end_room(stars: &mut KeyLists<Spoke>, strings: &[StringRow]) -> Result<(
     Ok(())
 }
 
-// Sees that what a merger took can come back without memory, and adds its strings to the table,
-// loose. Where memory runs out, the table has the strings that it had.
-fn make_unmerge_room<T: Tally>(
+/// Sees that what a merger took can come back without memory, and adds its strings to the table,
+/// loose. Where memory runs out, the table has the strings that it had.
+pub(crate) fn make_unmerge_room<T: Tally>(
     rows: &mut MapRows,
     table: &mut HalfTable<T>,
     kept: &mut KeyLists<Half>,
