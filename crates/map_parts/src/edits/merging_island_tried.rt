@@ -56,8 +56,8 @@ pub fn begin_merge_island<T: Tally>(
     ensures back { (can : CanBeginMergeIsland keeper.now ended strings.now (first.now ∷ rest.now)
         moved.now rows.old table.old.rows kept.old stars.old)
         → IfOk result (λ r. (undo : CanUnmergeIsland keeper.now r.row r.place
-        (first.now ∷ rest.now) moved.now r.strings.items rows.new table.new.rows kept.new stars.new)
-        × (undo.map ≡ can.map)) }
+        (first.now ∷ rest.now) moved.now r.strings.items rows.new table.new.rows kept.new
+        stars.new) × (undo.map ≡ can.map)) }
 
     ensures row { IfOk result (λ r. slice_get (map_in rows.old).parcels r.place ≡ Some r.row) }
     ensures found { IfOk result (λ r. parcel_of (map_in rows.old) ended ≡ Some r.row) }
