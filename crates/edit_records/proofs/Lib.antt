@@ -8,3 +8,4 @@ pub mod ChainWeights
 pub mod ChainSpans
 pub mod GridRecords
 pub mod TouchedLists
+pub mod SharedStrings

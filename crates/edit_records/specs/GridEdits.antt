@@ -1,5 +1,5 @@
 -- The strings and points that go out of the grid of a map by an edit, and those that come in.
-use Rattle.std.specs.Prelude.{⊤, ◌==◌, List, [], ◌∷◌, ◌++◌, map, filter, option_map, unwrap_or}
+use Rattle.std.specs.Prelude.{◌==◌, List, [], ◌∷◌, ◌++◌, map, filter, option_map, unwrap_or}
 use Rattle.cad_rows.specs.declared.edits.Edit.{Edit}
 use Rattle.cad_rows.specs.declared.edits.Edit.TheVariants.{AddPoint, DropPoint, Split, Join, Divide, Merge, Move, Enclose}
 use Rattle.cad_rows.specs.declared.rows.PointRow.{PointRow}
@@ -64,8 +64,3 @@ come_by m e = record {
   strings = map (string_entry (after m e)) (strings_come m e);
   points = map point_entry (points_come m e);
 }
-
--- a merger's strings are told by its chain
-abbrev pub IsNoMerger : Edit → Type 0
-IsNoMerger (Merge kept ended) = ⊥
-IsNoMerger _ = ⊤

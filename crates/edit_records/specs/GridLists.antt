@@ -3,7 +3,8 @@ use Rattle.std.specs.Prelude.{◌≡◌, ℕ, ◌==◌, ◌⊎◌, IsPermutation
 use Rattle.geo_exact.specs.Position.{Position}
 use Rattle.cad_rows.specs.declared.edits.Edit.{Edit}
 use Rattle.cad_rows.specs.declared.rows.StringRow.{StringRow}
-use Rattle.cad_map.specs.Map.{Map, position_of}
+use Rattle.cad_rings.specs.Cycle.{Side, opposite}
+use Rattle.cad_map.specs.Map.{Map, position_of, side_of}
 use Rattle.cad_map.specs.Effects.{after}
 use Rattle.cad_laws.specs.Tried.{IsTried}
 use Rattle.cell_grid.specs.declared.entry.Entry.{Entry}
@@ -26,6 +27,10 @@ span_entry m p at s = entry_of s.string (position_by m p at s.from) (position_by
 -- the same of a string's row
 abbrev pub span_at : Map → ℕ → Position → StringRow → Entry
 span_at m p at s = span_entry m p at (span_of s)
+
+-- the string leads from one of the two points to the other
+abbrev pub LeadsBetween : StringRow → Side → Type 0
+LeadsBetween s t = (side_of s ≡ t) ⊎ (opposite (side_of s) ≡ t)
 
 -- the same entries, in some order
 pub record AreEntries (of l : Listed) : Type 0 where

@@ -7,12 +7,13 @@ ghost use Rattle.cad_map.specs.Changes.{by_number};
 ghost use Rattle.cad_map.specs.Map.{degree, far_end as far_end_of, strings_at};
 ghost use Rattle.cad_map.specs.Valid.{IsValid};
 ghost use Rattle.cad_laws.specs.Tried.{IsTried};
-ghost use Rattle.edit_records.specs.GridEdits.{gone_by, come_by, IsNoMerger};
+ghost use Rattle.edit_records.specs.GridEdits.{gone_by, come_by};
 ghost use Rattle.edit_records.specs.GridLists.{AreEntries, span_of as span_of_row};
 
 use crate::grid_lists::{
     Span, lone_point, lone_string, point_with_strings, strings_of_chain, two_strings,
 };
+use crate::shared_strings::strings_shared;
 use cad_map::{MapView, far_end, position};
 use cad_rows::{Edit, Memory, PointNo, StringNo, StringRow};
 use cell_grid::Entries;
@@ -55,11 +56,10 @@ fn far_ends<M: MapView>(map: &M, point: PointNo) -> (PointNo, PointNo)
 }
 
 /// What an edit that is tried takes out of the grid of its map, in some order: the strings and
-/// points that go, and a point that moves with its strings. What a merger takes is told by its
-/// chain.
+/// points that go, and a point that moves with its strings. For a merger it takes time by the sides
+/// of the parcel that is kept.
 pub fn going<M: MapView>(alloc: Global, map: &M, edit: &Edit) -> Result<Entries, Memory>
-    requires tried { IsTried (M.map map.now) edit.now }
-    requires other { IsNoMerger edit.now }
+    requires { IsTried (M.map map.now) edit.now }
     ensures { IfOk result (AreEntries (gone_by (M.map map.now) edit.now)) }
 {
     match edit {
@@ -80,10 +80,10 @@ pub fn going<M: MapView>(alloc: Global, map: &M, edit: &Edit) -> Result<Entries,
         Edit::Move { point, .. } => {
             point_with_strings(alloc, map, *point, position(map, *point))
         }
+        Edit::Merge { kept, ended } => strings_shared(alloc, map, kept, ended),
         Edit::AddSource { .. }
         | Edit::AddPoint { .. }
         | Edit::Divide { .. }
-        | Edit::Merge { .. }
         | Edit::Attach { .. }
         | Edit::Detach { .. }
         | Edit::Rename { .. }

@@ -7,6 +7,7 @@ mod grid_edits;
 mod grid_lists;
 mod grid_records;
 mod record;
+mod shared_strings;
 mod touched;
 
 pub use grid::{enter, grid_of, withdraw};

@@ -213,10 +213,11 @@ fn along(
     })
 }
 
-// Whether a face has the opposite of a side.
-fn is_behind<M: MapView>(map: &M, face: &Face, from: PointNo, to: PointNo) -> bool
+/// Whether a face has the opposite of a side.
+pub(crate) fn is_behind<M: MapView>(map: &M, face: &Face, from: PointNo, to: PointNo) -> bool
     requires { HasWholeRings (M.map map.now) }
-    ensures { HasSide (M.map map.now) face.now (opposite (from, to)) → IsTrue result }
+    ensures some { HasSide (M.map map.now) face.now (opposite (from, to)) → IsTrue result }
+    ensures only { IsTrue result → HasSide (M.map map.now) face.now (opposite (from, to)) }
 {
     match map.face_of(to, from) {
         Some(other) => is_face(face, &other),

@@ -7,7 +7,7 @@ use Rattle.cad_map.specs.Map.{string_of}
 use Rattle.cad_map.proofs.CallerLemmas.{found-number}
 use Rattle.cad_laws.specs.Tried.{IsTried}
 use Rattle.edit_records.specs.declared.grid_lists.Span.{Span}
-use Rattle.edit_records.specs.GridEdits.{gone_by, IsNoMerger}
+use Rattle.edit_records.specs.GridEdits.{gone_by}
 use Rattle.edit_records.specs.GridLists.{AreEntries}
 use Rattle.edit_records.proofs.GridEdits.{quiet-gone, if-ok, lent-found, beside, dropped-there, joined-there, split-there, lies-there, same_numbers, on_map, split-on}
 use Rattle.edit_records.proofs.GridLists.{move-there}
@@ -16,19 +16,19 @@ use Rattle.edit_records.proofs.grid_edits.going.Goals as goal
 pub unwrap-requires : goal.unwrap-requires
 unwrap-requires g c =
     let e = c.in-Split in
-    let there = split-there (g.M.MapView.map c.args.map.now) e.string e.point e.x e.y e.first e.second (rw e.is at c.requires.tried) in
+    let there = split-there (g.M.MapView.map c.args.map.now) e.string e.point e.x e.y e.first e.second (rw e.is at c.requires) in
     lent-found c.string.result there.0 (c.string.ensures ∙ there.1)
 
 pub at-requires : goal.at-requires
 at-requires g c =
     let e = c.in-Split in
-    on_map e.x e.y (split-on (g.M.MapView.map c.args.map.now) e.string e.point e.x e.y e.first e.second (rw e.is at c.requires.tried))
+    on_map e.x e.y (split-on (g.M.MapView.map c.args.map.now) e.string e.point e.x e.y e.first e.second (rw e.is at c.requires))
 
 pub returns-in-DropPoint : goal.returns-in-DropPoint
 returns-in-DropPoint g c =
     let m = g.M.MapView.map c.args.map.now in
     let e = c.in-DropPoint in
-    let tried : IsTried m (DropPoint e.point) = rw e.is at c.requires.tried in
+    let tried : IsTried m (DropPoint e.point) = rw e.is at c.requires in
     let there = dropped-there m e.point tried in
     rw e.is (if-ok c.lone_point.result (λ l goes. goes m there.0 tried.valid there.1 (lies-there m e.point there.0 _ there.1 c.position.ensures)) c.lone_point.ensures.goes)
 
@@ -36,7 +36,7 @@ pub returns-in-Split : goal.returns-in-Split
 returns-in-Split g c =
     let m = g.M.MapView.map c.args.map.now in
     let e = c.in-Split in
-    let tried : IsTried m (Split e.string e.point e.x e.y e.first e.second) = rw e.is at c.requires.tried in
+    let tried : IsTried m (Split e.string e.point e.x e.y e.first e.second) = rw e.is at c.requires in
     let row = c.unwrap.result.now in
     let is : string_of m e.string ≡ Some row = sym c.string.ensures ∙ ap option_copied c.unwrap.ensures in
     let span = c.span_of-span.result in
@@ -62,15 +62,12 @@ returns-in-AddSource g c =
         | inr r ↦ elim r [
           | inl h ↦ quiet-gone m e (Divide h.0 h.1 h.2 h.3 h.4 h.5) l is refl h.6
           | inr r ↦ elim r [
-            | inl h ↦ absurd (subst IsNoMerger h.2 c.requires.other)
+            | inl h ↦ quiet-gone m e (Attach h.0 h.1) l is refl h.2
             | inr r ↦ elim r [
-              | inl h ↦ quiet-gone m e (Attach h.0 h.1) l is refl h.2
+              | inl h ↦ quiet-gone m e (Detach h.0 h.1) l is refl h.2
               | inr r ↦ elim r [
-                | inl h ↦ quiet-gone m e (Detach h.0 h.1) l is refl h.2
-                | inr r ↦ elim r [
-                  | inl h ↦ quiet-gone m e (Rename h.0 h.1) l is refl h.2
-                  | inr r ↦ let h = r in quiet-gone m e (Enclose h.0 h.1 h.2 h.3 h.4 h.5) l is refl h.6
-                ]
+                | inl h ↦ quiet-gone m e (Rename h.0 h.1) l is refl h.2
+                | inr r ↦ let h = r in quiet-gone m e (Enclose h.0 h.1 h.2 h.3 h.4 h.5) l is refl h.6
               ]
             ]
           ]
@@ -82,7 +79,7 @@ pub returns-in-Join : goal.returns-in-Join
 returns-in-Join g c =
     let m = g.M.MapView.map c.args.map.now in
     let e = c.in-Join in
-    let tried : IsTried m (Join e.point e.string) = rw e.is at c.requires.tried in
+    let tried : IsTried m (Join e.point e.string) = rw e.is at c.requires in
     let there = joined-there m e.point e.string tried in
     rw e.is (if-ok c.point_with_strings.result (λ l joins. joins there.0 e.string tried.valid there.1 (lies-there m e.point there.0 _ there.1 c.position-in-Join.ensures)) c.point_with_strings.ensures.joins)
 
@@ -90,7 +87,15 @@ pub returns-in-Move : goal.returns-in-Move
 returns-in-Move g c =
     let m = g.M.MapView.map c.args.map.now in
     let e = c.in-Move in
-    let tried : IsTried m (Move e.point e.x e.y) = rw e.is at c.requires.tried in
+    let tried : IsTried m (Move e.point e.x e.y) = rw e.is at c.requires in
     let there = move-there m e.point e.x e.y tried in
     rw e.is (if-ok c.point_with_strings-in-Move.result (λ l goes.
     goes m there.0 (record { x = e.x; y = e.y }) (beside m _ tried) there.1 (lies-there m e.point there.0 _ there.1 c.position-in-Move.ensures)) c.point_with_strings-in-Move.ensures.goes)
+
+pub strings_shared-requires : goal.strings_shared-requires
+strings_shared-requires g c =
+    rw c.in-Merge.is at c.requires
+
+pub returns-in-Merge : goal.returns-in-Merge
+returns-in-Merge g c =
+    rw c.in-Merge.is c.strings_shared.ensures

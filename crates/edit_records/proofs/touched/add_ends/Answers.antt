@@ -18,7 +18,7 @@ loop-from-preserved g c =
         | inl earlier ↦ let two = before.ends s earlier has in (added.keeps s.0 two.0, added.keeps s.1 two.1)
         | inr last ↦ elim (Contains-cases side [] s last) [
           | inl same ↦ subst (λ (t : Side). Contains c.add_both_if.new.points.items t.0 × Contains c.add_both_if.new.points.items t.1) same
-              (added.both (c.is_behind-is_shared.ensures (subst (λ (t : Side). HasSide (g.M.MapView.map c.args.map.now) c.args.other.now (opposite t)) (sym same) has)))
+              (added.both (c.is_behind-is_shared.ensures.some (subst (λ (t : Side). HasSide (g.M.MapView.map c.args.map.now) c.args.other.now (opposite t)) (sym same) has)))
           | inr none ↦ let low = none.1 in absurd (omega arith)
         ]
       ];
