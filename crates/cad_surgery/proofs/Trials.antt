@@ -11,7 +11,6 @@ use Rattle.cad_rows.specs.declared.rows.StringRow.{StringRow}
 use Rattle.cad_map.specs.Map.{Map}
 use Rattle.half_table.specs.declared.half.Half.{Half}
 use Rattle.cad_laws.specs.Tried.{IsTried}
-use Rattle.edit_records.specs.GridEdits.{IsNoMerger}
 use Rattle.cad_surgery.specs.InPlace.{is_in_place}
 use Rattle.edit_records.specs.Record.{edit_of}
 use Rattle.cad_surgery.specs.RowEdits.{is_of_rows}
@@ -68,18 +67,3 @@ rows-of (record_of.Attach i source) place split join enclose divide = refl
 rows-of (record_of.Detach i source j) place split join enclose divide = refl
 rows-of (record_of.Rename p from to) place split join enclose divide = refl
 rows-of (record_of.Enclose face points strings parcel label source moved) place split join enclose divide = absurd (enclose face points strings parcel label source moved refl)
-
--- an edit in place is no merger
-pub no-merger : (e : Edit) → IsTrue (is_in_place e) → IsNoMerger e
-no-merger (AddSource s text) place = tt
-no-merger (AddPoint p x y) place = tt
-no-merger (DropPoint p) place = tt
-no-merger (Split s p x y first second) place = tt
-no-merger (Join p s) place = tt
-no-merger (Divide face chain strings parcel label source) place = tt
-no-merger (Merge kept ended) place = cc
-no-merger (Move p x y) place = tt
-no-merger (Attach i s) place = tt
-no-merger (Detach i s) place = tt
-no-merger (Rename p label) place = tt
-no-merger (Enclose face points strings parcel label source) place = tt

@@ -23,6 +23,7 @@ use crate::draft::Draft;
 use crate::edits::try_divide::{back_divide, forward_divide, try_divide};
 use crate::edits::try_enclose::{Enclosure, back_enclose, forward_enclose, try_enclose};
 use crate::edits::try_join::{back_join, forward_join, try_join};
+use crate::edits::try_merge_along::{back_merge_along, forward_merge_along};
 use crate::edits::try_split::{Halving, back_split, forward_split, try_split};
 use cad_rows::{Edit, Memory, Refusal};
 use cad_valid::{Touched, first_broken_near};
@@ -156,8 +157,7 @@ struct Plan {
 }
 
 fn plan_of<T: Tally>(draft: &Draft<T>, edit: &Edit) -> Result<Plan, Memory>
-    requires place { IsTrue (is_in_place edit.now) }
-    requires tried { IsTried (map_of draft.now) edit.now }
+    requires { IsTried (map_of draft.now) edit.now }
     ensures gone { IfOk result
         (λ p. AreEntries (gone_by (map_of draft.now) edit.now) p.exchange.gone) }
     ensures come { IfOk result
@@ -171,8 +171,7 @@ fn plan_of<T: Tally>(draft: &Draft<T>, edit: &Edit) -> Result<Plan, Memory>
 }
 
 fn exchange_by<T: Tally>(draft: &Draft<T>, edit: &Edit) -> Result<Exchange, Memory>
-    requires place { IsTrue (is_in_place edit.now) }
-    requires tried { IsTried (map_of draft.now) edit.now }
+    requires { IsTried (map_of draft.now) edit.now }
     ensures gone { IfOk result (λ x. AreEntries (gone_by (map_of draft.now) edit.now) x.gone) }
     ensures come { IfOk result (λ x. AreEntries (come_by (map_of draft.now) edit.now) x.come) }
 {
@@ -268,7 +267,8 @@ fn back_edit<T: Tally>(draft: &mut Draft<T>, change: &SmallRecord) -> Result<(),
             back_enclose(draft, &enclosure, moved.as_slice())
         }
         SmallRecord::Divide { .. } => back_divide(draft, change),
-        SmallRecord::MergeAlong { .. } | SmallRecord::MergeIsland { .. } => unreachable!(),
+        SmallRecord::MergeAlong { .. } => back_merge_along(draft, change),
+        SmallRecord::MergeIsland { .. } => unreachable!(),
         _ => draft.unmake_rows(change),
     }
 }
@@ -324,7 +324,8 @@ fn forward_edit<T: Tally>(draft: &mut Draft<T>, change: &SmallRecord) -> Result<
             forward_enclose(draft, &enclosure)
         }
         SmallRecord::Divide { .. } => forward_divide(draft, change),
-        SmallRecord::MergeAlong { .. } | SmallRecord::MergeIsland { .. } => unreachable!(),
+        SmallRecord::MergeAlong { .. } => forward_merge_along(draft, change),
+        SmallRecord::MergeIsland { .. } => unreachable!(),
         _ => draft.remake_rows(change),
     }
 }

@@ -32,6 +32,10 @@ pub back_divide-requires-clause-division : goal.back_divide-requires-clause-divi
 back_divide-requires-clause-division g c =
     rw c.in-Divide.is tt
 
+pub back_merge_along-requires-clause-merger : goal.back_merge_along-requires-clause-merger
+back_merge_along-requires-clause-merger g c =
+    rw c.in-MergeAlong.is tt
+
 pub back_enclose-requires-clause-given : goal.back_enclose-requires-clause-given
 back_enclose-requires-clause-given g c =
     let same = same-lists c.in-Enclose.face c.in-Enclose.parcel c.in-Enclose.label c.in-Enclose.source _ _ _ _ c.as_slice.ensures c.as_slice-in-Enclose.ensures in

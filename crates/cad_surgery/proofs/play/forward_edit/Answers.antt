@@ -45,6 +45,10 @@ pub forward_divide-requires-clause-division : goal.forward_divide-requires-claus
 forward_divide-requires-clause-division g c =
     rw c.in-Divide.is tt
 
+pub forward_merge_along-requires-clause-merger : goal.forward_merge_along-requires-clause-merger
+forward_merge_along-requires-clause-merger g c =
+    rw c.in-MergeAlong.is tt
+
 pub forward_enclose-requires-clause-tried : goal.forward_enclose-requires-clause-tried
 forward_enclose-requires-clause-tried g c =
     let m = map_of c.args.draft.now in
