@@ -17,6 +17,7 @@ mod RowsByNumber
 mod NearPoints
 mod NearStrings
 mod NearCorners
+mod StarTests
 mod NearFaces
 pub mod Untouched
 pub mod CallerLemmas

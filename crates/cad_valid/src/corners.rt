@@ -34,7 +34,7 @@ fn are_empty_beside<M: MapView>(map: &M, string: &StringRow) -> bool
 }
 
 /// Whether the corner after a side is empty. A side that no ring has has no corner.
-fn is_empty_after<M: MapView>(map: &M, from: PointNo, to: PointNo) -> bool
+pub(crate) fn is_empty_after<M: MapView>(map: &M, from: PointNo, to: PointNo) -> bool
     requires { HasWholeRings (M.map map.now) }
     ensures { result ≡ is_empty_after_side (M.map map.now) (from, to) }
 {
@@ -52,8 +52,8 @@ fn is_empty_corner<M: MapView>(map: &M, before: PointNo, at: PointNo, after: Poi
     requires after_in { IsTrue (has_point (M.map map.now) after) }
     ensures { result ≡ is_empty_corner_of (M.map map.now) (corner before at after) }
 {
-    for place in 0..map.counts().strings {
-        let string = map.string_at(place).unwrap();
+    for place in 0..map.degree(at) {
+        let string = map.string_with(at, place).unwrap();
         if !is_clear_of(map, before, at, after, string) {
             return false;
         }
@@ -62,7 +62,7 @@ fn is_empty_corner<M: MapView>(map: &M, before: PointNo, at: PointNo, after: Poi
 }
 
 /// Whether a string doesn't lie in the sector of the corner at a point of a ring.
-pub(crate) fn is_clear_of<M: MapView>(
+fn is_clear_of<M: MapView>(
     map: &M,
     before: PointNo,
     at: PointNo,

@@ -52,7 +52,7 @@ pub fn first_broken_near<M: MapView>(map: &M, grid: &CellGrid, touched: &Touched
     if !has_no_crossing(map, grid, touched) {
         return Some(Rule::V4);
     }
-    if !has_empty_corners(map, grid, touched) {
+    if !has_empty_corners(map, touched) {
         return Some(Rule::V6);
     }
     if !has_one_outline_each(map, touched) {
@@ -88,14 +88,13 @@ fn has_no_crossing<M: MapView>(map: &M, grid: &CellGrid, touched: &Touched) -> b
 
 /// Whether corners are empty. One at a point that wasn't touched, and where no touched string ends,
 /// was empty before.
-fn has_empty_corners<M: MapView>(map: &M, grid: &CellGrid, touched: &Touched) -> bool
+fn has_empty_corners<M: MapView>(map: &M, touched: &Touched) -> bool
     requires whole { HasWholeRings (M.map map.now) }
-    requires held { HoldsMap grid.now (M.map map.now) }
     requires touched { ComesFromValid (touched_of touched.now) (M.map map.now) }
     ensures { IsTrue result ↔ Keeps (M.map map.now) V6 }
 {
-    are_empty_at(map, grid, touched.points.as_slice())
-        && are_empty_at_ends(map, grid, touched.strings.as_slice())
+    are_empty_at(map, touched.points.as_slice())
+        && are_empty_at_ends(map, touched.strings.as_slice())
 }
 
 /// Whether each parcel has one outline and the outside none. A face that wasn't touched has its own

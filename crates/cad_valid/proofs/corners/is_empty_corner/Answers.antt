@@ -1,27 +1,73 @@
-use Rattle.std.proofs.Common.{ℕ, ◌≤◌, ◌∙◌, sym, ap, subst, length}
+use Rattle.std.proofs.Common.{◌≡◌, ◌∙◌, ◌≤◌, ℕ, refl, sym, ap, subst, Bool, true, false, true≢false, length, arith}
+use Rattle.std.proofs.lemmas.List.Sorted.{length_permutation}
+use Rattle.std.specs.Prelude.{IsTrue}
 use Rattle.cad_rings.specs.Surgery.{corner}
+use Rattle.cad_map.specs.Map.{strings_at, has_point}
+use Rattle.cad_map.specs.Valid.{is_empty_corner}
+use Rattle.cad_map.proofs.CallerLemmas.{All-at_each, lent-some, lent-is}
 use Rattle.cad_valid.specs.Corners.{is_clear_of}
-use Rattle.cad_valid.proofs.Tests.{all-stops, all-goes, all-done}
-use Rattle.cad_valid.proofs.EmptyCorners.{empty-from_strings}
+use Rattle.cad_valid.proofs.NearCorners.{clear-far, empty-is}
+use Rattle.cad_valid.proofs.StarTests.{passed-all, passed-more, told-there}
 use Rattle.cad_valid.proofs.corners.is_empty_corner.Goals as goal
+
+pub unwrap-string-requires : goal.unwrap-string-requires
+unwrap-string-requires g c =
+    let strings = g.M.MapView.view_strings c.args.map.now c.args.at in
+    let same = length_permutation (strings_at (g.M.MapView.map c.args.map.now) c.args.at) strings c.string_with.ensures.each in
+    lent-some c.string_with.result strings c.loop-place.place c.string_with.ensures.string (omega (arith, same, c.degree-place-end.ensures, c.loop-place-test.true))
+
+pub loop-place-init : goal.loop-place-init
+loop-place-init g c = record {
+  passed = refl;
+  each = λ more. absurd (omega (arith, more));
+}
+
+pub is_clear_of-requires-clause-from_in : goal.is_clear_of-requires-clause-from_in
+is_clear_of-requires-clause-from_in g c =
+    let m = g.M.MapView.map c.args.map.now in
+    let strings = g.M.MapView.view_strings c.args.map.now c.args.at in
+    let told = lent-is c.string_with.result c.unwrap-string.result strings c.loop-place.place c.string_with.ensures.string c.unwrap-string.ensures in
+    let there = told-there m c.args.at (λ s. true) strings c.loop-place.place c.unwrap-string.result.now told c.string_with.ensures.each in
+    (All-at_each (λ s. IsTrue (has_point m s.from) × IsTrue (has_point m s.to)) m.strings c.unwrap-string.result.now c.requires.sound.ends there.0).0
+
+pub is_clear_of-requires-clause-to_in : goal.is_clear_of-requires-clause-to_in
+is_clear_of-requires-clause-to_in g c =
+    let m = g.M.MapView.map c.args.map.now in
+    let strings = g.M.MapView.view_strings c.args.map.now c.args.at in
+    let told = lent-is c.string_with.result c.unwrap-string.result strings c.loop-place.place c.string_with.ensures.string c.unwrap-string.ensures in
+    let there = told-there m c.args.at (λ s. true) strings c.loop-place.place c.unwrap-string.result.now told c.string_with.ensures.each in
+    (All-at_each (λ s. IsTrue (has_point m s.from) × IsTrue (has_point m s.to)) m.strings c.unwrap-string.result.now c.requires.sound.ends there.0).1
 
 pub returns-then-not-is_clear_of : goal.returns-then-not-is_clear_of
 returns-then-not-is_clear_of g c =
     let m = g.M.MapView.map c.args.map.now in
     let met = corner c.args.before c.args.at c.args.after in
-    let at = rw c.unwrap-string.ensures at c.string_at.ensures in
-    sym (empty-from_strings m met ∙ c.loop-place.invariant ∙ all-stops (is_clear_of m met) m.strings c.loop-place.place _ (sym at) (sym c.is_clear_of.ensures ∙ c.if-not-is_clear_of.true))
+    let strings = g.M.MapView.view_strings c.args.map.now c.args.at in
+    let row = c.unwrap-string.result.now in
+    let told = lent-is c.string_with.result c.unwrap-string.result strings c.loop-place.place c.string_with.ensures.string c.unwrap-string.ensures in
+    let there = told-there m c.args.at (is_clear_of m met) strings c.loop-place.place row told c.string_with.ensures.each in
+    let fails = sym c.is_clear_of.ensures ∙ c.if-not-is_clear_of.true in
+    by (is_empty_corner m met) refl (λ empty. true≢false (sym ((empty-is m met).0 empty row there.0) ∙ fails))
+  where
+    by : {e : Bool} → (b : Bool) → e ≡ b → (e ≡ true → ⊥) → false ≡ e
+    by true is never = absurd (never is)
+    by false is never = sym is
 
 pub loop-place-preserved : goal.loop-place-preserved
 loop-place-preserved g c =
     let m = g.M.MapView.map c.args.map.now in
     let met = corner c.args.before c.args.at c.args.after in
-    let at = rw c.unwrap-string.ensures at c.string_at.ensures in
-    c.loop-place.invariant ∙ all-goes (is_clear_of m met) m.strings c.loop-place.place _ (sym at) (sym c.is_clear_of.ensures ∙ c.if-not-is_clear_of.false)
+    let strings = g.M.MapView.view_strings c.args.map.now c.args.at in
+    let told = lent-is c.string_with.result c.unwrap-string.result strings c.loop-place.place c.string_with.ensures.string c.unwrap-string.ensures in
+    passed-more m c.args.at (is_clear_of m met) strings c.loop-place.place c.loop-place.invariant c.unwrap-string.result.now told c.string_with.ensures.each
+    (sym c.is_clear_of.ensures ∙ c.if-not-is_clear_of.false)
 
 pub returns : goal.returns
 returns g c =
     let m = g.M.MapView.map c.args.map.now in
-    let met = corner c.args.before c.args.at c.args.after in
-    let past : length m.strings ≤ c.loop-place.place = subst (λ (n : ℕ). n ≤ c.loop-place.place) (ap (λ r. r.strings) c.counts-place-end.ensures) c.loop-place-test.false in
-    sym (empty-from_strings m met ∙ c.loop-place.invariant ∙ all-done (is_clear_of m met) m.strings c.loop-place.place past)
+    let at = c.args.at in
+    let met = corner c.args.before at c.args.after in
+    let strings = g.M.MapView.view_strings c.args.map.now at in
+    let past : length (strings_at m at) ≤ c.loop-place.place = subst (λ (n : ℕ). n ≤ c.loop-place.place) c.degree-place-end.ensures c.loop-place-test.false in
+    sym ((empty-is m met).1 (λ s there. clear-far m met s (λ end.
+    passed-all m at (is_clear_of m met) strings c.loop-place.place c.loop-place.invariant past s there end)))

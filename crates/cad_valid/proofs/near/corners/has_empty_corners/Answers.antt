@@ -1,26 +1,52 @@
-use Rattle.std.proofs.Common.{rules, tests, refl, subst}
-use Rattle.std.specs.Prelude.{IsTrue}
-use Rattle.std.proofs.lemmas.Iterator.{cases_from_all}
-use Rattle.std.proofs.lemmas.Iterator.Consumers.{YieldsList-from_first}
-use Rattle.geo_exact.specs.Position.{Position}
-use Rattle.geo_exact.specs.Segment.{HaveCommonLocation}
-use Rattle.cad_map.specs.Map.{position_of, is_end}
-use Rattle.cad_valid.specs.Near.{OfString, IsEmptyBeyond}
-use Rattle.cad_valid.proofs.Decisions.{iff-trans}
-use Rattle.cad_valid.proofs.Passed.{passed-strings}
-use Rattle.cad_valid.proofs.NearCorners.{corners-by_strings, meets-end, position-there}
+use Rattle.std.proofs.Common.{◌≡◌, ◌∙◌, ◌≤◌, ℕ, refl, sym, ap, subst, true≢false, length, arith}
+use Rattle.std.proofs.lemmas.List.Sorted.{length_permutation}
+use Rattle.cad_map.specs.Map.{strings_at, far_end}
+use Rattle.cad_valid.specs.Corners.{is_empty_after}
+use Rattle.cad_map.proofs.CallerLemmas.{lent-some, lent-is}
+use Rattle.cad_valid.proofs.NearCorners.{corners-by_strings}
+use Rattle.cad_valid.proofs.StarTests.{passed-all, passed-more, told-there}
 use Rattle.cad_valid.proofs.near.corners.has_empty_corners.Goals as goal
+
+pub unwrap-requires : goal.unwrap-requires
+unwrap-requires g c =
+    let strings = g.M.MapView.view_strings c.args.map.now c.args.point in
+    let same = length_permutation (strings_at (g.M.MapView.map c.args.map.now) c.args.point) strings c.string_with.ensures.each in
+    lent-some c.string_with.result strings c.loop-place.place c.string_with.ensures.string (omega (arith, same, c.degree-place-end.ensures, c.loop-place-test.true))
+
+pub loop-place-init : goal.loop-place-init
+loop-place-init g c = record {
+  passed = refl;
+  each = λ more. absurd (omega (arith, more));
+}
+
+pub returns-then-not-is_empty_after : goal.returns-then-not-is_empty_after
+returns-then-not-is_empty_after g c =
+    let m = g.M.MapView.map c.args.map.now in
+    let p = c.args.point in
+    let strings = g.M.MapView.view_strings c.args.map.now p in
+    let row = c.unwrap.result.now in
+    let told = lent-is c.string_with.result c.unwrap.result strings c.loop-place.place c.string_with.ensures.string c.unwrap.ensures in
+    let at = told-there m p (λ s. is_empty_after m (far_end s p, p)) strings c.loop-place.place row told c.string_with.ensures.each in
+    let fails = ap (λ (n : ℕ). is_empty_after m (n, p)) (sym c.far_end-from.ensures) ∙ sym c.is_empty_after.ensures ∙ c.if-not-is_empty_after.true in
+    ((λ no. absurd (true≢false (sym no))), (λ empty. absurd (true≢false (sym ((corners-by_strings m c.requires p).1 empty row at.0 at.1) ∙ fails))))
+
+pub loop-place-preserved : goal.loop-place-preserved
+loop-place-preserved g c =
+    let m = g.M.MapView.map c.args.map.now in
+    let p = c.args.point in
+    let strings = g.M.MapView.view_strings c.args.map.now p in
+    let row = c.unwrap.result.now in
+    let told = lent-is c.string_with.result c.unwrap.result strings c.loop-place.place c.string_with.ensures.string c.unwrap.ensures in
+    passed-more m p (λ s. is_empty_after m (far_end s p, p)) strings c.loop-place.place c.loop-place.invariant row told c.string_with.ensures.each
+    (ap (λ (n : ℕ). is_empty_after m (n, p)) (sym c.far_end-from.ensures) ∙ sym c.is_empty_after.ensures ∙ c.if-not-is_empty_after.false)
 
 pub returns : goal.returns
 returns g c =
     let m = g.M.MapView.map c.args.map.now in
-    let p = c.args.point.now.number in
-    let here = position-there m c.args.point.now c.requires.there in
-    iff-trans
-    (passed-strings m (IsEmptyBeyond m p) (λ s. IsTrue (is_end s p)) c.candidates.result _
-    (cases_from_all _ _ _ (OfString m (IsEmptyBeyond m p)) (λ n. ¬ OfString m (IsEmptyBeyond m p) n) c.all.ensures.ran (YieldsList-from_first (λ x. x) (λ w. w) c.candidates.result refl)
-    (λ x q k. search (rules, tests)) (λ x q k. search (rules, tests)))
-    (λ s h end. c.candidates.ensures.all s.number (position_of m s.from) (position_of m s.to) (c.requires.held.strings s h)
-    (subst (λ (a : Position). HaveCommonLocation a a (position_of m s.from) (position_of m s.to)) here (meets-end m s p end)))
-    (λ s near end. near end end))
-    (corners-by_strings m c.requires.whole p)
+    let p = c.args.point in
+    let strings = g.M.MapView.view_strings c.args.map.now p in
+    let past : length (strings_at m p) ≤ c.loop-place.place = subst (λ (n : ℕ). n ≤ c.loop-place.place) c.degree-place-end.ensures c.loop-place-test.false in (
+      (λ _. (corners-by_strings m c.requires p).0 (λ s there end.
+          passed-all m p (λ s. is_empty_after m (far_end s p, p)) strings c.loop-place.place c.loop-place.invariant past s there end)),
+      (λ _. refl),
+    )
