@@ -1,19 +1,16 @@
 -- A merger round an island on the parts of a map on half-edges, from growth to rest.
-use Rattle.std.proofs.Common.{◌≡◌, ◌≢◌, ◌≤◌, ◌<◌, ◌+◌, ◌*◌, ℕ, refl, sym, ap, subst, ◌∙◌, List, [], ◌∷◌, map, filter, length, Bool, true, false, ◌||◌, if◌then◌else◌, Some, slice_get, arith}
+use Rattle.std.proofs.Common.{◌≡◌, ◌≤◌, ◌<◌, ◌+◌, ◌*◌, ℕ, refl, sym, ap, subst, ◌∙◌, List, ◌∷◌, map, filter, length, Bool, true, false, if◌then◌else◌, arith}
 use Rattle.std.specs.Prelude.{IsPermutation}
-use Rattle.std.specs.List.{AllByRecursion, Contains}
 use Rattle.std.proofs.lemmas.List.{length-map}
 use Rattle.std.proofs.lemmas.List.Sorted.{length_permutation, Contains-permutation, IsPermutation-sym}
 use Rattle.cad_rows.specs.declared.names.Face.{Face}
 use Rattle.cad_rows.specs.declared.names.Face.TheVariants.{Parcel}
-use Rattle.cad_rows.specs.declared.rows.ParcelRow.{ParcelRow}
 use Rattle.cad_rows.specs.declared.rows.StringRow.{StringRow}
-use Rattle.cad_rings.specs.Cycle.{Side, opposite, sides_of}
+use Rattle.cad_rings.specs.Cycle.{opposite, sides_of}
 use Rattle.cad_rings.proofs.CallerLemmas.{length-sides_of}
 use Rattle.cell_grid.specs.Grid.{Grid}
 use Rattle.cad_map.specs.declared.boundary.Boundary.{Boundary}
 use Rattle.cad_map.specs.Boundaries.{bounding, is_face}
-use Rattle.cad_map.specs.Chain.{start_of, next_of}
 use Rattle.cad_map.specs.Costs.{work_bound}
 use Rattle.cad_map.specs.Effects.{after}
 use Rattle.cad_map.specs.Map.{Map, has_string}
@@ -27,27 +24,24 @@ use Rattle.half_paths.specs.Path.{AreIn, AreDifferent, strings_of}
 use Rattle.half_paths.specs.Loose.{is_of, AreLoose, DropsStrings}
 use Rattle.key_lists.specs.Held.{Held}
 use Rattle.cad_laws.specs.Counts.{sides_of_face, shared_strings}
-use Rattle.cad_laws.specs.Local.{IsShown, side_by}
+use Rattle.cad_laws.specs.Local.{IsLocal, IsShown, side_by}
 use Rattle.cad_surgery.specs.declared.edits.try_merge_island.IslandMerger.{IslandMerger}
 use Rattle.cad_surgery.specs.IslandMergers.{HasSharedRing, merged_round}
 use Rattle.cad_surgery.specs.Proper.{IsProper}
-use Rattle.cad_surgery.specs.Work.{TakesWork, TicksUpTo}
+use Rattle.cad_surgery.specs.Work.{TakesWork}
 use Rattle.map_parts.specs.declared.map_rows.MapRows.{MapRows}
 use Rattle.map_parts.specs.declared.stars.Spoke.{Spoke}
-use Rattle.map_parts.specs.Islands.{IsIslandOf}
 use Rattle.map_parts.specs.Handing.{home_of}
-use Rattle.map_parts.specs.Labels.{IsOnRing}
 use Rattle.map_parts.specs.Islands.{AreOfRings}
 use Rattle.map_parts.specs.MergingIsland.{IsMergingIsland, without_island, rings_apart, CanBeginMergeIsland}
-use Rattle.map_parts.specs.Parts.{Parts, FitTogether, HasHalves, map_of, kept_at}
-use Rattle.map_parts.specs.Paths.{HasStringsMore}
+use Rattle.map_parts.specs.Parts.{Parts, FitTogether, map_of, kept_at}
+use Rattle.map_parts.specs.Paths.{AreAlong, HasStringsMore}
 use Rattle.map_parts.specs.Relabelled.{cycles_length}
 use Rattle.map_parts.specs.Splitting.{FitMap}
 use Rattle.map_parts.proofs.IslandFits.{first-on, along-same, of-same, side-same}
 use Rattle.map_parts.proofs.KeptEach.{map-cong}
 use Rattle.map_parts.proofs.MergedRows as rows_of
 use Rattle.map_parts.proofs.MergingIsland as merging
-use Rattle.cad_surgery.proofs.DividedBack.{first_side}
 use Rattle.cad_surgery.proofs.DividedDraft.{either}
 use Rattle.cad_surgery.proofs.DraftFits.{draft-fits, draft-all, draft-work, settled}
 use Rattle.cad_surgery.proofs.FitParts.{parts, fit-parts, fit-map, fit-proper}
@@ -56,8 +50,11 @@ use Rattle.cad_surgery.proofs.SplitDraft.{come-and-gone}
 use Rattle.cad_surgery.proofs.WorkTaken.{work-allowed, ticks-just, ticks-then}
 
 -- the path is as long as the ring
+round-long : (rows : HalfRows) (path : List Half) (points : List ℕ) → AreAlong rows path (sides_of points) → length path ≡ length points
+round-long rows path points along = sym (length-map path (side_by rows)) ∙ ap length along ∙ length-sides_of points
+
 pub path-points : (m : Map) (rows : HalfRows) (kept : Face) (ended : ℕ) (path moved : List Half) → (it : HasSharedRing m rows kept ended path moved) → length path ≡ length it.points
-path-points m rows kept ended path moved it = sym (length-map path (side_by rows)) ∙ ap length it.along ∙ length-sides_of it.points
+path-points m rows kept ended path moved it = round-long rows path it.points it.along
 
 -- the path has a first half
 pub path-some : (m : Map) (rows : HalfRows) (g : IslandMerger) → HasSharedRing m rows g.kept g.ended g.path.now g.moved.now → 0 < length g.path.now
@@ -65,6 +62,30 @@ path-some m rows g it =
     let long = merging.long m g.kept g.ended it.points g.path.now it.is in
     let same = path-points m rows g.kept g.ended g.path.now g.moved.now it in
     omega (arith, long, same)
+
+-- the halves along the rings of the ended parcel are as many as their sides, and those along the kept
+-- one's ring are as many as the path's
+pub island-rings : (m : Map) (rows : HalfRows) (kept : Face) (ended : ℕ) (points : List ℕ) (first : Half) (others moved : List Half) (is : IsMergingIsland m kept ended points (first ∷ others))
+    → IsLocal m rows → AreAlong rows (first ∷ others) (sides_of points) → AreOfRings m rows moved (Parcel ended) (rings_apart is)
+    → IsPermutation (map (home_of m rows) moved) (filter (λ b. is_face (Parcel ended) b.face) (rings_apart is))
+    → (length (cycle rows first) + cycles_length rows moved ≡ sides_of_face (Parcel ended) m) × (length (cycle rows (twin first)) ≡ length (first ∷ others))
+island-rings m rows kept ended points first others moved is local along moved_are once =
+    let path = first ∷ others in
+    let law = merging.island m kept ended points path is in
+    let whole = rows_of.whole m kept ended path is.tried is.shared in
+    let left = bounding (Parcel ended) is.ended_ring in
+    let right = bounding kept is.kept_ring in
+    let on = first-on (without_island is) m kept (Parcel ended) points left right (rings_apart is) law whole first others
+    (rows_of.more m kept ended path is.tried is.shared) moved rows along in (
+      face-lengths m whole rows local (Parcel ended) left right (rings_apart is) law.were law.left_face (λ e. law.differ (sym law.right_face ∙ e)) first
+          on.0 moved moved_are once,
+      ring-length m whole rows local right
+          (Contains-permutation (left ∷ right ∷ rings_apart is) m.boundaries right (IsPermutation-sym m.boundaries (left ∷ right ∷ rings_apart is) law.were)
+          (Contains-later left (right ∷ rings_apart is) right (Contains-first right (rings_apart is))))
+          (twin first) on.1
+          ∙ sym (length-sides_of is.kept_ring) ∙ length_permutation (map opposite (sides_of points)) (sides_of is.kept_ring) law.right_sides
+          ∙ length-map (sides_of points) opposite ∙ length-sides_of points ∙ sym (round-long rows path points along),
+    )
 
 module _ (rows : MapRows) (table : Table) (held : Held Half) (stars : Held Spoke) (grid : Grid) (v : Parts)
     (view : parts rows table held stars grid ≡ v) (fit : FitTogether (parts rows table held stars grid)) (g : IslandMerger)
@@ -132,33 +153,18 @@ module _ (rows : MapRows) (table : Table) (held : Held Half) (stars : Held Spoke
         subst (λ (l : List Boundary). IsPermutation l (filter (λ b. is_face (Parcel g.ended) b.face) (rings_apart is_it)))
         (map-cong (home_of old table.rows) (home_of old t) g.moved.now (λ h among. sym (home-stays old table.rows t h (side-same table.rows t origins h)))) ready.once
 
-    law : IsIslandOf made old g.kept (Parcel g.ended) ready.points (bounding (Parcel g.ended) is_it.ended_ring) (bounding g.kept is_it.kept_ring) (rings_apart is_it)
-    law = merging.island old g.kept g.ended ready.points path is_it
-
-    abbrev ended_is : Boundary
-    ended_is = bounding (Parcel g.ended) is_it.ended_ring
-
-    abbrev kept_is : Boundary
-    kept_is = bounding g.kept is_it.kept_ring
-
-    on : IsOnRing old t ended_is first × IsOnRing old t kept_is (twin first)
-    on = first-on made old g.kept (Parcel g.ended) ready.points ended_is kept_is (rings_apart is_it) law whole_old first others more g.moved.now t
+    rings : (length (cycle t first) + cycles_length t g.moved.now ≡ sides_of_face (Parcel g.ended) old) × (length (cycle t (twin first)) ≡ length path)
+    rings =
+        island-rings old t g.kept g.ended ready.points first others g.moved.now is_it goes.fits.local
         (along-same table.rows t origins path (sides_of ready.points) ready.along)
+        (of-same table.rows t origins old g.moved.now (Parcel g.ended) (rings_apart is_it) ready.moved_are) once_here
 
     all-rings : length (cycle t first) + cycles_length t g.moved.now ≡ sides_of_face (Parcel g.ended) old
-    all-rings =
-        face-lengths old whole_old t goes.fits.local (Parcel g.ended) ended_is kept_is (rings_apart is_it) law.were law.left_face (λ e. law.differ (sym law.right_face ∙ e)) first
-        on.0 g.moved.now (of-same table.rows t origins old g.moved.now (Parcel g.ended) (rings_apart is_it) ready.moved_are) once_here
+    all-rings = rings.0
 
     -- the kept parcel's ring is as long as the path
     kept-long : length (cycle t (twin first)) ≡ length path
-    kept-long =
-        ring-length old whole_old t goes.fits.local kept_is
-        (Contains-permutation (ended_is ∷ kept_is ∷ rings_apart is_it) old.boundaries kept_is (IsPermutation-sym old.boundaries (ended_is ∷ kept_is ∷ rings_apart is_it) law.were)
-        (Contains-later ended_is (kept_is ∷ rings_apart is_it) kept_is (Contains-first kept_is (rings_apart is_it))))
-        (twin first) on.1
-        ∙ sym (length-sides_of is_it.kept_ring) ∙ length_permutation (map opposite (sides_of ready.points)) (sides_of is_it.kept_ring) law.right_sides
-        ∙ length-map (sides_of ready.points) opposite ∙ length-sides_of ready.points ∙ sym (path-points old table.rows g.kept g.ended path g.moved.now ready)
+    kept-long = rings.1
 
   -- ---- Where memory ran out
 

@@ -1,6 +1,6 @@
 -- The ring that two parcels share round an island, as a path of half-edges.
 use Rattle.std.proofs.Common.{◌≡◌, ◌≢◌, ◌≤◌, ◌||◌, ℕ, Bool, true, false, true≢false, refl, sym, ap, subst, ◌∙◌, List, [], ◌∷◌, map, filter, length, None, arith}
-use Rattle.std.specs.Prelude.{not, ◌&&◌, if◌then◌else◌, IsPermutation, Option, Some, IsFalse, IsSome, IfNone}
+use Rattle.std.specs.Prelude.{not, if◌then◌else◌, IsPermutation, Option, Some, IsFalse, IsSome, IfNone}
 use Rattle.std.specs.List.{AllByRecursion, Contains}
 use Rattle.std.proofs.lemmas.List.{length-map}
 use Rattle.std.proofs.lemmas.List.Sorted.{Contains-permutation, IsPermutation-sym, length_permutation}
@@ -11,7 +11,7 @@ use Rattle.cad_rows.specs.declared.rows.StringRow.{StringRow}
 use Rattle.cad_rings.specs.Cycle.{Ring, Side, has_side, opposite, sides_of, IsSameRing}
 use Rattle.cad_rings.proofs.CallerLemmas.{IsSameRing-length, IsSameRing-sym, length-sides_of, sides_of-same}
 use Rattle.cad_map.specs.declared.boundary.Boundary.{Boundary}
-use Rattle.cad_map.specs.Boundaries.{bounding, is_face}
+use Rattle.cad_map.specs.Boundaries.{bounding}
 use Rattle.cad_map.specs.Chain.{start_of, next_of}
 use Rattle.cad_map.specs.Map.{Map, all_sides, side_of}
 use Rattle.cad_map.specs.Merger.{ChainInRings, is_around, is_shared, shared_chains, shared_sides}
@@ -22,40 +22,34 @@ use Rattle.cad_map.specs.SharedChains.{IsChainOf, IsSharedChain}
 use Rattle.cad_map.specs.declared.shared_chain.SharedChain.TheVariants.{Around}
 use Rattle.cad_map.specs.Valid.{IsValid}
 use Rattle.cad_map.specs.Views.{IsNoSide}
-use Rattle.cad_map.proofs.CallerLemmas.{IsChainInRings, IsFound, found, around-back, around-found, has_side-Contains, shared-chain, whole_valid, is_face-refl, list_any-Contains, once-from_pairs, All-at_each, All-from_each, Contains-first, Contains-flat_map, Contains-later, Contains-has_side, Contains-map, filter-Contains, map-Contains}
+use Rattle.cad_map.proofs.CallerLemmas.{IsChainInRings, IsFound, found, around-back, around-found, has_side-Contains, shared-chain, whole_valid, All-at_each, All-from_each, Contains-flat_map, Contains-has_side, Contains-map, filter-Contains, map-Contains}
 use Rattle.cad_map.proofs.Lists.TakenOut.{fills}
 use Rattle.half_table.specs.declared.half.Half.{Half}
 use Rattle.half_table.specs.Cycle.{holds}
-use Rattle.half_table.specs.Half.{backward_of, forward_of, is_half}
-use Rattle.half_table.proofs.Halves.{is_half-same, is_half-self}
-use Rattle.half_table.specs.Rows.{HalfRows, has, next, origin_of, cycle}
+use Rattle.half_table.specs.Half.{backward_of, forward_of}
+use Rattle.half_table.specs.Rows.{HalfRows, has, origin_of, cycle}
 use Rattle.half_paths.specs.Path.{strings_of}
 use Rattle.half_paths.specs.Loose.{numbers_of}
 use Rattle.cad_laws.specs.Counts.{shared_strings}
-use Rattle.cad_laws.specs.Local.{IsShown, IsLocal, side_by}
+use Rattle.cad_laws.specs.Local.{IsShown, side_by}
 use Rattle.cad_laws.specs.Tried.{IsTried}
 use Rattle.cad_laws.proofs.CallerLemmas.{shared-counted}
 use Rattle.map_parts.specs.Fits.{FitRings}
 use Rattle.edit_records.specs.HeldChains.{IsOfRing, NamesRings, rings_beside}
-use Rattle.map_parts.specs.Handing.{home_of, KeepsEach}
-use Rattle.map_parts.specs.Labels.{IsOnRing}
 use Rattle.map_parts.specs.MergingIsland.{IsMergingIsland}
 use Rattle.map_parts.specs.Parts.{Parts, FitTogether, HasHalves, map_of, kept_at}
 use Rattle.map_parts.specs.Paths.{AreAlong}
 use Rattle.map_parts.proofs.AlongPaths.{first-of}
-use Rattle.map_parts.proofs.CycleRings.{cycle-each, cycle-sides}
-use Rattle.map_parts.proofs.KeptEach.{home-is, map-cong, to-each}
 use Rattle.map_parts.proofs.MergedChain.{faces-apart}
 use Rattle.map_parts.proofs.MergedIsland.{merged-island}
 use Rattle.map_parts.proofs.MergingIsland as merging
-use Rattle.map_parts.proofs.PartsRings.{in_table, other, row-there}
-use Rattle.map_parts.proofs.RingsOfHalves.{cycle-same_ring}
+use Rattle.map_parts.proofs.PartsRings.{row-there}
 use Rattle.map_parts.proofs.StringRowsPut.{each-left}
-use Rattle.map_parts.proofs.ToHalves.{fits, one_part}
+use Rattle.map_parts.proofs.ToHalves.{fits}
 use Rattle.map_parts.proofs.WholeStrings.{strings-once}
 use Rattle.cad_surgery.specs.IslandMergers.{HasSharedRing}
-use Rattle.cad_surgery.proofs.MovedHalves.{kept-home, passing-all, passing-on}
-use Rattle.cad_surgery.proofs.NamedRings.{named-on, named-once, named-rings, on-named}
+use Rattle.cad_surgery.proofs.HalvesRound.{all-shown, leads-round, names-rings, same-round}
+use Rattle.cad_surgery.proofs.NamedRings.{named-on, named-once, named-rings}
 
 -- A path that leads back along the chain that two parcels share, with as many halves, has the strings
 -- that they share.
@@ -100,27 +94,6 @@ module _ (m : Map) (valid : IsValid m) (kept ended : Face) (two : kept ≢ ended
       let d = it.long in
       omega (arith, a, b, c, d, long))
 
--- ---- Lists of halves
-
--- a half that is held is there
-held : (halves : List Half) (g : Half) → holds halves g ≡ true → Contains halves g
-held [] g is = absurd (true≢false (sym is))
-held (x ∷ halves) g is = by (is_half g x) refl is (held halves g)
-  where
-    by : (b : Bool) → is_half g x ≡ b → (is_half g x || holds halves g) ≡ true → (holds halves g ≡ true → Contains halves g) → Contains (x ∷ halves) g
-    by true same some later = subst (Contains (x ∷ halves)) (sym (is_half-same g x same)) (Contains-first x halves)
-    by false other some later = Contains-later x halves g (later (rw other at some))
-
-held-there : (halves : List Half) (g : Half) → Contains halves g → holds halves g ≡ true
-held-there halves g among = list_any-Contains (is_half g) halves g among (is_half-self g)
-
--- two tests that tell the same of each
-filter-cong : (p q : Half → Bool) (xs : List Half) → ((x : Half) → Contains xs x → p x ≡ q x) → filter p xs ≡ filter q xs
-filter-cong p q [] same = refl
-filter-cong p q (x ∷ xs) same =
-    (λ i. if same x (Contains-first x xs) i then x ∷ filter p xs else filter p xs)
-    ∙ ap (λ (l : List Half). if q x then x ∷ l else l) (filter-cong p q xs (λ y among. same y (Contains-later x xs y among)))
-
 -- ---- Round an island
 
 -- what is said of a ring that two parcels share, and of a chain nothing
@@ -157,37 +130,25 @@ module _ (d : Parts) (fit : FitTogether d) (keeper : Face) (ended : ℕ) (tried 
   facts : AreRound m keeper (Parcel ended) (around k e)
   facts = are-round m tried.valid keeper (Parcel ended) (around k e) (found m tried.valid keeper (Parcel ended) (around k e) there)
 
-  pub same-round : IsSameRing points e
-  same-round =
-      IsSameRing-sym e points (cycle-same_ring m rows whole rings.local h h_shown (bounding (Parcel ended) e) facts.1 on)
-
-  in_rows : has rows h ≡ true
-  in_rows = in_table d fit h h_shown
-
-  pub all-shown : (g : Half) → Contains path g → IsShown m g
-  all-shown = cycle-each rows rings.local.linked h in_rows (IsShown m) rings.local.inside h_shown
-
-  pub leads-round : AreAlong rows path (sides_of points)
-  leads-round =
-      map-cong (side_by rows) (λ g. (origin_of rows g, origin_of rows (next rows g))) path (λ g among. λ i. (origin_of rows g, sym (rings.local.meets g (all-shown g among)) i))
-      ∙ sym (cycle-sides rows rings.local.linked h in_rows (other d fit h h_shown))
+  abbrev round : IsSameRing points e
+  round = same-round d fit whole (Parcel ended) e facts.1 h h_shown on
 
   around_it : IsChainInRings m keeper (Parcel ended) (around k e)
   around_it = around-found m keeper (Parcel ended) k e facts.0 facts.1 facts.2
 
   path-long : length path ≡ length (sides_of k)
   path-long =
-      sym (length-map path (origin_of rows)) ∙ sym (IsSameRing-length points e same-round) ∙ sym (length-sides_of e)
+      sym (length-map path (origin_of rows)) ∙ sym (IsSameRing-length points e round) ∙ sym (length-sides_of e)
       ∙ length_permutation (map opposite (sides_of k)) (sides_of e) (around-back _ k e facts.2) ∙ length-map (sides_of k) opposite
 
   pub round-strings : IsPermutation (numbers_of (shared_strings m keeper (Parcel ended))) (strings_of path)
   unfolding around_it around-found
   round-strings =
       shared-path m tried.valid keeper (Parcel ended) (faces-apart m keeper (Parcel ended) tried) tried.allowed (around k e) around_it rows rings.ends rings.local.apart path
-      (All-from_each (IsShown m) path all-shown)
+      (All-from_each (IsShown m) path (all-shown d fit whole (Parcel ended) e facts.1 h h_shown on))
       (λ s chained.
-      subst (λ (l : List Side). Contains l (opposite s)) (sym leads-round)
-      (Contains-permutation (sides_of e) (sides_of points) (opposite s) (sides_of-same e points (IsSameRing-sym points e same-round)) (around_it.in_ended s chained)))
+      subst (λ (l : List Side). Contains l (opposite s)) (sym (leads-round d fit whole (Parcel ended) e facts.1 h h_shown on))
+      (Contains-permutation (sides_of e) (sides_of points) (opposite s) (sides_of-same e points (IsSameRing-sym points e round)) (around_it.in_ended s chained)))
       path-long
 
   pub round-is : IsMergingIsland m keeper ended points path
@@ -196,107 +157,23 @@ module _ (d : Parts) (fit : FitTogether d) (keeper : Face) (ended : ℕ) (tried 
     kept_ring = k;
     ended_ring = e;
     there = there;
-    leads = same-round;
-    taken = merged-island m keeper (Parcel ended) points k e tried there same-round;
+    leads = round;
+    taken = merged-island m keeper (Parcel ended) points k e tried there round;
     shared = round-strings;
   }
 
   -- the first of them is the half itself
   first-is : side_by rows h ≡ (start_of points, next_of points)
-  first-is = by points (merging.long m keeper ended points path round-is) leads-round
+  first-is = by points (merging.long m keeper ended points path round-is) (leads-round d fit whole (Parcel ended) e facts.1 h h_shown on)
     where
       by : (ps : Ring) → 2 ≤ length ps → AreAlong rows path (sides_of ps) → side_by rows h ≡ (start_of ps, next_of ps)
       by [] low sides = absurd (omega (arith, low))
       by (a ∷ []) low sides = absurd (omega (arith, low))
       by (a ∷ b ∷ ps) low sides = first-of sides
 
-  -- ---- The other rings of the ended parcel
-
-  abbrev left : Boundary
-  left = bounding (Parcel ended) e
-
-  keeps : KeepsEach m rows d.kept
-  keeps = to-each d m.boundaries whole rings
-
-  abbrev s : Side
-  s = side_by rows h
-
-  -- a half of the ring is on the path
-  on-round : (g : Half) → IsOnRing m rows left g → Contains path g
-  on-round g g_on =
-      let among = Contains-permutation (sides_of e) (sides_of points) (side_by rows g) (sides_of-same e points (IsSameRing-sym points e same-round)) g_on.side in
-      let p = map-Contains (side_by rows) path (side_by rows g) (subst (λ (l : List Side). Contains l (side_by rows g)) (sym leads-round) among) in
-      subst (Contains path) (rings.local.apart p.0 g (all-shown p.0 p.1) g_on.shown p.2) p.1
-
-  -- and a half of the path on the ring
-  round-on : (g : Half) → Contains path g → IsOnRing m rows left g
-  round-on g among = record {
-    shown = all-shown g among;
-    side =
-        Contains-permutation (sides_of points) (sides_of e) (side_by rows g) (sides_of-same points e same-round)
-        (subst (λ (l : List Side). Contains l (side_by rows g)) leads-round (Contains-map (side_by rows) path g among));
-  }
-
-  -- a half that is kept for the parcel is on the path where its ring has the side
-  on-own : (g : Half) → Contains (kept_at d (Parcel ended)) g → holds path g ≡ has_side s (sides_of (home_of m rows g).ring)
-  on-own g among = by (holds path g) (has_side s (sides_of (home_of m rows g).ring)) refl refl
-    where
-      at : (b : Boundary) × Contains m.boundaries b × IsOnRing m rows b g × (b.face ≡ Parcel ended)
-      at = keeps.on (Parcel ended) g among
-
-      home : home_of m rows g ≡ at.0
-      home = home-is m whole rows at.0 at.1 g at.2
-
-      by : (a b : Bool) → holds path g ≡ a → has_side s (sides_of (home_of m rows g).ring) ≡ b → a ≡ b
-      by true true is has = refl
-      by false false is has = refl
-      by true false is has =
-          let own = home-is m whole rows left facts.1 g (round-on g (held path g is)) in
-          absurd (true≢false (sym (Contains-has_side s (sides_of e) on) ∙ ap (λ (b : Boundary). has_side s (sides_of b.ring)) (sym own) ∙ has))
-      by false true is has =
-          let same : at.0 ≡ left =
-          one_part (λ (c : Boundary). sides_of c.ring) s m.boundaries at.0 left (once-from_pairs (all_sides m) whole.once s) at.1 facts.1
-          (subst (λ (b : Boundary). Contains (sides_of b.ring) s) home (has_side-Contains s (sides_of (home_of m rows g).ring) has)) on in
-          absurd (true≢false (sym (held-there path g (on-round g (subst (λ (b : Boundary). IsOnRing m rows b g) same at.2))) ∙ is))
-
-  abbrev beside : Boundary → Bool
-  beside b = is_face (Parcel ended) b.face && not (has_side s (sides_of b.ring))
-
-  beside-own : (g : Half) → Contains (kept_at d (Parcel ended)) g → not (holds path g) ≡ beside (home_of m rows g)
-  beside-own g among =
-      let face_is = kept-home d fit whole (Parcel ended) g among in
-      ap not (on-own g among)
-      ∙ ap (λ (t : Bool). t && not (has_side s (sides_of (home_of m rows g).ring))) (sym (ap (is_face (Parcel ended)) face_is.0 ∙ is_face-refl (Parcel ended)))
-
-  beside-face : (b : Boundary) → is_face (Parcel ended) b.face ≡ false → beside b ≡ false
-  beside-face b away = ap (λ (t : Bool). t && not (has_side s (sides_of b.ring))) away
-
   module _ (moved : List Half) (moved_is : moved ≡ filter (λ g. not (holds path g)) (kept_at d (Parcel ended))) where
-    by-home : moved ≡ filter (λ g. beside (home_of m rows g)) (kept_at d (Parcel ended))
-    by-home = moved_is ∙ filter-cong (λ g. not (holds path g)) (λ g. beside (home_of m rows g)) (kept_at d (Parcel ended)) beside-own
-
-    homes : IsPermutation (map (home_of m rows) moved) (rings_beside m (Parcel ended) s)
-    homes = passing-all d fit whole (Parcel ended) beside beside-face moved by-home
-
-    -- one half of each
-    pub names-rings : NamesRings m moved (rings_beside m (Parcel ended) s)
-    names-rings = record {
-      each = All-from_each (λ g. (b : Boundary) × Contains (rings_beside m (Parcel ended) s) b × IsOfRing m b g) moved (λ g among. (
-        home_of m rows g,
-        Contains-permutation (map (home_of m rows) moved) (rings_beside m (Parcel ended) s) (home_of m rows g) homes (Contains-map (home_of m rows) moved g among),
-        named g among,
-      ));
-      all = λ b among.
-          let g = map-Contains (home_of m rows) moved b
-          (Contains-permutation (rings_beside m (Parcel ended) s) (map (home_of m rows) moved) b (IsPermutation-sym (map (home_of m rows) moved) (rings_beside m (Parcel ended) s) homes) among) in
-          (g.0, g.1, subst (λ (c : Boundary). IsOfRing m c g.0) g.2 (named g.0 g.1));
-      as_many = sym (length-map moved (home_of m rows)) ∙ sym (length_permutation (map (home_of m rows) moved) (rings_beside m (Parcel ended) s) homes);
-    }
-      where
-        named : (g : Half) → Contains moved g → IsOfRing m (home_of m rows g) g
-        named g among =
-            on-named m rows rings.ends (home_of m rows g) g
-            (All-at_each (λ g. IsOnRing m rows (home_of m rows g) g) moved g (passing-on d fit whole (Parcel ended) beside beside-face moved by-home) among)
+    abbrev named : NamesRings m moved (rings_beside m (Parcel ended) (side_by rows h))
+    named = names-rings d fit whole (Parcel ended) e facts.1 h h_shown on moved moved_is
 
     pub has-ring : HasSharedRing m rows keeper ended path moved
     unfolding round-is
@@ -307,11 +184,11 @@ module _ (d : Parts) (fit : FitTogether d) (keeper : Face) (ended : ℕ) (tried 
         record {
           points = points;
           is = round-is;
-          along = leads-round;
+          along = leads-round d fit whole (Parcel ended) e facts.1 h h_shown on;
           moved_are =
-              named-rings m whole (Parcel ended) left right round-is.taken.0 law.were refl (faces-apart m keeper (Parcel ended) tried) s on rows led moved names-rings;
-          once = named-once m whole (Parcel ended) left right round-is.taken.0 law.were refl (faces-apart m keeper (Parcel ended) tried) s on rows led moved names-rings;
-          named = subst (λ (t : Side). NamesRings m moved (rings_beside m (Parcel ended) t)) first-is names-rings;
+              named-rings m whole (Parcel ended) (bounding (Parcel ended) e) right round-is.taken.0 law.were refl (faces-apart m keeper (Parcel ended) tried) (side_by rows h) on rows led moved named;
+          once = named-once m whole (Parcel ended) (bounding (Parcel ended) e) right round-is.taken.0 law.were refl (faces-apart m keeper (Parcel ended) tried) (side_by rows h) on rows led moved named;
+          named = subst (λ (t : Side). NamesRings m moved (rings_beside m (Parcel ended) t)) first-is named;
         }
 
   -- by what is at hand

@@ -1,5 +1,5 @@
 -- A merger along a chain: what it names, and the halves that it goes by.
-use Rattle.std.specs.Prelude.{◌≡◌, ℕ, ⊤, List, map, filter, IsPermutation}
+use Rattle.std.specs.Prelude.{◌≡◌, ℕ, ◌+◌, ⊤, List, map, filter, length, IsPermutation}
 use Rattle.cad_rows.specs.declared.edits.Edit.{Edit}
 use Rattle.cad_rows.specs.declared.edits.Edit.TheVariants.{Merge}
 use Rattle.cad_rows.specs.declared.names.Face.{Face}
@@ -14,6 +14,7 @@ use Rattle.half_table.specs.Rows.{HalfRows}
 use Rattle.cad_surgery.specs.declared.edits.try_merge_along.Merger.{Merger}
 use Rattle.cad_surgery.specs.declared.edits.try_merge_along.Merged.{Merged}
 use Rattle.cad_laws.specs.Tried.{IsTried}
+use Rattle.edit_records.specs.HeldChains.{HeldChain, IsSharedAlong}
 use Rattle.edit_records.specs.declared.record.ChainString.{ChainString}
 use Rattle.edit_records.specs.declared.record.SmallRecord.{SmallRecord}
 use Rattle.edit_records.specs.declared.record.SmallRecord.TheVariants as change
@@ -46,6 +47,15 @@ pub record HasSharedPath (m : Map) (rows : HalfRows) (kept : Face) (ended : ℕ)
   pub end_on : IsAlong (merged is) rows (leaving (last_corner is)) end
   pub moved_are : AreOfRings m rows moved (Parcel ended) (rings_past is)
   pub once : IsPermutation (map (home_of m rows) moved) (filter (λ b. is_face (Parcel ended) b.face) (rings_past is))
+
+-- What a merger along a chain goes by, found in a table that goes with the map, with the chain's
+-- points and what its record tells of it.
+pub record HasFoundPath (m : Map) (rows : HalfRows) (kept : Face) (ended : ℕ) (path : List Half) (chain : List ℕ) (start end : Half) (moved : List Half) : Type 0 where
+  pub merger : HasSharedPath m rows kept ended path start end moved
+  pub along : AreAlong rows path (sides_of_chain chain)
+  pub long : length chain ≡ length path + 1
+  pub shared : IsSharedAlong m kept (Parcel ended) chain
+  pub held : HeldChain m (Parcel ended) chain start end moved
 
 -- The second map is that after the merger, which was tried, and what the record tells was so.
 pub record IsMergedBy (m now : Map) (t : Merged) : Type 0 where

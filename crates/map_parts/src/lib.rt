@@ -23,7 +23,7 @@ pub use edits::join_tried::{begin_join, begin_unjoin};
 pub use edits::labels::rename;
 pub use edits::merging::{merge_along, unmerge_along};
 pub use edits::merging_island::{merge_island, unmerge_island};
-pub use edits::merging_island_tried::begin_merge_island;
+pub use edits::merging_island_tried::{begin_merge_island, begin_unmerge_island};
 pub use edits::merging_tried::{EndedParcel, begin_merge_along, begin_unmerge_along};
 pub use edits::placed_strings::PlacedString;
 pub use edits::points::{add_point, move_point, put_point_back, take_point};

@@ -65,12 +65,20 @@ fn corners_of<T: Tally>(draft: &Draft<T>, division: &Division<'_>) -> (Corner, C
     (first, last)
 }
 
+/// The half along a side of the map.
+pub(crate) fn half_along<T: Tally>(draft: &Draft<T>, from: PointNo, to: PointNo) -> Half
+    requires { Contains (all_sides (map_of draft.now)) (from, to) }
+    ensures { IsAlong (map_of draft.now) draft.now.table.rows (from, to) result }
+{
+    draft.half(from, to).unwrap()
+}
+
 // The half that leaves a corner of the map.
 fn half_leaving<T: Tally>(draft: &Draft<T>, corner: &Corner) -> Half
     requires { Contains (all_sides (map_of draft.now)) (leaving corner.now) }
     ensures { IsAlong (map_of draft.now) draft.now.table.rows (leaving corner.now) result }
 {
-    draft.half(corner.at, corner.after).unwrap()
+    half_along(draft, corner.at, corner.after)
 }
 
 // The ring of a half, from the half's origin on.

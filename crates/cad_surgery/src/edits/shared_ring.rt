@@ -27,8 +27,8 @@ pub(crate) struct SharedRing {
     pub(crate) moved: Vec<Half>,
 }
 
-// The halves of the cycle of a half, from it on.
-fn halves_round<T: Tally>(
+/// The halves of the cycle of a half, from it on.
+pub(crate) fn halves_round<T: Tally>(
     alloc: Global,
     table: &HalfTable<T>,
     half: &Half,
@@ -50,8 +50,12 @@ fn is_among(halves: &[Half], half: &Half) -> bool
     halves.iter().any(|other| half.string == other.string && half.forward == other.forward)
 }
 
-// Those of some halves that are not among others.
-fn halves_beside(alloc: Global, halves: &[Half], path: &[Half]) -> Result<Vec<Half>, Memory>
+/// Those of some halves that are not among others.
+pub(crate) fn halves_beside(
+    alloc: Global,
+    halves: &[Half],
+    path: &[Half],
+) -> Result<Vec<Half>, Memory>
     ensures { IfOk result (λ left. left.items ≡ filter (λ h. not (holds path.now h)) halves.now) }
 {
     let mut left = Vec::new(alloc);

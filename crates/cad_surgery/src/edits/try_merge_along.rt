@@ -1,6 +1,8 @@
 //! A merger along a chain on a map on half-edges: made, taken back where it breaks a rule, and taken
 //! back and made again by its record.
-ghost use Rattle.std.specs.Prelude.{◌≡◌, ◌<◌, ◌+◌, ◌∷◌, Some, length, slice_get, map as map_by};
+ghost use Rattle.std.specs.Prelude.{◌≡◌, ◌<◌, ◌≤◌, ◌+◌, ◌∷◌, [], Some, length, slice_get};
+ghost use Rattle.std.specs.Prelude.{map as map_by};
+ghost use Rattle.std.specs.Vec.{vec_len, vec_capacity};
 ghost use Rattle.std.specs.Prelude.{IfOk, IfErr, OnOk, OnErr};
 ghost use Rattle.cad_rows.specs.declared.edits.Edit.TheVariants.{Merge};
 ghost use Rattle.cad_rows.specs.declared.names.Face.TheVariants.{Parcel};
@@ -9,24 +11,30 @@ ghost use Rattle.cad_map.specs.Costs.{work_bound};
 ghost use Rattle.cad_map.specs.Effects.{after};
 ghost use Rattle.cad_map.specs.Map.{Map};
 ghost use Rattle.cad_map.specs.Outcome.{MayRefuse};
+ghost use Rattle.cad_map.specs.SharedChains.{IsSharedChain};
+ghost use Rattle.cad_map.specs.declared.shared_chain.SharedChain.TheVariants.{Along};
 ghost use Rattle.cad_map.specs.Touched.{IsTouched};
 ghost use Rattle.cad_map.specs.Valid.{IsValid};
 ghost use Rattle.half_paths.specs.Path.{strings_of};
 ghost use Rattle.cad_valid.specs.Near.{HoldsMap, touched_of};
-ghost use Rattle.cad_surgery.specs.Mergers.{HasSharedPath, IsMergedBy, IsOfMergeAlong};
+ghost use Rattle.cad_laws.specs.Tried.{IsTried};
+ghost use Rattle.cad_surgery.specs.Mergers.{HasFoundPath, HasSharedPath, IsMergedBy, IsOfMergeAlong};
 ghost use Rattle.cad_surgery.specs.Mergers.{halves_of, merged_by};
 ghost use Rattle.cad_surgery.specs.Proper.{IsProper};
 ghost use Rattle.cad_surgery.specs.Work.{TakesWork};
 ghost use Rattle.edit_records.specs.HeldChains.{row_between, rows_along};
 ghost use Rattle.edit_records.specs.Record.{edit_of, Holds, Belongs, HeldMergedAlong};
+ghost use Rattle.edit_records.specs.declared.record.SmallRecord.TheVariants.{MergeAlong as MergeAlongRecord};
 ghost use Rattle.map_parts.specs.Merging.{rows_gone};
 ghost use Rattle.map_parts.specs.Parts.{map_of, kept_at};
 ghost use Rattle.map_parts.specs.PlacedStrings.{numbers_placed, StoodIn};
 
 use crate::draft::Draft;
+use crate::edits::chain_strings::chain_strings;
 use crate::edits::counted::is_work_in_range;
 use crate::edits::hidden::drop_hidden;
-use cad_rows::{Face, Memory, ParcelNo, ParcelRow, PointNo, Refusal, StringNo, StringRow};
+use crate::edits::shared_path::{SharedPath, shared_path};
+use cad_rows::{Face, Memory, Numbers, ParcelNo, ParcelRow, PointNo, Refusal, StringNo, StringRow};
 use cad_valid::{Touched, first_broken_near};
 use edit_records::{ChainString, SmallRecord};
 use half_table::{Half, Tally};
@@ -123,6 +131,127 @@ pub(crate) fn merge_along_within_rules<T: Tally>(
     }
     drop_hidden(draft, merger.path);
     Ok(gone)
+}
+
+// What a merger along a chain goes by, and room for what the record tells of its strings.
+#[derive(Drop)]
+struct FoundPath {
+    shared: SharedPath,
+    strings: Vec<ChainString>,
+}
+
+fn found_path<T: Tally>(
+    draft: &Draft<T>,
+    kept: &Face,
+    ended: ParcelNo,
+    first: (PointNo, PointNo),
+    last: (PointNo, PointNo),
+    sides: usize,
+) -> Result<FoundPath, Memory>
+    requires tried { IsTried (map_of draft.now) (Merge kept.now (Parcel ended)) }
+    requires shared { IsSharedChain (map_of draft.now) kept.now (Parcel ended)
+        (Along first last sides) }
+    ensures path { IfOk result (λ f. HasFoundPath (map_of draft.now) draft.now.table.rows kept.now
+        ended f.shared.path.items f.shared.chain f.shared.start f.shared.end
+        f.shared.moved.items) }
+    ensures along { IfOk result (λ f. f.shared.strings.items ≡ strings_of f.shared.path.items) }
+    ensures none { IfOk result (λ f. f.strings.items ≡ []) }
+    ensures room { IfOk result
+        (λ f. vec_len f.strings + length f.shared.path.items ≤ vec_capacity f.strings) }
+{
+    let shared = shared_path(draft, kept, ended, first, last, sides)?;
+    let strings = Vec::with_capacity(draft.rows.points.allocator(), shared.path.len())?;
+    Ok(FoundPath { shared, strings })
+}
+
+// The record of a merger along a chain.
+fn record_of_merger(
+    kept: Face,
+    row: ParcelRow,
+    place: usize,
+    chain: Numbers<PointNo>,
+    strings: Vec<ChainString>,
+    start: Half,
+    end: Half,
+    moved: Vec<Half>,
+) -> SmallRecord
+    ensures { result ≡ MergeAlongRecord kept row place chain strings start end moved }
+{
+    SmallRecord::MergeAlong {
+        kept,
+        row,
+        place,
+        chain,
+        strings,
+        start,
+        end,
+        moved,
+    }
+}
+
+/// Merges a parcel into a face along the chain that they share, and takes it back where it breaks a
+/// rule. The chain is told by the first and the last of the face's sides along it, and how many they
+/// are. The grid holds the strings and points of the map after it.
+pub(crate) fn try_merge_along<T: Tally>(
+    draft: &mut Draft<T>,
+    kept: Face,
+    ended: ParcelNo,
+    first: (PointNo, PointNo),
+    last: (PointNo, PointNo),
+    sides: usize,
+    touched: &Touched,
+) -> Result<SmallRecord, Refusal>
+    requires tried { IsTried (map_of draft.old) (Merge kept (Parcel ended)) }
+    requires shared { IsSharedChain (map_of draft.old) kept (Parcel ended)
+        (Along first last sides) }
+    requires held { HoldsMap draft.old.grid (after (map_of draft.old) (Merge kept (Parcel ended))) }
+    requires touched { IsTouched (map_of draft.old)
+        (after (map_of draft.old) (Merge kept (Parcel ended))) (touched_of touched.now) }
+    requires proper { IsProper (map_of draft.old) draft.old.table.rows (kept_at draft.old) }
+    ensures made { OnOk result
+        (map_of draft.new ≡ after (map_of draft.old) (Merge kept (Parcel ended))) }
+    ensures valid { OnOk result (IsValid (map_of draft.new)) }
+    ensures edit { IfOk result (λ r. edit_of r ≡ Merge kept (Parcel ended)) }
+    ensures holds { IfOk result (λ r. Holds r (map_of draft.old)) }
+    ensures refused { IfErr result (MayRefuse (map_of draft.old) (Merge kept (Parcel ended))) }
+    ensures err { OnErr result (map_of draft.new ≡ map_of draft.old) }
+    ensures grid { draft.new.grid ≡ draft.old.grid }
+    ensures proper { IsProper (map_of draft.new) draft.new.table.rows (kept_at draft.new) }
+    ensures work { TakesWork draft.old.table draft.new.table
+        (work_bound (map_of draft.old) (after (map_of draft.old) (Merge kept (Parcel ended)))) }
+{
+    is_work_in_range(&draft.table);
+    let Ok(found) = found_path(draft, &kept, ended, first, last, sides) else {
+        return Err(Refusal::Memory);
+    };
+    let FoundPath {
+        shared,
+        mut strings,
+    } = found;
+    let merger = Merger {
+        kept,
+        ended,
+        path: shared.path.as_slice(),
+        strings: shared.strings.as_slice(),
+        start: shared.start,
+        end: shared.end,
+        moved: shared.moved.as_slice(),
+    };
+    let gone = merge_along_within_rules(draft, &merger, touched)?;
+    let EndedParcel {
+        row,
+        place,
+        strings: placed,
+    } = gone;
+    chain_strings(shared.path.as_slice(), placed, &mut strings);
+    let SharedPath {
+        chain,
+        start,
+        end,
+        moved,
+        ..
+    } = shared;
+    Ok(record_of_merger(kept, row, place, chain, strings, start, end, moved))
 }
 
 // Merges a parcel into a face along their chain again. Where memory runs out the map stays.
@@ -300,21 +429,27 @@ fn strings_back(
     Ok(gone)
 }
 
-// All that went by a merger along a chain.
-fn ended_by(alloc: Global, told: &Merged<'_>) -> Result<EndedParcel, Memory>
-    requires { length told.now.chain.now ≡ length told.now.strings.now + 1 }
-    ensures row { IfOk result (λ e. e.row ≡ told.now.row.now) }
-    ensures place { IfOk result (λ e. e.place ≡ told.now.place) }
+/// All that went by a merger: the parcel, and the strings along the chain.
+pub(crate) fn ended_by(
+    alloc: Global,
+    row: &ParcelRow,
+    place: usize,
+    strings: &[ChainString],
+    chain: &[PointNo],
+) -> Result<EndedParcel, Memory>
+    requires { length chain.now ≡ length strings.now + 1 }
+    ensures row { IfOk result (λ e. e.row ≡ row.now) }
+    ensures place { IfOk result (λ e. e.place ≡ place) }
     ensures rows { IfOk result
-        (λ e. rows_gone e.strings.items ≡ rows_along told.now.strings.now told.now.chain.now) }
+        (λ e. rows_gone e.strings.items ≡ rows_along strings.now chain.now) }
     ensures places { IfOk result (λ e. map_by (λ g. g.place) e.strings.items
-        ≡ map_by (λ s. s.place) told.now.strings.now) }
+        ≡ map_by (λ s. s.place) strings.now) }
 {
-    let strings = strings_back(alloc, told.strings, told.chain)?;
-    let row = told.row.copy()?;
+    let strings = strings_back(alloc, strings, chain)?;
+    let row = row.copy()?;
     Ok(EndedParcel {
         row,
-        place: told.place,
+        place,
         strings,
     })
 }
@@ -383,6 +518,6 @@ pub(crate) fn back_merge_along<T: Tally>(
     let alloc = draft.rows.points.allocator();
     let told = merger_of(change);
     let path = path_of(alloc, told.strings)?;
-    let gone = ended_by(alloc, &told)?;
+    let gone = ended_by(alloc, told.row, told.place, told.strings, told.chain)?;
     unmerge_with(draft, &told, path.as_slice(), gone)
 }

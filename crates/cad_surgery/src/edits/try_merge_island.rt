@@ -1,5 +1,5 @@
-//! A merger round an island on a map on half-edges: tried, taken back where it breaks a rule, and made
-//! again.
+//! A merger round an island on a map on half-edges: tried, taken back where it breaks a rule, and
+//! taken back and made again by its record.
 ghost use Rattle.std.specs.Prelude.{◌≡◌, ◌<◌, ◌≤◌, ◌+◌, ◌∷◌, [], Some, length, slice_get, map as map_by, IfOk, IfErr, OnOk, OnErr};
 ghost use Rattle.std.specs.Vec.{vec_len, vec_capacity};
 ghost use Rattle.cad_map.specs.Asked.{GivesInRange};
@@ -13,15 +13,18 @@ ghost use Rattle.cad_map.specs.Touched.{IsTouched};
 ghost use Rattle.cad_map.specs.Valid.{IsValid};
 ghost use Rattle.cad_rows.specs.declared.edits.Edit.TheVariants.{Merge};
 ghost use Rattle.cad_rows.specs.declared.names.Face.TheVariants.{Parcel};
+ghost use Rattle.edit_records.specs.HeldChains.{closed, rows_along};
 ghost use Rattle.edit_records.specs.Record.{edit_of, Holds, Belongs, HeldMergedIsland};
 ghost use Rattle.edit_records.specs.declared.record.SmallRecord.TheVariants.{MergeIsland as MergeIslandRecord};
 ghost use Rattle.half_table.specs.Rows.{origin_of};
 ghost use Rattle.half_paths.specs.Path.{AreIn, strings_of};
 ghost use Rattle.cad_laws.specs.Tried.{IsTried};
 ghost use Rattle.cad_valid.specs.Near.{HoldsMap, touched_of};
-ghost use Rattle.cad_surgery.specs.IslandMergers.{HasSharedRing, IsOfMergeIsland, merged_round};
+ghost use Rattle.cad_surgery.specs.IslandMergers.{HasSharedRing, IsMergedRound, IsOfMergeIsland, merged_round};
+ghost use Rattle.cad_surgery.specs.Mergers.{halves_of};
 ghost use Rattle.cad_surgery.specs.Proper.{IsProper};
 ghost use Rattle.cad_surgery.specs.Work.{TakesWork};
+ghost use Rattle.map_parts.specs.Merging.{rows_gone};
 ghost use Rattle.map_parts.specs.Parts.{map_of, kept_at};
 ghost use Rattle.map_parts.specs.PlacedStrings.{numbers_placed, StoodIn};
 
@@ -30,12 +33,12 @@ use crate::edits::chain_strings::chain_strings;
 use crate::edits::counted::is_work_in_range;
 use crate::edits::hidden::drop_hidden;
 use crate::edits::shared_ring::{SharedRing, shared_ring};
-use crate::edits::try_merge_along::{numbers_of, path_of};
+use crate::edits::try_merge_along::{ended_by, numbers_of, path_of};
 use cad_rows::{Face, Memory, Numbers, ParcelNo, ParcelRow, PointNo, Refusal, StringNo};
 use cad_valid::{Touched, first_broken_near};
 use edit_records::{ChainString, SmallRecord};
 use half_table::{Half, HalfTable, Tally};
-use map_parts::{EndedParcel, begin_merge_island, unmerge_island};
+use map_parts::{EndedParcel, begin_merge_island, begin_unmerge_island, unmerge_island};
 use std::alloc::Global;
 
 /// What a merger round an island names, with the halves round the ring that the two parcels share
@@ -199,6 +202,84 @@ fn merger_of(change: &SmallRecord) -> MergedRound<'_>
     }
 }
 
+// The points round an island, and the first again.
+fn closed_points(alloc: Global, points: &[PointNo]) -> Result<Vec<PointNo>, Memory>
+    requires { 0 < length points.now }
+    ensures { IfOk result (λ chain. chain.items ≡ closed points.now) }
+{
+    let mut chain = Vec::new(alloc);
+    chain.extend_from_slice(points)?;
+    chain.push(points[0])?;
+    Ok(chain)
+}
+
+// Takes a merger round an island back, with all that went.
+fn unmerge_round_with<T: Tally>(
+    draft: &mut Draft<T>,
+    told: &MergedRound<'_>,
+    path: &[Half],
+    gone: EndedParcel,
+) -> Result<(), Memory>
+    requires path { path.now ≡ halves_of told.now.strings.now }
+    requires row { gone.row ≡ told.now.row.now }
+    requires place { gone.place ≡ told.now.place }
+    requires rows { rows_gone gone.strings.items
+        ≡ rows_along told.now.strings.now (closed told.now.points.now) }
+    requires places { map_by (λ g. g.place) gone.strings.items
+        ≡ map_by (λ s. s.place) told.now.strings.now }
+    requires made { (m : Map) × IsMergedRound m (map_of draft.old) told.now }
+    requires proper { IsProper (map_of draft.old) draft.old.table.rows (kept_at draft.old) }
+    ensures before { OnOk result ((m : Map) → IsMergedRound m (map_of draft.old) told.now
+        → map_of draft.new ≡ m) }
+    ensures err { OnErr result (map_of draft.new ≡ map_of draft.old) }
+    ensures grid { draft.new.grid ≡ draft.old.grid }
+    ensures proper { IsProper (map_of draft.new) draft.new.table.rows (kept_at draft.new) }
+    ensures work { (m : Map) → IsMergedRound m (map_of draft.old) told.now
+        → TakesWork draft.old.table draft.new.table (work_bound m (map_of draft.old)) }
+{
+    is_work_in_range(&draft.table);
+    let (first, rest) = first_and_rest(path);
+    begin_unmerge_island(
+        &mut draft.rows,
+        &mut draft.table,
+        &mut draft.kept,
+        &mut draft.stars,
+        &told.kept,
+        gone,
+        first,
+        rest,
+        told.moved,
+    )?;
+    Ok(())
+}
+
+/// Takes a merger round an island back, by the record: puts the parcel and the strings in at their
+/// places again, and the ring is the parcel's outline. Where memory runs out the map stays.
+pub(crate) fn back_merge_island<T: Tally>(
+    draft: &mut Draft<T>,
+    change: &SmallRecord,
+) -> Result<(), Memory>
+    requires merger { IsOfMergeIsland change.now }
+    requires given { GivesInRange (edit_of change.now) }
+    requires made { (m : Map) × Belongs change.now m (map_of draft.old) }
+    requires proper { IsProper (map_of draft.old) draft.old.table.rows (kept_at draft.old) }
+    ensures before { OnOk result ((m : Map) → Belongs change.now m (map_of draft.old)
+        → map_of draft.new ≡ m) }
+    ensures err { OnErr result (map_of draft.new ≡ map_of draft.old) }
+    ensures grid { draft.new.grid ≡ draft.old.grid }
+    ensures proper { IsProper (map_of draft.new) draft.new.table.rows (kept_at draft.new) }
+    ensures work { (m : Map) → Belongs change.now m (map_of draft.old)
+        → TakesWork draft.old.table draft.new.table (work_bound m (map_of draft.old)) }
+{
+    is_work_in_range(&draft.table);
+    let alloc = draft.rows.points.allocator();
+    let told = merger_of(change);
+    let path = path_of(alloc, told.strings)?;
+    let chain = closed_points(alloc, told.points)?;
+    let gone = ended_by(alloc, told.row, told.place, told.strings, chain.as_slice())?;
+    unmerge_round_with(draft, &told, path.as_slice(), gone)
+}
+
 /// Merges a parcel into a face round the ring that they share again, by the record. Where memory runs
 /// out the map stays.
 pub(crate) fn forward_merge_island<T: Tally>(
@@ -230,8 +311,8 @@ pub(crate) fn forward_merge_island<T: Tally>(
     merge_island_again(draft, &merger)
 }
 
-// The points at which halves begin.
-fn points_round<T: Tally>(
+/// The points at which halves begin.
+pub(crate) fn points_round<T: Tally>(
     alloc: Global,
     table: &HalfTable<T>,
     path: &[Half],
