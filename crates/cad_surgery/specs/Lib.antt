@@ -1,6 +1,5 @@
 pub mod Proper
 pub mod RowEdits
-pub mod InPlace
 pub mod Work
 pub mod AtRest
 pub mod Divisions

@@ -1,5 +1,5 @@
 //! Edits of a map on half-edges, taken back and made again by their records.
-ghost use Rattle.std.specs.Prelude.{◌≡◌, ◌≤◌, IsTrue, IsSome, IfOk, IfErr, OnOk, OnErr};
+ghost use Rattle.std.specs.Prelude.{◌≡◌, ◌≤◌, IsSome, IfOk, IfErr, OnOk, OnErr};
 ghost use Rattle.cad_map.specs.Costs.{weight_bound, work_bound};
 ghost use Rattle.cad_map.specs.Effects.{after};
 ghost use Rattle.cad_map.specs.Map.{Map};
@@ -7,8 +7,7 @@ ghost use Rattle.cad_map.specs.Outcome.{LeadsTo, MayRefuse};
 ghost use Rattle.cad_map.specs.Refusals.{first_refusal as first_refusal_of};
 ghost use Rattle.cad_map.specs.Valid.{IsValid};
 ghost use Rattle.map_parts.specs.Parts.{map_of};
-ghost use Rattle.edit_records.specs.Record.{edit_of, Belongs, weight};
-ghost use Rattle.cad_surgery.specs.InPlace.{is_in_place};
+ghost use Rattle.edit_records.specs.Record.{Belongs, weight};
 ghost use Rattle.cad_surgery.specs.Work.{TakesWork};
 
 use crate::half_map::HalfMap;
@@ -19,11 +18,9 @@ use edit_records::{SmallRecord, are_in_range as gives_in_range};
 use half_table::Tally;
 
 impl<T: Tally> HalfMap<T> {
-    /// Makes an edit, and gives its record: any but a merger. A refused one leaves the map as it
-    /// was.
+    /// Makes an edit, and gives its record. A refused one leaves the map as it was.
     pub fn apply(&mut self, edit: &Edit) -> Result<SmallRecord, Refusal>
         requires valid { IsValid (map_of self.old) }
-        requires place { IsTrue (is_in_place edit.now) }
         // The outcome is that of the edit, both ways.
         ensures made { OnOk result (LeadsTo (map_of self.old) edit.now (map_of self.new)) }
         ensures refused { IfErr result (MayRefuse (map_of self.old) edit.now) }
@@ -47,7 +44,6 @@ impl<T: Tally> HalfMap<T> {
     /// Goes from the map after an edit to the map before it. Where memory runs out the map stays.
     pub fn back(&mut self, change: &SmallRecord) -> Result<(), Memory>
         requires made { (before : Map) × Belongs change.now before (map_of self.old) }
-        requires place { IsTrue (is_in_place (edit_of change.now)) }
         ensures before { OnOk result ((before : Map) → Belongs change.now before (map_of self.old)
             → map_of self.new ≡ before) }
         ensures err { OnErr result (map_of self.new ≡ map_of self.old) }
@@ -61,7 +57,6 @@ impl<T: Tally> HalfMap<T> {
     /// Goes from the map before an edit to the map after it. Where memory runs out the map stays.
     pub fn forward(&mut self, change: &SmallRecord) -> Result<(), Memory>
         requires made { (after : Map) × Belongs change.now (map_of self.old) after }
-        requires place { IsTrue (is_in_place (edit_of change.now)) }
         ensures after { OnOk result ((after : Map) → Belongs change.now (map_of self.old) after
             → map_of self.new ≡ after) }
         ensures err { OnErr result (map_of self.new ≡ map_of self.old) }

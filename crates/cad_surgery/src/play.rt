@@ -12,7 +12,6 @@ ghost use Rattle.cad_valid.specs.Near.{HoldsMap, touched_of};
 ghost use Rattle.cad_surgery.specs.AtRest.{IsAtRest};
 ghost use Rattle.edit_records.specs.GridEdits.{gone_by, come_by};
 ghost use Rattle.edit_records.specs.GridLists.{AreEntries, IsBeside};
-ghost use Rattle.cad_surgery.specs.InPlace.{is_in_place};
 ghost use Rattle.map_parts.specs.Parts.{map_of, kept_at};
 ghost use Rattle.cad_surgery.specs.Proper.{IsProper};
 ghost use Rattle.edit_records.specs.Record.{edit_of, Holds, Belongs, IsPlaced};
@@ -23,7 +22,9 @@ use crate::draft::Draft;
 use crate::edits::try_divide::{back_divide, forward_divide, try_divide};
 use crate::edits::try_enclose::{Enclosure, back_enclose, forward_enclose, try_enclose};
 use crate::edits::try_join::{back_join, forward_join, try_join};
+use crate::edits::try_merge::try_merge;
 use crate::edits::try_merge_along::{back_merge_along, forward_merge_along};
+use crate::edits::try_merge_island::{back_merge_island, forward_merge_island};
 use crate::edits::try_split::{Halving, back_split, forward_split, try_split};
 use cad_rows::{Edit, Memory, Refusal};
 use cad_valid::{Touched, first_broken_near};
@@ -81,7 +82,6 @@ fn try_edit<T: Tally>(
     edit: &Edit,
     touched: &Touched,
 ) -> Result<SmallRecord, Refusal>
-    requires place { IsTrue (is_in_place edit.now) }
     requires tried { IsTried (map_of draft.old) edit.now }
     requires held { HoldsMap draft.old.grid (after (map_of draft.old) edit.now) }
     requires touched { IsTouched (map_of draft.old) (after (map_of draft.old) edit.now)
@@ -137,7 +137,7 @@ fn try_edit<T: Tally>(
         } => try_divide(
             draft, *face, chain, strings, *parcel, label, *source, touched,
         ),
-        Edit::Merge { .. } => unreachable!(),
+        Edit::Merge { kept, ended } => try_merge(draft, *kept, *ended, touched),
         _ => try_rows(draft, edit, touched),
     }
 }
@@ -184,7 +184,6 @@ fn exchange_by<T: Tally>(draft: &Draft<T>, edit: &Edit) -> Result<Exchange, Memo
 /// Makes an edit that nothing speaks against at once, and gives its record. Where memory runs out,
 /// or it breaks a rule, the map stays.
 pub(crate) fn play<T: Tally>(draft: &mut Draft<T>, edit: &Edit) -> Result<SmallRecord, Refusal>
-    requires place { IsTrue (is_in_place edit.now) }
     requires tried { IsTried (map_of draft.old) edit.now }
     requires rest { IsAtRest draft.old }
     ensures made { OnOk result (map_of draft.new ≡ after (map_of draft.old) edit.now) }
@@ -217,7 +216,6 @@ pub(crate) fn play<T: Tally>(draft: &mut Draft<T>, edit: &Edit) -> Result<SmallR
 
 // Takes an edit back. The grid stays.
 fn back_edit<T: Tally>(draft: &mut Draft<T>, change: &SmallRecord) -> Result<(), Memory>
-    requires place { IsTrue (is_in_place (edit_of change.now)) }
     requires given { GivesInRange (edit_of change.now) }
     requires made { (m : Map) × Belongs change.now m (map_of draft.old) }
     requires proper { IsProper (map_of draft.old) draft.old.table.rows (kept_at draft.old) }
@@ -268,14 +266,13 @@ fn back_edit<T: Tally>(draft: &mut Draft<T>, change: &SmallRecord) -> Result<(),
         }
         SmallRecord::Divide { .. } => back_divide(draft, change),
         SmallRecord::MergeAlong { .. } => back_merge_along(draft, change),
-        SmallRecord::MergeIsland { .. } => unreachable!(),
+        SmallRecord::MergeIsland { .. } => back_merge_island(draft, change),
         _ => draft.unmake_rows(change),
     }
 }
 
 // Makes an edit again. The grid stays.
 fn forward_edit<T: Tally>(draft: &mut Draft<T>, change: &SmallRecord) -> Result<(), Memory>
-    requires place { IsTrue (is_in_place (edit_of change.now)) }
     requires given { GivesInRange (edit_of change.now) }
     requires made { (n : Map) × Belongs change.now (map_of draft.old) n }
     requires proper { IsProper (map_of draft.old) draft.old.table.rows (kept_at draft.old) }
@@ -325,7 +322,7 @@ fn forward_edit<T: Tally>(draft: &mut Draft<T>, change: &SmallRecord) -> Result<
         }
         SmallRecord::Divide { .. } => forward_divide(draft, change),
         SmallRecord::MergeAlong { .. } => forward_merge_along(draft, change),
-        SmallRecord::MergeIsland { .. } => unreachable!(),
+        SmallRecord::MergeIsland { .. } => forward_merge_island(draft, change),
         _ => draft.remake_rows(change),
     }
 }
@@ -345,7 +342,6 @@ fn exchange_of<T: Tally>(draft: &Draft<T>, change: &SmallRecord) -> Result<Excha
 
 /// Goes from the map after an edit to the map before it. Where memory runs out the map stays.
 pub(crate) fn play_back<T: Tally>(draft: &mut Draft<T>, change: &SmallRecord) -> Result<(), Memory>
-    requires place { IsTrue (is_in_place (edit_of change.now)) }
     requires given { GivesInRange (edit_of change.now) }
     requires made { (m : Map) × Belongs change.now m (map_of draft.old) }
     requires rest { IsAtRest draft.old }
@@ -372,7 +368,6 @@ pub(crate) fn play_back<T: Tally>(draft: &mut Draft<T>, change: &SmallRecord) ->
 
 /// Goes from the map before an edit to the map after it. Where memory runs out the map stays.
 pub(crate) fn play_again<T: Tally>(draft: &mut Draft<T>, change: &SmallRecord) -> Result<(), Memory>
-    requires place { IsTrue (is_in_place (edit_of change.now)) }
     requires given { GivesInRange (edit_of change.now) }
     requires made { (n : Map) × Belongs change.now (map_of draft.old) n }
     requires rest { IsAtRest draft.old }

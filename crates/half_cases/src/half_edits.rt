@@ -1,12 +1,11 @@
 //! Edits of maps on half-edges: each is answered as the plain store answers it, and comes to the same map; its record
 //! leads back and on again, on its own map and on another one. Where a growth is refused nothing has changed, and the
 //! same call is made again.
-ghost use Rattle.std.specs.Prelude.{◌≡◌, IsTrue, OnOk, OnErr, IfOk};
+ghost use Rattle.std.specs.Prelude.{◌≡◌, OnOk, OnErr, IfOk};
 ghost use Rattle.cad_map.specs.Map.{Map};
 ghost use Rattle.cad_map.specs.Valid.{IsValid};
 ghost use Rattle.map_parts.specs.Parts.{map_of as map_that_stands};
-ghost use Rattle.edit_records.specs.Record.{edit_of as edit_of_record, Belongs};
-ghost use Rattle.cad_surgery.specs.InPlace.{is_in_place as is_made_in_place};
+ghost use Rattle.edit_records.specs.Record.{Belongs};
 
 use crate::half_maps::half;
 use crate::plans::{SQUARE, edit_of, map_of};
@@ -111,7 +110,6 @@ fn make<R: Abort + AllocGlobal>(
     edit: &Edit,
 ) -> Result<Result<SmallRecord, Refusal>, Memory>
     requires valid { IsValid (map_that_stands store.old) }
-    requires place { IsTrue (is_made_in_place edit.now) }
     ensures recorded { IfOk result (λ made. IfOk made
         (λ r. Belongs r (map_that_stands store.old) (map_that_stands store.new))) }
     ensures err { IfOk result (λ made. OnErr made
@@ -135,7 +133,6 @@ fn go_back<R: Abort + AllocGlobal>(
 ) -> Result<(), Memory>
     requires valid { IsValid (map_that_stands store.old) }
     requires belongs { (before : Map) × Belongs change.now before (map_that_stands store.old) }
-    requires place { IsTrue (is_made_in_place (edit_of_record change.now)) }
     ensures { OnOk result ((before : Map) → Belongs change.now before (map_that_stands store.old)
         → map_that_stands store.new ≡ before) }
 {
@@ -157,7 +154,6 @@ fn go_forward<R: Abort + AllocGlobal>(
 ) -> Result<(), Memory>
     requires valid { IsValid (map_that_stands store.old) }
     requires belongs { (after : Map) × Belongs change.now (map_that_stands store.old) after }
-    requires place { IsTrue (is_made_in_place (edit_of_record change.now)) }
     ensures { OnOk result ((after : Map) → Belongs change.now (map_that_stands store.old) after
         → map_that_stands store.new ≡ after) }
 {
@@ -207,7 +203,6 @@ fn go_both_ways<R: Abort + AllocGlobal>(
     step: &Step,
 ) -> Result<(), Memory>
     requires belongs { (before : Map) × Belongs change.now before (map_that_stands store.old) }
-    requires place { IsTrue (is_made_in_place (edit_of_record change.now)) }
 {
     go_back(rt, store, change)?;
     check_text(rt, store, step.before)?;
@@ -223,20 +218,9 @@ fn go_on_another<R: Abort + AllocGlobal>(
     step: &Step,
 ) -> Result<(), Memory>
     requires belongs { (before : Map) × Belongs change.now before after.now }
-    requires place { IsTrue (is_made_in_place (edit_of_record change.now)) }
 {
     let mut other = HalfMap::of(rt.alloc(), after, Ticks::new())?;
     go_both_ways(rt, &mut other, change, step)
-}
-
-/// Whether the edit of a record is made on the half-edges of a map in place.
-fn is_record_in_place(change: &SmallRecord) -> bool
-    ensures { result ≡ is_made_in_place (edit_of_record change.now) }
-{
-    !matches!(
-        change,
-        SmallRecord::MergeAlong { .. } | SmallRecord::MergeIsland { .. }
-    )
 }
 
 /// Goes both ways by a record, on its own map and on another one.
@@ -248,7 +232,6 @@ fn check_record<R: Abort + AllocGlobal>(
 ) -> Result<(), Memory>
     requires { (before : Map) × Belongs change.now before (map_that_stands store.old) }
 {
-    assert!(rt; is_record_in_place(change));
     check_text(rt, store, step.after)?;
     let after = PlainMap::of_view(rt.alloc(), store)?;
     go_on_another(rt, &after, change, step)?;
@@ -263,7 +246,6 @@ fn check_made<R: Abort + AllocGlobal>(
     step: &Step,
 ) -> Result<(), Memory>
     requires valid { IsValid (map_that_stands store.old) }
-    requires place { IsTrue (is_made_in_place edit.now) }
 {
     match make(rt, store, edit)? {
         Ok(change) => {
@@ -277,13 +259,6 @@ fn check_made<R: Abort + AllocGlobal>(
     }
 }
 
-/// Whether an edit is made on the half-edges of a map in place.
-fn is_in_place(edit: &Edit) -> bool
-    ensures { result ≡ is_made_in_place edit.now }
-{
-    !matches!(edit, Edit::Merge { .. })
-}
-
 /// Makes an edit on the half-edges of a map.
 fn check_on_halves<R: Abort + AllocGlobal>(
     rt: &R,
@@ -293,7 +268,6 @@ fn check_on_halves<R: Abort + AllocGlobal>(
 ) -> Result<(), Memory>
     requires { IsValid map.now }
 {
-    assert!(rt; is_in_place(edit));
     let mut halves = HalfMap::of(rt.alloc(), map, Ticks::new())?;
     check_made(rt, &mut halves, edit, step)
 }

@@ -36,6 +36,10 @@ pub back_merge_along-requires-clause-merger : goal.back_merge_along-requires-cla
 back_merge_along-requires-clause-merger g c =
     rw c.in-MergeAlong.is tt
 
+pub back_merge_island-requires-clause-merger : goal.back_merge_island-requires-clause-merger
+back_merge_island-requires-clause-merger g c =
+    rw c.in-MergeIsland.is tt
+
 pub back_enclose-requires-clause-given : goal.back_enclose-requires-clause-given
 back_enclose-requires-clause-given g c =
     let same = same-lists c.in-Enclose.face c.in-Enclose.parcel c.in-Enclose.label c.in-Enclose.source _ _ _ _ c.as_slice.ensures c.as_slice-in-Enclose.ensures in
@@ -58,7 +62,8 @@ returns-in-Enclose-clause-work g c =
 
 pub unmake_rows-requires-clause-alone : goal.unmake_rows-requires-clause-alone
 unmake_rows-requires-clause-alone g c =
-    rows-of c.args.change.now c.requires.place c.in_default.not-Split c.in_default.not-Join c.in_default.not-Enclose c.in_default.not-Divide
+    rows-of c.args.change.now c.in_default.not-Split c.in_default.not-Join c.in_default.not-Enclose c.in_default.not-Divide
+    c.in_default.not-MergeAlong c.in_default.not-MergeIsland
 
 pub unmake_rows-requires-clause-made : goal.unmake_rows-requires-clause-made
 unmake_rows-requires-clause-made g c =

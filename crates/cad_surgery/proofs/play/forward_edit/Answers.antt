@@ -49,6 +49,10 @@ pub forward_merge_along-requires-clause-merger : goal.forward_merge_along-requir
 forward_merge_along-requires-clause-merger g c =
     rw c.in-MergeAlong.is tt
 
+pub forward_merge_island-requires-clause-merger : goal.forward_merge_island-requires-clause-merger
+forward_merge_island-requires-clause-merger g c =
+    rw c.in-MergeIsland.is tt
+
 pub forward_enclose-requires-clause-tried : goal.forward_enclose-requires-clause-tried
 forward_enclose-requires-clause-tried g c =
     let m = map_of c.args.draft.now in
@@ -66,7 +70,8 @@ returns-in-Enclose-clause-work g c =
 
 pub remake_rows-requires-clause-alone : goal.remake_rows-requires-clause-alone
 remake_rows-requires-clause-alone g c =
-    rows-of c.args.change.now c.requires.place c.in_default.not-Split c.in_default.not-Join c.in_default.not-Enclose c.in_default.not-Divide
+    rows-of c.args.change.now c.in_default.not-Split c.in_default.not-Join c.in_default.not-Enclose c.in_default.not-Divide
+    c.in_default.not-MergeAlong c.in_default.not-MergeIsland
 
 pub remake_rows-requires-clause-made : goal.remake_rows-requires-clause-made
 remake_rows-requires-clause-made g c =

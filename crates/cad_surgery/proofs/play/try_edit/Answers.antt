@@ -152,9 +152,37 @@ pub returns-in-Divide-clause-work : goal.returns-in-Divide-clause-work
 returns-in-Divide-clause-work g c =
     rw c.in-Divide.is c.try_divide.ensures.work
 
+pub try_merge-requires-clause-tried : goal.try_merge-requires-clause-tried
+try_merge-requires-clause-tried g c =
+    rw c.in-Merge.is at c.requires.tried
+
+pub try_merge-requires-clause-held : goal.try_merge-requires-clause-held
+try_merge-requires-clause-held g c =
+    rw c.in-Merge.is at c.requires.held
+
+pub try_merge-requires-clause-touched : goal.try_merge-requires-clause-touched
+try_merge-requires-clause-touched g c =
+    rw c.in-Merge.is at c.requires.touched
+
+pub returns-in-Merge-clause-made : goal.returns-in-Merge-clause-made
+returns-in-Merge-clause-made g c =
+    rw c.in-Merge.is c.try_merge.ensures.made
+
+pub returns-in-Merge-clause-edit : goal.returns-in-Merge-clause-edit
+returns-in-Merge-clause-edit g c =
+    rw c.in-Merge.is c.try_merge.ensures.edit
+
+pub returns-in-Merge-clause-refused : goal.returns-in-Merge-clause-refused
+returns-in-Merge-clause-refused g c =
+    rw c.in-Merge.is c.try_merge.ensures.refused
+
+pub returns-in-Merge-clause-work : goal.returns-in-Merge-clause-work
+returns-in-Merge-clause-work g c =
+    rw c.in-Merge.is c.try_merge.ensures.work
+
 pub try_rows-requires-clause-alone : goal.try_rows-requires-clause-alone
 try_rows-requires-clause-alone g c =
-    rows-left c.args.edit.now c.requires.place c.in_default.not-Split c.in_default.not-Join c.in_default.not-Enclose c.in_default.not-Divide
+    rows-left c.args.edit.now c.in_default.not-Split c.in_default.not-Join c.in_default.not-Enclose c.in_default.not-Divide c.in_default.not-Merge
 
 pub returns-in_default-clause-grid : goal.returns-in_default-clause-grid
 returns-in_default-clause-grid g c =
