@@ -1,5 +1,5 @@
 //! A job, from bytes to bytes.
-ghost use Rattle.std.specs.Prelude.{◌≡◌, ◌++◌, [], ℕ, List, Some, ◌⊎◌, Err, IfOk, IfSome, OnOk, IsErrOf};
+ghost use Rattle.std.specs.Prelude.{◌≡◌, ◌≢◌, ◌++◌, [], ℕ, List, Some, ◌⊎◌, Err, IfOk, IfErr, IfSome, OnOk, IsErrOf};
 ghost use Rattle.std.specs.Io.KnownBytes.{Appends, Keeps};
 ghost use Rattle.csv.specs.Reading.{strip_bom};
 ghost use Rattle.csv.specs.Records.{fields_of};
@@ -9,20 +9,24 @@ ghost use Rattle.cad_history.specs.Standing.{StandsFor, StandsForSome};
 ghost use Rattle.cad_files.specs.Input.{HasRead};
 ghost use Rattle.cad_files.specs.Rows.{Rows};
 ghost use Rattle.cad_files.specs.Plan.{plan_of, opened};
+ghost use Rattle.cad_files.specs.Building.{IsBuilt, IsBuildFault};
+ghost use Rattle.cad_files.specs.declared.faults.PlanFault.TheVariants as faults;
 ghost use Rattle.cad_files.specs.Line.{line_of};
+ghost use Rattle.map_parts.specs.Parts.{map_of};
 ghost use Rattle.cad_files.specs.Sinks.{counted_up};
 ghost use Rattle.cad_job.specs.Jobs.{IsAnswered, DoesScript, DoesJob, job_fault};
 
 use crate::faults::JobFault;
-use cad_edit::PlainStore;
 use cad_files::{
-    InputFault, Line, LineFault, PlanFault, Sink, answer_text, area_text, build, next_row,
-    outline_text, plan_text, read_line, read_plan, syntax_text, write_all,
+    InputFault, Line, LineFault, PlanFault, PlanRows, Sink, answer_text, area_text, build,
+    next_row, outline_text, plan_text, read_line, read_plan, syntax_text, write_all,
 };
 use cad_history::{Answer, Command, Depth, Editor, step};
 use cad_map::{MapStore, MapView};
 use cad_rows::{Memory, Refusal};
+use cad_surgery::HalfMap;
 use csv::{ByteRecord, Reader, ReaderBuilder};
+use half_table::Ticks;
 use std::alloc::Global;
 use std::io::Read;
 
@@ -62,15 +66,27 @@ pub fn run_job<R: Read + Drop, S: Sink>(
         Ok(rows) => rows,
         Err(fault) => return Err(fault_of_plan(fault)),
     };
-    let map = match build(alloc, &rows) {
-        Ok(map) => map,
+    let store = match store_of(alloc, &rows) {
+        Ok(store) => store,
         Err(fault) => return Err(fault_of_plan(fault)),
     };
-    run_script(alloc, &mut reader, PlainStore { map }, sink, depth)
+    run_script(alloc, &mut reader, store, sink, depth)
 }
 
-/// Does the records of a script that are left, and writes each one's answer.
-fn run_script<R: Read, S: Sink, M: MapStore + Drop>(
+/// The map of a plan's rows on half-edges, on which a script is done. A fault is that of [`build`].
+fn store_of(alloc: Global, rows: &PlanRows) -> Result<HalfMap<Ticks>, PlanFault>
+    ensures ok { IfOk result (λ store. IsBuilt rows.now (map_of store)) }
+    ensures err { IfErr result (λ fault. fault ≢ faults.Memory → IsBuildFault rows.now fault) }
+{
+    let map = build(alloc, rows)?;
+    match HalfMap::of(alloc, &map, Ticks::new()) {
+        Ok(store) => Ok(store),
+        Err(_) => Err(PlanFault::Memory),
+    }
+}
+
+/// Does the records of a script that are left, on a store of the plan's map, and writes each one's answer.
+pub fn run_script<R: Read, S: Sink, M: MapStore + Drop>(
     alloc: Global,
     reader: &mut Reader<R>,
     store: M,

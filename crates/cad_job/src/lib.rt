@@ -9,6 +9,6 @@ mod program;
 
 pub use args::{ARGUMENTS_STATUS, Args, args_status, read_args};
 pub use faults::{JobFault, status};
-pub use job::run_job;
+pub use job::{run_job, run_script};
 pub use path::run_path;
 pub use program::{run_words, tell};
