@@ -4,11 +4,11 @@ ghost use Rattle.cad_rings.specs.Surgery.{corner};
 ghost use Rattle.cad_map.specs.Map.{has_point};
 ghost use Rattle.cad_map.specs.Valid.{HasSoundRows, is_empty_corner as is_empty_corner_of, has_empty_corners as has_empty_corners_of};
 ghost use Rattle.cad_map.specs.Rings.{HasWholeRings};
-ghost use Rattle.cad_valid.specs.Corners.{is_clear_of as is_clear_of_corner, is_empty_after as is_empty_after_side, are_empty_beside as are_empty_beside_string};
+ghost use Rattle.cad_valid.specs.Corners.{is_clear_of_sector, is_empty_after as is_empty_after_side, are_empty_beside as are_empty_beside_string};
 
 use cad_map::{MapView, position};
 use cad_rows::{PointNo, StringRow};
-use geo_exact::in_sector;
+use geo_exact::{Pt, in_sector};
 
 /// Whether no string lies in the sector of a corner of a ring. Each corner is met by the side before it, which is a
 /// side of a string.
@@ -52,29 +52,34 @@ fn is_empty_corner<M: MapView>(map: &M, before: PointNo, at: PointNo, after: Poi
     requires after_in { IsTrue (has_point (M.map map.now) after) }
     ensures { result ≡ is_empty_corner_of (M.map map.now) (corner before at after) }
 {
+    let sector = Sector {
+        at: position(map, at),
+        after: position(map, after),
+        before: position(map, before),
+    };
     for place in 0..map.degree(at) {
         let string = map.string_with(at, place).unwrap();
-        if !is_clear_of(map, before, at, after, string) {
+        if !is_clear_of(map, at, &sector, string) {
             return false;
         }
     }
     true
 }
 
-/// Whether a string doesn't lie in the sector of the corner at a point of a ring.
-fn is_clear_of<M: MapView>(
-    map: &M,
-    before: PointNo,
-    at: PointNo,
-    after: PointNo,
-    string: &StringRow,
-) -> bool
-    requires before_in { IsTrue (has_point (M.map map.now) before) }
-    requires at_in { IsTrue (has_point (M.map map.now) at) }
-    requires after_in { IsTrue (has_point (M.map map.now) after) }
+/// Where the corner at a point of a ring lies, and the points after and before it in the ring.
+#[derive(Clone, Copy, Debug)]
+struct Sector {
+    at: Pt,
+    after: Pt,
+    before: Pt,
+}
+
+/// Whether a string doesn't lie in the sector of a corner. `at`: the corner's point.
+fn is_clear_of<M: MapView>(map: &M, at: PointNo, sector: &Sector, string: &StringRow) -> bool
     requires from_in { IsTrue (has_point (M.map map.now) string.now.from) }
     requires to_in { IsTrue (has_point (M.map map.now) string.now.to) }
-    ensures { result ≡ is_clear_of_corner (M.map map.now) (corner before at after) string.now }
+    ensures { result ≡ is_clear_of_sector (M.map map.now) at sector.now.at sector.now.after
+        sector.now.before string.now }
 {
     let far = if string.from.get() == at.get() {
         string.to
@@ -83,10 +88,5 @@ fn is_clear_of<M: MapView>(
     } else {
         return true;
     };
-    !in_sector(
-        position(map, at),
-        position(map, after),
-        position(map, before),
-        position(map, far),
-    )
+    !in_sector(sector.at, sector.after, sector.before, position(map, far))
 }

@@ -94,7 +94,7 @@ fn has_empty_corners<M: MapView>(map: &M, touched: &Touched) -> bool
     ensures { IsTrue result ↔ Keeps (M.map map.now) V6 }
 {
     are_empty_at(map, touched.points.as_slice())
-        && are_empty_at_ends(map, touched.strings.as_slice())
+        && are_empty_at_ends(map, touched.strings.as_slice(), touched.points.as_slice())
 }
 
 /// Whether each parcel has one outline and the outside none. A face that wasn't touched has its own

@@ -16,7 +16,7 @@ use Rattle.cad_rings.proofs.CallerLemmas.{sides_of-least_rotation}
 use Rattle.cad_map.specs.declared.boundary.Boundary.{Boundary}
 use Rattle.cad_map.specs.Boundaries.{is_face, canonical_form, canonical_order}
 use Rattle.cad_map.specs.Effects.{after}
-use Rattle.cad_map.specs.Map.{Map, string_of, strings_at, side_of, is_end, rings_at, all_sides}
+use Rattle.cad_map.specs.Map.{Map, string_of, strings_at, side_of, is_end, far_end, rings_at, all_sides}
 use Rattle.cad_map.specs.Merger.{ChainInRings, shared_chains, shared_sides}
 use Rattle.cad_map.specs.Touched.{Touched, IsTouched, StringStands, neighbours}
 use Rattle.cad_map.specs.Valid.{IsValid}
@@ -70,29 +70,61 @@ or-cases : (a b : Bool) → (a || b) ≡ true → (a ≡ true) ⊎ (b ≡ true)
 or-cases true b is = inl refl
 or-cases false b is = inr is
 
+-- the far end of a string from one of its ends
+far-from : (s : StringRow) (p : ℕ) → nat_eq s.from p ≡ true → far_end s p ≡ s.to
+far-from s p same = rw same refl
+
+far-to : (s : StringRow) (p : ℕ) → nat_eq s.from p ≡ false → far_end s p ≡ s.from
+far-to s p other = rw other refl
+
+to-is : (s : StringRow) (p : ℕ) → nat_eq s.from p ≡ false → IsTrue (is_end s p) → s.to ≡ p
+to-is s p other end = eqb-true s.to p (rw other at end)
+
+far-is : (s : StringRow) (p q : ℕ) → ((p, q) ≡ side_of s) ⊎ ((p, q) ≡ opposite (side_of s)) → far_end s p ≡ q
+far-is s p q is = by (nat_eq s.from p) refl
+  where
+    by : (b : Bool) → nat_eq s.from p ≡ b → far_end s p ≡ q
+    by true same =
+        far-from s p same ∙ elim is [
+          | inl along ↦ sym (ap (λ (t : Side). t.1) along)
+          | inr back ↦ sym (ap (λ (t : Side). t.0) back) ∙ sym (eqb-true s.from p same) ∙ sym (ap (λ (t : Side). t.1) back)
+        ]
+    by false other =
+        far-to s p other ∙ elim is [
+          | inl along ↦ absurd (true≢false (sym (eq-eqb s.from p (sym (ap (λ (t : Side). t.0) along))) ∙ other))
+          | inr back ↦ sym (ap (λ (t : Side). t.1) back)
+        ]
+
 module _ (m : Map) (valid : IsValid m) where
-  -- a ring that passes a point goes along one of its strings
-  pub record GoesAlong (p : ℕ) (ring : Ring) : Type 0 where
+  -- a ring that passes a point leaves it along one of its strings
+  pub record LeavesAlong (p : ℕ) (ring : Ring) : Type 0 where
     pub string : StringRow
     pub there : Contains (strings_at m p) string
-    pub along : IsTrue (goes_along string ring)
+    pub out : Contains {X = Side} (sides_of ring) (p, far_end string p)
 
-  pub goes-along : (p : ℕ) (b : Boundary) → Contains m.boundaries b → IsTrue (passes p b.ring) → GoesAlong p b.ring
-  goes-along p b among has =
+  pub leaves-along : (p : ℕ) (b : Boundary) → Contains m.boundaries b → IsTrue (passes p b.ring) → LeavesAlong p b.ring
+  leaves-along p b among has =
       let side = side-passing p b.ring has in
       let s = of_string m valid (p, side.0) (Contains-flat_map (λ (c : Boundary). sides_of c.ring) m.boundaries b (p, side.0) among side.1) in
-      elim s.is [
-        | inl is ↦ record {
-          string = s.string;
-          there = Contains-filter (λ r. is_end r p) m.strings s.string s.there (or-left _ _ (eq-eqb s.string.from p (sym (ap (λ (t : Side). t.0) is))));
-          along = or-left _ _ (Contains-has_side (side_of s.string) (sides_of b.ring) (subst (Contains (sides_of b.ring)) is side.1));
-        }
-        | inr is ↦ record {
-          string = s.string;
-          there = Contains-filter (λ r. is_end r p) m.strings s.string s.there (or-right _ _ (eq-eqb s.string.to p (sym (ap (λ (t : Side). t.0) is))));
-          along = or-right _ _ (Contains-has_side (opposite (side_of s.string)) (sides_of b.ring) (subst (Contains (sides_of b.ring)) is side.1));
-        }
-      ]
+      record {
+        string = s.string;
+        there = Contains-filter (λ r. is_end r p) m.strings s.string s.there (elim s.is [
+          | inl is ↦ or-left _ _ (eq-eqb s.string.from p (sym (ap (λ (t : Side). t.0) is)))
+          | inr is ↦ or-right _ _ (eq-eqb s.string.to p (sym (ap (λ (t : Side). t.0) is)))
+        ]);
+        out = subst (λ (q : ℕ). Contains {X = Side} (sides_of b.ring) (p, q)) (sym (far-is s.string p side.0 s.is)) side.1;
+      }
+
+  -- the face of that ring is the one on the string's side that leads away from the point
+  pub face-out : (n : ℕ) (left right : Face) (s : StringRow) (p : ℕ) (b : Boundary) → HasFaces m n left right → string_of m n ≡ Some s → IsTrue (is_end s p)
+      → Contains m.boundaries b → Contains {X = Side} (sides_of b.ring) (p, far_end s p) → ((nat_eq s.from p ≡ true) → left ≡ b.face) × ((nat_eq s.from p ≡ false) → right ≡ b.face)
+  face-out n left right s p b told is end among out =
+      let faces = faces-told m valid n s left right is told in (
+        (λ same. same_Some left b.face (sym faces.0 ∙ one_ring m valid (side_of s) b among
+        (subst (Contains {X = Side} (sides_of b.ring)) (λ i. (sym (eqb-true s.from p same) i, far-from s p same i)) out))),
+        (λ other. same_Some right b.face (sym faces.1 ∙ one_ring m valid (opposite (side_of s)) b among
+        (subst (Contains {X = Side} (sides_of b.ring)) (λ i. (sym (to-is s p other end) i, far-to s p other i)) out))),
+      )
 
   -- the faces of the rings that go along a string are those on its sides
   pub face-along : (n : ℕ) (left right : Face) (s : StringRow) (b : Boundary) → HasFaces m n left right → string_of m n ≡ Some s → Contains m.boundaries b → IsTrue (goes_along s b.ring)

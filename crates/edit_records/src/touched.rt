@@ -7,7 +7,7 @@ ghost use Rattle.cad_rows.specs.declared.names.Face.TheVariants as face_of;
 ghost use Rattle.cad_rows.specs.declared.rows.StringRow.{StringRow as StringOf};
 ghost use Rattle.cad_map.specs.declared.boundary.Boundary.{Boundary as BoundaryOf};
 ghost use Rattle.cad_map.specs.Effects.{after};
-ghost use Rattle.cad_map.specs.Map.{rings_at, string_of, strings_at};
+ghost use Rattle.cad_map.specs.Map.{far_end as far_end_of, rings_at, string_of, strings_at};
 ghost use Rattle.cad_map.specs.Rings.{HasWholeRings, ring_at};
 ghost use Rattle.cad_map.specs.Touched.{IsTouched, neighbours};
 ghost use Rattle.cad_map.specs.Valid.{IsValid};
@@ -17,7 +17,7 @@ ghost use Rattle.cad_laws.specs.Tried.{IsTried};
 ghost use Rattle.cad_valid.specs.Near.{touched_of};
 
 use cad_map::{MapView, Walk, far_end, is_face, ring_count};
-use cad_rows::{Edit, Face, Memory, ParcelNo, PointNo, StringNo};
+use cad_rows::{Edit, Face, Memory, ParcelNo, PointNo, StringNo, StringRow};
 use cad_valid::Touched;
 use std::alloc::Global;
 
@@ -42,7 +42,23 @@ pub(crate) fn add_faces<M: MapView>(
     Ok(())
 }
 
-/// The faces of the rings that pass a point.
+/// The face of the ring that leaves a point along one of its strings.
+fn face_out<M: MapView>(map: &M, point: PointNo, string: &StringRow) -> Face
+    requires valid { IsValid (M.map map.now) }
+    requires there { Contains (strings_at (M.map map.now) point) string.now }
+    ensures { (b : BoundaryOf) → Contains (M.map map.now).boundaries b
+        → Contains {X = Side} (sides_of b.ring) (point, far_end_of string.now point)
+        → result ≡ b.face }
+{
+    let (left, right) = map.left_right(string.number).unwrap();
+    if string.from.get() == point.get() {
+        left
+    } else {
+        right
+    }
+}
+
+/// The faces of the rings that pass a point: each ring leaves it along one of its strings.
 pub(crate) fn faces_at<M: MapView>(
     alloc: Global,
     map: &M,
@@ -55,7 +71,7 @@ pub(crate) fn faces_at<M: MapView>(
     let mut faces = Vec::new(alloc);
     for place in 0..map.degree(point) {
         let row = map.string_with(point, place).unwrap();
-        add_faces(&mut faces, map, row.number)?;
+        faces.push(face_out(map, point, row))?;
     }
     Ok(faces)
 }

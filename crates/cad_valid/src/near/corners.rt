@@ -1,11 +1,11 @@
 //! Whether the corners at touched points, and at the ends of touched strings, are empty.
-ghost use Rattle.std.specs.Prelude.{◌↔◌, IsTrue};
+ghost use Rattle.std.specs.Prelude.{◌≡◌, ◌↔◌, IsTrue, IfSome, drop, take};
 ghost use Rattle.std.specs.List.{AllByRecursion};
 ghost use Rattle.cad_map.specs.Rings.{HasWholeRings};
 ghost use Rattle.cad_valid.specs.Near.{OfString, HasEmptyCornersAt, HasEmptyEnds};
 
 use crate::corners::is_empty_after;
-use cad_map::{MapView, far_end};
+use cad_map::{MapView, far_end, is_end};
 use cad_rows::{PointNo, StringNo, StringRow};
 
 /// Whether the corners at each of these points are empty.
@@ -16,34 +16,74 @@ pub(crate) fn are_empty_at<M: MapView>(map: &M, points: &[PointNo]) -> bool
     points.iter().all(|point| has_empty_corners(map, *point))
 }
 
-/// Whether the corners at both ends of each of these strings are empty.
-pub(crate) fn are_empty_at_ends<M: MapView>(map: &M, strings: &[StringNo]) -> bool
-    requires { HasWholeRings (M.map map.now) }
+/// Whether the corners at both ends of each of these strings are empty, where those at these points
+/// are. Strings that an edit touched often come in the order of these points, or share an end: one
+/// that stands at a string's place or the next, or that the string before has, isn't looked at again.
+pub(crate) fn are_empty_at_ends<M: MapView>(
+    map: &M,
+    strings: &[StringNo],
+    points: &[PointNo],
+) -> bool
+    requires whole { HasWholeRings (M.map map.now) }
+    requires points { AllByRecursion (HasEmptyCornersAt (M.map map.now)) points.now }
     ensures { IsTrue result
         ↔ AllByRecursion (OfString (M.map map.now) (HasEmptyEnds (M.map map.now))) strings.now }
 {
-    strings
-        .iter()
-        .all(|string| has_empty_ends_if_there(map, *string))
-}
-
-/// Whether the corners at both ends of the string with a number are empty.
-fn has_empty_ends_if_there<M: MapView>(map: &M, string: StringNo) -> bool
-    requires { HasWholeRings (M.map map.now) }
-    ensures { IsTrue result ↔ OfString (M.map map.now) (HasEmptyEnds (M.map map.now)) string }
-{
-    match map.string(string) {
-        Some(row) => has_empty_ends(map, row),
-        None => true,
+    let mut before: Option<&StringRow> = None;
+    for place in 0..strings.len() {
+        if let Some(string) = map.string(strings[place]) {
+            if !has_empty_ends(map, string, before, two_from(points, place)) {
+                return false;
+            }
+            before = Some(string);
+        }
     }
+    true
 }
 
-/// Whether the corners at both ends of a string are empty.
-fn has_empty_ends<M: MapView>(map: &M, string: &StringRow) -> bool
-    requires { HasWholeRings (M.map map.now) }
+/// The point at a place and the next, so far as there are any.
+fn two_from(points: &[PointNo], place: usize) -> &[PointNo]
+    ensures { result.now ≡ take 2 (drop place points.now) }
+{
+    let rest = &points[place.min(points.len())..];
+    &rest[..rest.len().min(2)]
+}
+
+/// Whether the corners at both ends of a string are empty, where those at the ends of the string
+/// before and at these points are.
+fn has_empty_ends<M: MapView>(
+    map: &M,
+    string: &StringRow,
+    before: Option<&StringRow>,
+    points: &[PointNo],
+) -> bool
+    requires whole { HasWholeRings (M.map map.now) }
+    requires before { IfSome before (λ s. HasEmptyEnds (M.map map.now) s.now) }
+    requires points { AllByRecursion (HasEmptyCornersAt (M.map map.now)) points.now }
     ensures { IsTrue result ↔ HasEmptyEnds (M.map map.now) string.now }
 {
-    has_empty_corners(map, string.from) && has_empty_corners(map, string.to)
+    is_empty_end(map, string.from, before, points) && is_empty_end(map, string.to, before, points)
+}
+
+/// Whether the corners at a point are empty, where those at the ends of the string before and at
+/// these points are.
+fn is_empty_end<M: MapView>(
+    map: &M,
+    end: PointNo,
+    before: Option<&StringRow>,
+    points: &[PointNo],
+) -> bool
+    requires whole { HasWholeRings (M.map map.now) }
+    requires before { IfSome before (λ s. HasEmptyEnds (M.map map.now) s.now) }
+    requires points { AllByRecursion (HasEmptyCornersAt (M.map map.now)) points.now }
+    ensures { IsTrue result ↔ HasEmptyCornersAt (M.map map.now) end }
+{
+    if let Some(string) = before {
+        if is_end(string, end) {
+            return true;
+        }
+    }
+    points.contains(&end) || has_empty_corners(map, end)
 }
 
 /// Whether the corners at a point are empty. Each is met by the side before it, which is a side of

@@ -1,14 +1,22 @@
 use Rattle.std.proofs.Common.{◌≡◌, ◌∙◌, ◌≤◌, ℕ, refl, sym, ap, subst, Bool, true, false, true≢false, length, arith}
 use Rattle.std.proofs.lemmas.List.Sorted.{length_permutation}
 use Rattle.std.specs.Prelude.{IsTrue}
+use Rattle.geo_exact.specs.Position.{Position}
+use Rattle.cad_rows.specs.declared.rows.StringRow.{StringRow}
+use Rattle.cad_rings.specs.Cycle.{Corner}
 use Rattle.cad_rings.specs.Surgery.{corner}
-use Rattle.cad_map.specs.Map.{strings_at, has_point}
+use Rattle.cad_map.specs.Map.{Map, strings_at, has_point, position_of}
 use Rattle.cad_map.specs.Valid.{is_empty_corner}
 use Rattle.cad_map.proofs.CallerLemmas.{All-at_each, lent-some, lent-is}
-use Rattle.cad_valid.specs.Corners.{is_clear_of}
+use Rattle.cad_valid.specs.Corners.{is_clear_of, is_clear_of_sector}
 use Rattle.cad_valid.proofs.NearCorners.{clear-far, empty-is}
 use Rattle.cad_valid.proofs.StarTests.{passed-all, passed-more, told-there}
 use Rattle.cad_valid.proofs.corners.is_empty_corner.Goals as goal
+
+-- positions that were looked up once serve each string
+clear-is : (m : Map) (c : Corner) (at after before : Position) (s : StringRow) → at ≡ position_of m c.at → after ≡ position_of m c.after → before ≡ position_of m c.before
+    → is_clear_of_sector m c.at at after before s ≡ is_clear_of m c s
+clear-is m c at after before s here on back = λ i. is_clear_of_sector m c.at (here i) (on i) (back i) s
 
 pub unwrap-string-requires : goal.unwrap-string-requires
 unwrap-string-requires g c =
@@ -46,7 +54,8 @@ returns-then-not-is_clear_of g c =
     let row = c.unwrap-string.result.now in
     let told = lent-is c.string_with.result c.unwrap-string.result strings c.loop-place.place c.string_with.ensures.string c.unwrap-string.ensures in
     let there = told-there m c.args.at (is_clear_of m met) strings c.loop-place.place row told c.string_with.ensures.each in
-    let fails = sym c.is_clear_of.ensures ∙ c.if-not-is_clear_of.true in
+    let is : c.is_clear_of.result ≡ is_clear_of m met row = c.is_clear_of.ensures ∙ clear-is m met _ _ _ row c.position.ensures c.position-2.ensures c.position-3.ensures in
+    let fails = sym is ∙ c.if-not-is_clear_of.true in
     by (is_empty_corner m met) refl (λ empty. true≢false (sym ((empty-is m met).0 empty row there.0) ∙ fails))
   where
     by : {e : Bool} → (b : Bool) → e ≡ b → (e ≡ true → ⊥) → false ≡ e
@@ -59,8 +68,9 @@ loop-place-preserved g c =
     let met = corner c.args.before c.args.at c.args.after in
     let strings = g.M.MapView.view_strings c.args.map.now c.args.at in
     let told = lent-is c.string_with.result c.unwrap-string.result strings c.loop-place.place c.string_with.ensures.string c.unwrap-string.ensures in
-    passed-more m c.args.at (is_clear_of m met) strings c.loop-place.place c.loop-place.invariant c.unwrap-string.result.now told c.string_with.ensures.each
-    (sym c.is_clear_of.ensures ∙ c.if-not-is_clear_of.false)
+    let row = c.unwrap-string.result.now in
+    let is : c.is_clear_of.result ≡ is_clear_of m met row = c.is_clear_of.ensures ∙ clear-is m met _ _ _ row c.position.ensures c.position-2.ensures c.position-3.ensures in
+    passed-more m c.args.at (is_clear_of m met) strings c.loop-place.place c.loop-place.invariant row told c.string_with.ensures.each (sym is ∙ c.if-not-is_clear_of.false)
 
 pub returns : goal.returns
 returns g c =

@@ -7,4 +7,4 @@ use Rattle.cad_valid.proofs.corners.is_empty_corner.Given as goal
 abbrev pub invariant-loop-place : goal.invariant-loop-place
 invariant-loop-place g l =
     let m = g.M.MapView.map l.map in
-    HavePassed m l.at (is_clear_of m (corner l.before l.at l.after)) (g.M.MapView.view_strings l.map l.at) l.place
+    HavePassed m l.at (is_clear_of m (corner l.fn.before l.at l.fn.after)) (g.M.MapView.view_strings l.map l.at) l.place
