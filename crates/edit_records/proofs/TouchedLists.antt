@@ -121,9 +121,9 @@ module _ (m : Map) (valid : IsValid m) where
   face-out n left right s p b told is end among out =
       let faces = faces-told m valid n s left right is told in (
         (λ same. same_Some left b.face (sym faces.0 ∙ one_ring m valid (side_of s) b among
-        (subst (Contains {X = Side} (sides_of b.ring)) (λ i. (sym (eqb-true s.from p same) i, far-from s p same i)) out))),
+            (subst (Contains {X = Side} (sides_of b.ring)) (λ i. (sym (eqb-true s.from p same) i, far-from s p same i)) out))),
         (λ other. same_Some right b.face (sym faces.1 ∙ one_ring m valid (opposite (side_of s)) b among
-        (subst (Contains {X = Side} (sides_of b.ring)) (λ i. (sym (to-is s p other end) i, far-to s p other i)) out))),
+            (subst (Contains {X = Side} (sides_of b.ring)) (λ i. (sym (to-is s p other end) i, far-to s p other i)) out))),
       )
 
   -- the faces of the rings that go along a string are those on its sides
