@@ -10,7 +10,7 @@ use Rattle.half_table.specs.declared.half.Half.{Half}
 use Rattle.half_table.specs.declared.links.Links.{Links}
 use Rattle.half_table.specs.declared.links.Ends.{Ends}
 use Rattle.half_table.specs.Half.{is_half}
-use Rattle.half_table.specs.Rows.{HalfRows, links_at, links_of}
+use Rattle.half_table.specs.Rows.{HalfRows, links_at, links_of, strings}
 use Rattle.half_table.specs.Writes.{changed_at, with_links_at, ChangesLinks, ChangesNext, ChangesPrev, ChangesFace}
 use Rattle.half_table.proofs.Halves.{is_half-self, cases_half}
 
@@ -43,6 +43,12 @@ changed-put old new h to e there put g = by (nat_eq h.string g.string) refl
         turned : (b : Bool) → nat_eq g.string h.string ≡ b → nat_eq g.string h.string ≡ false
         turned true q = absurd (true≢false (sym ((Decides-eqb h.string g.string).1 (sym ((Decides-eqb g.string h.string).0 q))) ∙ p))
         turned false q = q
+
+-- ends that are written anew change the links of one half
+pub written : (old new : HalfRows) (h : Half) (to : Links) (e : Ends) → lookup (nat_eq h.string) old ≡ Some e
+    → ((q : ℕ) → lookup (nat_eq q) new ≡ cond (nat_eq h.string q) (Some (with_links_at h.forward to e)) (lookup (nat_eq q) old))
+    → strings new ≡ strings old → ChangesLinks h to old new
+written old new h to e there put same = record { strings = same; links = changed-put old new h to e there put }
 
 module _ (old new : HalfRows) (h : Half) (l to : Links) (there : links_of old h ≡ Some l) (put : (g : Half) → links_of new g ≡ changed_at h to (links_of old) g) where
   -- what the change leaves

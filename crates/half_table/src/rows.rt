@@ -29,33 +29,14 @@ pub(crate) fn next_half(rows: &Rows, h: &Half) -> Half
     }
 }
 
-fn put_ends(rows: &mut Rows, string: StringNo, to: Ends)
-    requires { ContainsKey nat_eq rows.old string }
-    ensures put { Updates nat_eq rows.old rows.new string (Some to) }
-    ensures strings { strings rows.new.entries ≡ strings rows.old.entries }
-{
-    if let Some(ends) = rows.get_mut(&string) {
-        *ends = to;
-    }
-}
-
-// Writes other links of a half.
-fn put_links(rows: &mut Rows, h: &Half, to: Links)
-    requires { has rows.old.entries h.now ≡ true }
-    ensures { ChangesLinks h.now to rows.old.entries rows.new.entries }
-{
-    if let Some(ends) = rows.get(&h.string).copied() {
-        put_ends(rows, h.string, ends.with(h.forward, to));
-    }
-}
-
 /// Links a half to another next.
 pub(crate) fn set_next(rows: &mut Rows, h: &Half, to: &Half)
     requires { has rows.old.entries h.now ≡ true }
     ensures { ChangesNext h.now to.now rows.old.entries rows.new.entries }
 {
-    if let Some(links) = find_links(rows, h) {
-        put_links(rows, h, Links { next: *to, ..links });
+    if let Some(ends) = rows.get_mut(&h.string) {
+        let links = ends.at(h.forward);
+        *ends = ends.with(h.forward, Links { next: *to, ..links });
     }
 }
 
@@ -64,8 +45,9 @@ pub(crate) fn set_prev(rows: &mut Rows, h: &Half, to: &Half)
     requires { has rows.old.entries h.now ≡ true }
     ensures { ChangesPrev h.now to.now rows.old.entries rows.new.entries }
 {
-    if let Some(links) = find_links(rows, h) {
-        put_links(rows, h, Links { prev: *to, ..links });
+    if let Some(ends) = rows.get_mut(&h.string) {
+        let links = ends.at(h.forward);
+        *ends = ends.with(h.forward, Links { prev: *to, ..links });
     }
 }
 
@@ -74,7 +56,8 @@ pub(crate) fn set_face(rows: &mut Rows, h: &Half, to: &Face)
     requires { has rows.old.entries h.now ≡ true }
     ensures { ChangesFace h.now to.now rows.old.entries rows.new.entries }
 {
-    if let Some(links) = find_links(rows, h) {
-        put_links(rows, h, Links { face: *to, ..links });
+    if let Some(ends) = rows.get_mut(&h.string) {
+        let links = ends.at(h.forward);
+        *ends = ends.with(h.forward, Links { face: *to, ..links });
     }
 }
