@@ -1,0 +1,267 @@
+#!/usr/bin/env python3
+"""Makes edit scripts on a grid of parcels, for bin/bench --edits.
+
+    bin/edit_scripts.py KIND SIZE [RECORDS]     writes such a script, of 20,000 records if not given
+
+The grid is that of `bin/bench --write grid SIZE`; a job is that plan and the script. Kinds, over and over, each time at
+another parcel, string or point:
+
+    divide-undo   a parcel divided across, and undo
+    divide-merge  a parcel divided across, and merged again; 100,000 mergers at most, as retired numbers have a limit
+    chain         two points added, a parcel divided along a chain through them, three undo
+    split-join    a string split near its middle, and joined again
+    move          a point, to another place near it
+    points        a point added, and dropped
+    enclose       three points added and made an island, four undo
+    attach        a source attached to a string and detached, a parcel renamed
+    undo-walk     1,000 divisions and moves, then all of them undone and redone, again and again
+    mixed         all of these but joins and islands, undo and redo at any moment, an outline now and then, and two
+                  edits of a hundred that are refused
+
+The same call gives the same script. Outside `mixed` nothing is refused, where 1,000 edits can be undone.
+"""
+import itertools
+import sys
+
+SIDE = 10_000
+NEW_POINT, NEW_STRING, NEW_PARCEL = 200_001, 400_001, 200_001
+
+
+class Grid:
+    """The numbers and positions of a grid's points, parcels and strings."""
+
+    def __init__(self, size):
+        self.size = size
+
+    def point(self, column, row):
+        return row * (self.size + 1) + column + 1
+
+    def parcel(self, column, row):
+        """The parcel to the north-east of a point; 0, the outside, where there is none."""
+        return row * self.size + column + 1 if 0 <= column < self.size and 0 <= row < self.size else 0
+
+    def eastward(self, column, row):
+        """The string from a point to the next one in the east."""
+        return row * self.size + column + 1
+
+    def northward(self, column, row):
+        """The string from a point to the next one in the north."""
+        return self.size * (self.size + 1) + row * (self.size + 1) + column + 1
+
+    def position(self, column, row):
+        """A place a little off the lattice, so that few points lie on one line."""
+        return column * SIDE + (column * 7 + row * 13) % 41, row * SIDE + (column * 11 + row * 5) % 37
+
+    def across(self, column, row, *inner):
+        """A chain through a parcel, from its south-west to its north-east, as a list of points."""
+        chain = (self.point(column, row), *inner, self.point(column + 1, row + 1))
+        return ' '.join(str(point) for point in chain)
+
+
+class Draws:
+    """Numbers below a bound, the same ones in each run."""
+
+    def __init__(self, seed):
+        self.state = seed
+
+    def below(self, bound):
+        self.state = (self.state * 6364136223846793005 + 1442695040888963407) % 2 ** 64
+        return (self.state >> 33) % bound
+
+    def square(self, grid):
+        """Column and row of any parcel."""
+        return self.below(grid.size), self.below(grid.size)
+
+    def near(self, place, reach):
+        """A place at most so far from that one in each direction."""
+        return tuple(value + self.below(2 * reach + 1) - reach for value in place)
+
+
+def divided(grid, square, string, parcel):
+    return f'divide,{grid.parcel(*square)},{grid.across(*square)},{string},{parcel},New,1'
+
+
+def divided_by_chain(grid, square, *places):
+    """Adds two points and divides a parcel along a chain through them."""
+    for point, (east, north) in enumerate(places, NEW_POINT):
+        yield f'add-point,{point},{east},{north}'
+    strings = ' '.join(str(NEW_STRING + number) for number in range(3))
+    chain = grid.across(*square, NEW_POINT, NEW_POINT + 1)
+    yield f'divide,{grid.parcel(*square)},{chain},{strings},{NEW_PARCEL},New,1'
+
+
+def divide_undo(grid, draws):
+    while True:
+        yield divided(grid, draws.square(grid), NEW_STRING, NEW_PARCEL)
+        yield 'undo'
+
+
+def divide_merge(grid, draws):
+    for parcel in range(NEW_PARCEL, NEW_PARCEL + 100_000):
+        square = draws.square(grid)
+        yield divided(grid, square, NEW_STRING, parcel)
+        yield f'merge,{grid.parcel(*square)},{parcel}'
+
+
+def chain(grid, draws):
+    while True:
+        square = draws.square(grid)
+        x, y = grid.position(*square)
+        yield from divided_by_chain(grid, square, (x + SIDE // 3, y + SIDE // 2), (x + SIDE // 2, y + SIDE // 3 * 2))
+        yield from ['undo'] * 3
+
+
+def split_join(grid, draws):
+    numbers, new = {}, NEW_STRING
+    while True:
+        place = draws.below(grid.size), 1 + draws.below(grid.size - 1)
+        (x, y), (far_x, far_y) = grid.position(*place), grid.position(place[0] + 1, place[1])
+        middle = (x + far_x) // 2, (y + far_y) // 2 + draws.below(200) - 100
+        string = numbers.get(place, grid.eastward(*place))
+        yield f'split,{string},{NEW_POINT},{middle[0]},{middle[1]},{new},{new + 1}'
+        yield f'join,{NEW_POINT},{new + 2}'
+        numbers[place], new = new + 2, new + 3
+
+
+def move(grid, draws):
+    while True:
+        place = 1 + draws.below(grid.size - 1), 1 + draws.below(grid.size - 1)
+        x, y = draws.near(grid.position(*place), 1000)
+        yield f'move,{grid.point(*place)},{x},{y}'
+
+
+def points(grid, draws):
+    while True:
+        x, y = grid.position(*draws.square(grid))
+        yield f'add-point,{NEW_POINT},{x + 100 + draws.below(SIDE - 200)},{y + 100 + draws.below(SIDE - 200)}'
+        yield f'drop-point,{NEW_POINT}'
+
+
+def enclose(grid, draws):
+    corners = (2000, 2000), (5000, 2500), (3000, 6000)
+    numbers = ','.join(f'{first} {first + 1} {first + 2}' for first in (NEW_POINT, NEW_STRING))
+    while True:
+        square = draws.square(grid)
+        x, y = grid.position(*square)
+        for point, (east, north) in enumerate(corners, NEW_POINT):
+            yield f'add-point,{point},{x + east},{y + north}'
+        yield f'enclose,{grid.parcel(*square)},{numbers},{NEW_PARCEL},Isle,1'
+        yield from ['undo'] * 4
+
+
+def attach(grid, draws):
+    yield 'add-source,2,Survey 2'
+    for turn in itertools.count():
+        square = draws.square(grid)
+        yield f'attach,string,{grid.eastward(*square)},2'
+        yield f'detach,string,{grid.eastward(*square)},2'
+        yield f'rename,{grid.parcel(*square)},Name {turn}'
+
+
+def undo_walk(grid, draws):
+    for turn in range(1000):
+        column, row = (max(place, 1) for place in draws.square(grid))
+        # Each second one divides a parcel that isn't divided yet, as long as there is one.
+        if turn % 2 == 0 and turn < grid.size ** 2:
+            row, column = divmod(turn * 7919 % grid.size ** 2, grid.size)
+            yield divided(grid, (column, row), NEW_STRING + turn, NEW_PARCEL + turn)
+        else:
+            x, y = draws.near(grid.position(column, row), 400)
+            yield f'move,{grid.point(column, row)},{x},{y}'
+    while True:
+        yield from ['undo'] * 1000
+        yield from ['redo'] * 1000
+
+
+def divide_and_merge(grid, draws, turn):
+    square = draws.square(grid)
+    # The first numbers are those of the other steps.
+    string, parcel = NEW_STRING + 3 + turn, NEW_PARCEL + 1 + turn
+    yield divided(grid, square, string, parcel)
+    yield f'merge,{grid.parcel(*square)},{parcel}'
+
+
+def move_near(grid, draws, turn):
+    place = [max(each, 1) for each in draws.square(grid)]
+    x, y = draws.near(grid.position(*place), 1000)
+    yield f'move,{grid.point(*place)},{x},{y}'
+
+
+def undo_and_redo(grid, draws, turn):
+    back = 1 + draws.below(5)
+    yield from ['undo'] * back
+    yield from ['redo'] * back
+
+
+def divide_by_chain(grid, draws, turn):
+    square = draws.square(grid)
+    x, y = grid.position(*square)
+    yield from divided_by_chain(grid, square, (x + 3000, y + 7000), (x + 4000 + draws.below(900), y + 8000))
+    yield from ['undo'] * 3
+
+
+def split(grid, draws, turn):
+    column, row = draws.below(grid.size), 1 + draws.below(grid.size - 1)
+    x, y = grid.position(column, row)
+    string, halves = grid.eastward(column, row), f'{NEW_STRING},{NEW_STRING + 1}'
+    yield f'split,{string},{NEW_POINT},{x + SIDE // 2},{y + 20},{halves}'
+    yield 'undo'
+
+
+def attach_and_detach(grid, draws, turn):
+    string = grid.northward(*draws.square(grid))
+    yield f'attach,string,{string},2'
+    yield f'detach,string,{string},2'
+
+
+def move_across(grid, draws, turn):
+    """Refused: it takes strings across others."""
+    place = draws.square(grid)
+    x, y = grid.position(*place)
+    yield f'move,{grid.point(*place)},{x + 3 * SIDE},{y}'
+
+
+def divide_nowhere(grid, draws, turn):
+    """Refused: the chain ends where it begins."""
+    square = draws.square(grid)
+    corner = grid.point(*square)
+    yield f'divide,{grid.parcel(*square)},{corner} {corner},{NEW_STRING},{NEW_PARCEL},New,1'
+
+
+def rename(grid, draws, turn):
+    yield f'rename,{grid.parcel(*draws.square(grid))},Name {turn}'
+
+
+# Of a hundred steps so many are of each kind.
+MIXED = [(25, divide_and_merge), (25, move_near), (20, undo_and_redo), (10, divide_by_chain), (8, split),
+         (4, attach_and_detach), (3, move_across), (2, divide_nowhere), (3, rename)]
+
+
+def mixed(grid, draws):
+    steps = [step for share, step in MIXED for _ in range(share)]
+    yield 'add-source,2,Survey 2'
+    for turn in itertools.count():
+        yield from steps[draws.below(100)](grid, draws, turn)
+        if turn % 500 == 499:
+            yield f'outline,{grid.parcel(*draws.square(grid))}'
+
+
+KINDS = {'divide-undo': divide_undo, 'divide-merge': divide_merge, 'chain': chain, 'split-join': split_join,
+         'move': move, 'points': points, 'enclose': enclose, 'attach': attach, 'undo-walk': undo_walk, 'mixed': mixed}
+
+
+def script(kind, size, records):
+    """The lines of a script of so many records, each of seven fields."""
+    for record in itertools.islice(KINDS[kind](Grid(size), Draws(12345)), records):
+        yield record + ',' * (6 - record.count(',')) + '\n'
+
+
+def main():
+    words = sys.argv[1:]
+    if len(words) not in (2, 3) or words[0] not in KINDS:
+        sys.exit(__doc__)
+    sys.stdout.writelines(script(words[0], int(words[1]), int(words[2]) if len(words) == 3 else 20_000))
+
+
+if __name__ == '__main__':
+    main()
