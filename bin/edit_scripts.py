@@ -15,8 +15,8 @@ another parcel, string or point:
     enclose       three points added and made an island, four undo
     attach        a source attached to a string and detached, a parcel renamed
     undo-walk     1,000 divisions and moves, then all of them undone and redone, again and again
-    mixed         all of these but joins and islands, undo and redo at any moment, an outline now and then, and two
-                  edits of a hundred that are refused
+    mixed         all of these but joins and islands, undo and redo at any moment, and now and then an outline, or an
+                  edit that is refused
 
 The same call gives the same script. Outside `mixed` nothing is refused, where 1,000 edits can be undone.
 """
