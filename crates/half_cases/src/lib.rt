@@ -15,3 +15,5 @@ mod near_checks;
 mod plans;
 #[cfg(test)]
 mod plans_after;
+#[cfg(test)]
+mod steps;

@@ -3,7 +3,7 @@ use Rattle.cad_map.specs.Map.{Map}
 use Rattle.cad_map.specs.Valid.{IsValid}
 use Rattle.map_parts.specs.Parts.{map_of as map_that_stands}
 use Rattle.edit_records.specs.Record.{Belongs}
-use Rattle.half_cases.proofs.half_edits.go_both_ways.Goals as goal
+use Rattle.half_cases.proofs.steps.go_both_ways.Goals as goal
 
 pub check_text-requires-2 : goal.check_text-requires-2
 check_text-requires-2 g c =

@@ -2,7 +2,7 @@ use Rattle.std.proofs.Common.{◌≡◌, OnOk, subst}
 use Rattle.cad_map.specs.Map.{Map}
 use Rattle.map_parts.specs.Parts.{map_of as map_that_stands}
 use Rattle.edit_records.specs.Record.{Belongs}
-use Rattle.half_cases.proofs.half_edits.go_back.Goals as goal
+use Rattle.half_cases.proofs.steps.go_back.Goals as goal
 
 pub returns : goal.returns
 returns g c =

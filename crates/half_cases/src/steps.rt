@@ -1,0 +1,331 @@
+//! Steps of worked jobs, made on both stores: each edit is answered as the plain store answers it, and comes to the same
+//! map; its record leads back and on again, on its own map and on another one. Where a growth is refused nothing has
+//! changed, and the same call is made again.
+ghost use Rattle.std.specs.Prelude.{◌≡◌, OnOk, OnErr, IfOk};
+ghost use Rattle.cad_map.specs.Map.{Map};
+ghost use Rattle.cad_map.specs.Valid.{IsValid};
+ghost use Rattle.map_parts.specs.Parts.{map_of as map_that_stands};
+ghost use Rattle.edit_records.specs.Record.{Belongs};
+
+use crate::half_maps::half;
+use crate::plans::{edit_of, map_of};
+use cad_edit::PlainStore;
+use cad_files::{answer_text, plan_text};
+use cad_history::Answer;
+use cad_map::{MapStore, MapView, PlainMap};
+use cad_rows::{Edit, Face, Memory, Refusal, StringNo};
+use cad_surgery::{HalfMap, SmallRecord};
+use half_table::{Half, HalfTable, Ticks};
+use std::process::Abort;
+use std::test::Fail;
+
+/// An edit of a worked job: the plan, the record, its answer and the plan after it.
+#[derive(Drop)]
+pub(crate) struct Step {
+    before: &'static str,
+    edit: &'static str,
+    answer: &'static str,
+    after: &'static str,
+}
+
+/// What is seen of a map on half-edges: its plan text, what follows and what has each half, and the work on its table.
+#[derive(Drop)]
+struct Sight {
+    text: Vec<u8>,
+    next: Vec<Half>,
+    faces: Vec<Face>,
+    work: u64,
+}
+
+/// What follows a half.
+fn next_of(rt: &impl Abort, table: &HalfTable<Ticks>, string: StringNo, forward: bool) -> Half {
+    let half = half(rt, table, string.get(), forward);
+    table.next(half)
+}
+
+/// The face of a half.
+fn face_of(rt: &impl Abort, table: &HalfTable<Ticks>, string: StringNo, forward: bool) -> Face {
+    let half = half(rt, table, string.get(), forward);
+    table.face(half)
+}
+
+/// What follows each half.
+fn all_next<R: Abort + AllocGlobal>(rt: &R, store: &HalfMap<Ticks>) -> Result<Vec<Half>, Memory> {
+    let mut halves = Vec::new(rt.alloc());
+    for place in 0..store.counts().strings {
+        let string = store.string_at(place).unwrap().number;
+        halves.push(next_of(rt, store.table(), string, true))?;
+        halves.push(next_of(rt, store.table(), string, false))?;
+    }
+    Ok(halves)
+}
+
+/// The face of each half.
+fn all_faces<R: Abort + AllocGlobal>(rt: &R, store: &HalfMap<Ticks>) -> Result<Vec<Face>, Memory> {
+    let mut faces = Vec::new(rt.alloc());
+    for place in 0..store.counts().strings {
+        let string = store.string_at(place).unwrap().number;
+        faces.push(face_of(rt, store.table(), string, true))?;
+        faces.push(face_of(rt, store.table(), string, false))?;
+    }
+    Ok(faces)
+}
+
+fn sight_of<R: Abort + AllocGlobal>(rt: &R, store: &HalfMap<Ticks>) -> Result<Sight, Memory>
+    requires { IsValid (map_that_stands store.now) }
+{
+    let text = plan_text(rt.alloc(), store)?;
+    let next = all_next(rt, store)?;
+    let faces = all_faces(rt, store)?;
+    let work = store.table().work();
+    Ok(Sight {
+        text,
+        next,
+        faces,
+        work,
+    })
+}
+
+/// Fails where something else is seen of a map than before. The work may have grown: strings that came were taken out.
+fn check_same<R: Abort + AllocGlobal>(
+    rt: &R,
+    store: &HalfMap<Ticks>,
+    before: &Sight,
+) -> Result<(), Memory>
+    requires { IsValid (map_that_stands store.now) }
+{
+    let now = sight_of(rt, store)?;
+    assert!(rt; now.work >= before.work);
+    assert!(rt; now.text.as_slice() == before.text.as_slice());
+    assert!(rt; now.next.as_slice() == before.next.as_slice());
+    assert!(rt; now.faces.as_slice() == before.faces.as_slice());
+    Ok(())
+}
+
+/// Makes an edit; where a growth is refused, once more.
+fn make<R: Abort + AllocGlobal>(
+    rt: &R,
+    store: &mut HalfMap<Ticks>,
+    edit: &Edit,
+) -> Result<Result<SmallRecord, Refusal>, Memory>
+    requires valid { IsValid (map_that_stands store.old) }
+    ensures recorded { IfOk result (λ made. IfOk made
+        (λ r. Belongs r (map_that_stands store.old) (map_that_stands store.new))) }
+    ensures err { IfOk result (λ made. OnErr made
+        (map_that_stands store.new ≡ map_that_stands store.old)) }
+{
+    let before = sight_of(rt, store)?;
+    match store.apply(edit) {
+        Err(Refusal::Memory) => {
+            check_same(rt, store, &before)?;
+            Ok(store.apply(edit))
+        }
+        made => Ok(made),
+    }
+}
+
+/// Goes back; where a growth is refused, once more.
+fn go_back<R: Abort + AllocGlobal>(
+    rt: &R,
+    store: &mut HalfMap<Ticks>,
+    change: &SmallRecord,
+) -> Result<(), Memory>
+    requires valid { IsValid (map_that_stands store.old) }
+    requires belongs { (before : Map) × Belongs change.now before (map_that_stands store.old) }
+    ensures { OnOk result ((before : Map) → Belongs change.now before (map_that_stands store.old)
+        → map_that_stands store.new ≡ before) }
+{
+    let before = sight_of(rt, store)?;
+    match store.back(change) {
+        Ok(()) => Ok(()),
+        Err(_) => {
+            check_same(rt, store, &before)?;
+            store.back(change)
+        }
+    }
+}
+
+/// Goes on again; where a growth is refused, once more.
+fn go_forward<R: Abort + AllocGlobal>(
+    rt: &R,
+    store: &mut HalfMap<Ticks>,
+    change: &SmallRecord,
+) -> Result<(), Memory>
+    requires valid { IsValid (map_that_stands store.old) }
+    requires belongs { (after : Map) × Belongs change.now (map_that_stands store.old) after }
+    ensures { OnOk result ((after : Map) → Belongs change.now (map_that_stands store.old) after
+        → map_that_stands store.new ≡ after) }
+{
+    let before = sight_of(rt, store)?;
+    match store.forward(change) {
+        Ok(()) => Ok(()),
+        Err(_) => {
+            check_same(rt, store, &before)?;
+            store.forward(change)
+        }
+    }
+}
+
+/// Fails where a map has another plan text.
+fn check_text<R: Abort + AllocGlobal, M: MapView>(
+    rt: &R,
+    map: &M,
+    wanted: &str,
+) -> Result<(), Memory>
+    requires { IsValid (M.map map.now) }
+{
+    let text = plan_text(rt.alloc(), map)?;
+    assert!(rt; text.as_slice() == wanted.as_bytes());
+    Ok(())
+}
+
+/// Fails where an edit was to be answered otherwise.
+fn check_answer<R: Abort + AllocGlobal>(
+    rt: &R,
+    refusal: Option<Refusal>,
+    wanted: &str,
+) -> Result<(), Memory> {
+    let answer = match refusal {
+        None => Answer::Done,
+        Some(refusal) => Answer::Refused(refusal),
+    };
+    let text = answer_text(rt.alloc(), &answer)?;
+    assert!(rt; text.as_slice() == wanted.as_bytes());
+    Ok(())
+}
+
+/// Goes back and on again by a record.
+fn go_both_ways<R: Abort + AllocGlobal>(
+    rt: &R,
+    store: &mut HalfMap<Ticks>,
+    change: &SmallRecord,
+    step: &Step,
+) -> Result<(), Memory>
+    requires belongs { (before : Map) × Belongs change.now before (map_that_stands store.old) }
+{
+    go_back(rt, store, change)?;
+    check_text(rt, store, step.before)?;
+    go_forward(rt, store, change)?;
+    check_text(rt, store, step.after)
+}
+
+/// Goes both ways on another map on half-edges.
+fn go_on_another<R: Abort + AllocGlobal>(
+    rt: &R,
+    after: &PlainMap,
+    change: &SmallRecord,
+    step: &Step,
+) -> Result<(), Memory>
+    requires belongs { (before : Map) × Belongs change.now before after.now }
+{
+    let mut other = HalfMap::of(rt.alloc(), after, Ticks::new())?;
+    go_both_ways(rt, &mut other, change, step)
+}
+
+/// Goes both ways by a record, on its own map and on another one.
+fn check_record<R: Abort + AllocGlobal>(
+    rt: &R,
+    store: &mut HalfMap<Ticks>,
+    change: &SmallRecord,
+    step: &Step,
+) -> Result<(), Memory>
+    requires { (before : Map) × Belongs change.now before (map_that_stands store.old) }
+{
+    check_text(rt, store, step.after)?;
+    let after = PlainMap::of_view(rt.alloc(), store)?;
+    go_on_another(rt, &after, change, step)?;
+    go_both_ways(rt, store, change, step)
+}
+
+/// Makes an edit on half-edges, and looks at its answer, its map and its record.
+fn check_made<R: Abort + AllocGlobal>(
+    rt: &R,
+    store: &mut HalfMap<Ticks>,
+    edit: &Edit,
+    step: &Step,
+) -> Result<(), Memory>
+    requires valid { IsValid (map_that_stands store.old) }
+{
+    match make(rt, store, edit)? {
+        Ok(change) => {
+            check_answer(rt, None, step.answer)?;
+            check_record(rt, store, &change, step)
+        }
+        Err(refusal) => {
+            check_answer(rt, Some(refusal), step.answer)?;
+            check_text(rt, store, step.after)
+        }
+    }
+}
+
+/// Makes an edit on the half-edges of a map.
+fn check_on_halves<R: Abort + AllocGlobal>(
+    rt: &R,
+    map: &PlainMap,
+    edit: &Edit,
+    step: &Step,
+) -> Result<(), Memory>
+    requires { IsValid map.now }
+{
+    let mut halves = HalfMap::of(rt.alloc(), map, Ticks::new())?;
+    check_made(rt, &mut halves, edit, step)
+}
+
+/// Why the plain store refuses an edit. One that it doesn't refuse is made.
+fn apply_plain(store: &mut PlainStore, edit: &Edit) -> Option<Refusal>
+    requires { IsValid store.old.map }
+    ensures { IsValid store.new.map }
+{
+    match store.apply(edit) {
+        Ok(_made) => None,
+        Err(refusal) => Some(refusal),
+    }
+}
+
+/// Makes an edit on the plain store, and looks at its answer and its map.
+fn check_plain<R: Abort + AllocGlobal>(
+    rt: &R,
+    store: &mut PlainStore,
+    edit: &Edit,
+    step: &Step,
+) -> Result<(), Memory>
+    requires { IsValid store.old.map }
+{
+    let refusal = apply_plain(store, edit);
+    if refusal == Some(Refusal::Memory) {
+        return Err(Memory);
+    }
+    check_answer(rt, refusal, step.answer)?;
+    check_text(rt, &store.map, step.after)
+}
+
+/// Makes an edit of a worked job on both stores.
+pub(crate) fn check_step<R: Abort + AllocGlobal>(rt: &R, step: &Step) -> Result<(), Fail> {
+    let edit = edit_of(rt.alloc(), step.edit)?;
+    let map = map_of(rt.alloc(), step.before)?;
+    check_on_halves(rt, &map, &edit, step)?;
+    check_plain(rt, &mut PlainStore { map }, &edit, step)?;
+    Ok(())
+}
+
+const OK: &str = "ok,,,,,,\n";
+
+/// A refusal on a plan, which stays as it is.
+pub(crate) fn refused(before: &'static str, edit: &'static str, answer: &'static str) -> Step {
+    Step {
+        before,
+        edit,
+        answer,
+        after: before,
+    }
+}
+
+/// An edit that is made.
+pub(crate) fn made(before: &'static str, edit: &'static str, after: &'static str) -> Step {
+    Step {
+        before,
+        edit,
+        answer: OK,
+        after,
+    }
+}
