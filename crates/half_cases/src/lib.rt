@@ -12,8 +12,16 @@ mod half_maps;
 #[cfg(test)]
 mod near_checks;
 #[cfg(test)]
+mod parcel_edits;
+#[cfg(test)]
 mod plans;
 #[cfg(test)]
 mod plans_after;
+#[cfg(test)]
+mod plans_divided;
+#[cfg(test)]
+mod plans_enclosed;
+#[cfg(test)]
+mod plans_merged;
 #[cfg(test)]
 mod steps;
