@@ -1,7 +1,7 @@
-//! The square of a metre beside a hundred more squares, each a kilometre east of the one before it.
-ghost use Rattle.std.specs.Prelude.{◌≤◌};
+//! Larger maps: a plan beside a hundred squares of a metre, each a kilometre east of the one before it, and a lot with
+//! many points.
+ghost use Rattle.std.specs.Prelude.{◌≤◌, ◌<◌};
 
-use crate::plans::SQUARE;
 use std::alloc::{AllocError, Global};
 use std::test::Fail;
 
@@ -51,14 +51,40 @@ fn append_square(alloc: Global, text: &mut String, place: u32) -> Result<(), All
     Ok(())
 }
 
-/// The plan of the square and a hundred far ones.
-pub(crate) fn far_plan(alloc: Global) -> Result<String, Fail> {
+/// A plan and a hundred far squares more.
+pub(crate) fn far_plan(alloc: Global, plan: &str) -> Result<String, Fail> {
     let head = "plan,2,,,,,\n";
-    let rest = SQUARE.strip_prefix(head).ok_or("a plan")?;
+    let rest = plan.strip_prefix(head).ok_or("a plan")?;
     let mut text = format!(in alloc; "{head}")?;
     for place in 1..101 {
         append_square(alloc, &mut text, place)?;
     }
     text.push_str(rest)?;
+    Ok(text)
+}
+
+/// Appends the points at a place of a lot's two long sides, and the strings that begin there.
+fn append_pair(alloc: Global, text: &mut String, half: u32, place: u32) -> Result<(), AllocError>
+    requires few { half ≤ 500 }
+    requires inside { place < half }
+{
+    let (lower, upper) = (place + 1, half + place + 1);
+    let last = if lower == half { 1 } else { upper + 1 };
+    append_point(alloc, text, lower, 10 * lower, 0)?;
+    append_point(alloc, text, upper, 10 * (half - place), 1000)?;
+    append_string(alloc, text, lower, lower + 1, 1)?;
+    append_string(alloc, text, upper, last, 1)
+}
+
+/// The plan of a lot that is a metre wide, with so many points on each of its long sides. Its points and its strings are
+/// numbered round it from 1 on.
+pub(crate) fn long_lot(alloc: Global, half: u32) -> Result<String, Fail>
+    requires { half ≤ 500 }
+{
+    let mut text = format!(in alloc; "plan,2,,,,,\nsource,1,S,,,,\nparcel,1,A,,,,\n")?;
+    for place in 0..half {
+        append_pair(alloc, &mut text, half, place)?;
+    }
+    text.push_str("open,,,,,,\n")?;
     Ok(text)
 }

@@ -25,3 +25,5 @@ mod plans_enclosed;
 mod plans_merged;
 #[cfg(test)]
 mod steps;
+#[cfg(test)]
+mod weights;

@@ -142,7 +142,7 @@ fn parcels_divided_and_merged(rt: HostRuntime) -> Result<(), Fail> {
 #[test]
 fn division_is_checked_no_longer_on_a_larger_map(rt: HostRuntime) -> Result<(), Fail> {
     let division = "divide,1,1 3,21,2,C,1";
-    let far = far_plan(rt.alloc())?;
+    let far = far_plan(rt.alloc(), SQUARE)?;
     let few = calls_after(&rt, SQUARE, division)?;
     let many = calls_after(&rt, far.as_str(), division)?;
     assert!(rt; few > 0);
