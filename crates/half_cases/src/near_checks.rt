@@ -10,6 +10,7 @@ use crate::counted::Counted;
 use crate::far::far_plan;
 use crate::plans::{ISLAND, SQUARE, edit_of, map_of};
 use crate::plans_after::{DIVIDED, DIVIDED_ISLAND, JOINED};
+use crate::plans_enclosed::{FREE_CORNERS, WITH_FRAME};
 use cad_edit::try_edit;
 use cad_map::{MapView, PlainMap};
 use cad_rows::{Edit, Memory, Rule};
@@ -140,6 +141,21 @@ fn parcels_divided_and_merged(rt: HostRuntime) -> Result<(), Fail> {
 }
 
 #[test]
+fn islands_enclosed(rt: HostRuntime) -> Result<(), Fail> {
+    for (plan, edit) in [
+        (FREE_CORNERS, "enclose,0,1 2 3 4,11 12 13 14,1,A,1"),
+        (FREE_CORNERS, "enclose,0,4 3 2 1,11 12 13 14,1,A,1"),
+        (WITH_FRAME, "enclose,1,9 10 11 12,41 42 43 44,3,C,1"),
+        (WITH_FRAME, "enclose,2,9 10 11 12,41 42 43 44,3,C,1"),
+        (WITH_FRAME, "enclose,1,9 10 11,41 42 43,3,C,1"),
+    ] {
+        let calls = calls_after(&rt, plan, edit)?;
+        assert!(rt; calls > 0);
+    }
+    Ok(())
+}
+
+#[test]
 fn division_is_checked_no_longer_on_a_larger_map(rt: HostRuntime) -> Result<(), Fail> {
     let division = "divide,1,1 3,21,2,C,1";
     let far = far_plan(rt.alloc(), SQUARE)?;
@@ -147,5 +163,47 @@ fn division_is_checked_no_longer_on_a_larger_map(rt: HostRuntime) -> Result<(), 
     let many = calls_after(&rt, far.as_str(), division)?;
     assert!(rt; few > 0);
     assert_eq!(rt; few, many);
+    Ok(())
+}
+
+/// What the near check alone tells of the map that an edit makes.
+fn told_of_edit(alloc: Global, map: &PlainMap, edit: &Edit) -> Result<Told, Fail>
+    requires { IsValid map.now }
+{
+    match try_edit(map, edit) {
+        Ok(made) => Ok(told_after(alloc, map, edit, &made)?),
+        Err(_) => Err(Fail::from("an edit that is made")),
+    }
+}
+
+/// How often the near check alone asks of the map that an edit of a plan makes. Fails where it asks for a point, a string
+/// or a parcel by its place.
+fn near_calls<R: Abort + AllocGlobal>(rt: &R, plan: &str, edit: &str) -> Result<u64, Fail> {
+    let map = map_of(rt.alloc(), plan)?;
+    let edit = edit_of(rt.alloc(), edit)?;
+    let near = told_of_edit(rt.alloc(), &map, &edit)?;
+    assert_eq!(rt; near.by_place, 0);
+    Ok(near.calls)
+}
+
+/// Fails where the near check asks more or less often where the plan has a hundred far squares more.
+fn check_far<R: Abort + AllocGlobal>(rt: &R, plan: &str, edit: &str) -> Result<(), Fail> {
+    let far = far_plan(rt.alloc(), plan)?;
+    let few = near_calls(rt, plan, edit)?;
+    let many = near_calls(rt, far.as_str(), edit)?;
+    assert!(rt; few > 0);
+    assert_eq!(rt; few, many);
+    Ok(())
+}
+
+#[test]
+fn islands_and_mergers_are_checked_no_longer_on_a_larger_map(rt: HostRuntime) -> Result<(), Fail> {
+    for (plan, edit) in [
+        (WITH_FRAME, "enclose,1,9 10 11 12,41 42 43 44,3,C,1"),
+        (DIVIDED, "merge,1,2,,,,"),
+        (ISLAND, "merge,1,2,,,,"),
+    ] {
+        check_far(&rt, plan, edit)?;
+    }
     Ok(())
 }
