@@ -9,7 +9,7 @@ use crate::position::Pt;
 fn are_both_below(a: i64, b: i64, c: i64, d: i64) -> bool
     ensures { result ≡ are_below a b c d }
 {
-    a < c && a < d && b < c && b < d
+    a.max(b) < c.min(d)
 }
 
 // The stretch between a and b and the one between c and d have a number in common.
