@@ -86,16 +86,34 @@ fn sight_of<R: Abort + AllocGlobal>(rt: &R, store: &HalfMap<Ticks>) -> Result<Si
     })
 }
 
-/// Fails where something else is seen of a map than before. The work may have grown: strings that came were taken out.
+/// Whether strings come with an edit.
+fn brings_strings(edit: &Edit) -> bool {
+    matches!(edit, Edit::Divide { .. } | Edit::Enclose { .. })
+}
+
+/// Whether strings come with the edit of a record, or come back where it is taken back.
+fn moves_strings(change: &SmallRecord) -> bool {
+    matches!(
+        change,
+        SmallRecord::Divide { .. }
+            | SmallRecord::Enclose { .. }
+            | SmallRecord::MergeAlong { .. }
+            | SmallRecord::MergeIsland { .. }
+    )
+}
+
+/// Fails where something else is seen of a map than before. The work is as before too, but where strings came and were
+/// taken out: that is counted.
 fn check_same<R: Abort + AllocGlobal>(
     rt: &R,
     store: &HalfMap<Ticks>,
     before: &Sight,
+    may_count: bool,
 ) -> Result<(), Memory>
     requires { IsValid (map_that_stands store.now) }
 {
     let now = sight_of(rt, store)?;
-    assert!(rt; now.work >= before.work);
+    assert!(rt; now.work == before.work || may_count && now.work > before.work);
     assert!(rt; now.text.as_slice() == before.text.as_slice());
     assert!(rt; now.next.as_slice() == before.next.as_slice());
     assert!(rt; now.faces.as_slice() == before.faces.as_slice());
@@ -117,7 +135,7 @@ fn make<R: Abort + AllocGlobal>(
     let before = sight_of(rt, store)?;
     match store.apply(edit) {
         Err(Refusal::Memory) => {
-            check_same(rt, store, &before)?;
+            check_same(rt, store, &before, brings_strings(edit))?;
             Ok(store.apply(edit))
         }
         made => Ok(made),
@@ -139,7 +157,7 @@ fn go_back<R: Abort + AllocGlobal>(
     match store.back(change) {
         Ok(()) => Ok(()),
         Err(_) => {
-            check_same(rt, store, &before)?;
+            check_same(rt, store, &before, moves_strings(change))?;
             store.back(change)
         }
     }
@@ -160,7 +178,7 @@ fn go_forward<R: Abort + AllocGlobal>(
     match store.forward(change) {
         Ok(()) => Ok(()),
         Err(_) => {
-            check_same(rt, store, &before)?;
+            check_same(rt, store, &before, moves_strings(change))?;
             store.forward(change)
         }
     }
