@@ -1,4 +1,5 @@
 //! A worked job, and what becomes of it.
+use crate::stores::run_plain;
 use cad_files::{MemSink, PlanFault};
 use cad_history::Depth;
 use cad_job::{JobFault, run_job};
@@ -92,7 +93,8 @@ pub(crate) fn lines(alloc: Global, parts: &[&str]) -> Result<Vec<u8>, Fail> {
     Ok(text)
 }
 
-/// Runs a case at a depth, and compares what it wrote and how it ended.
+/// Runs a case at a depth, on half-edges as the program does and on the plain store, and compares what each wrote and
+/// how it ended.
 fn check_case<R: Abort + AllocGlobal>(rt: &R, depth: Depth, case: &Case) -> Result<(), Fail> {
     let job = lines(rt.alloc(), case.job)?;
     let answers = lines(rt.alloc(), case.answers)?;
@@ -102,6 +104,18 @@ fn check_case<R: Abort + AllocGlobal>(rt: &R, depth: Depth, case: &Case) -> Resu
     assert!(rt;
         sink.bytes() == answers.as_slice(),
         "what {} writes",
+        case.name
+    );
+    let mut plain = MemSink::new(rt.alloc(), u64::MAX);
+    let ended = run_plain(rt.alloc(), job.as_slice(), &mut plain, depth);
+    assert!(rt;
+        ended == case.end,
+        "how {} ends on the plain store",
+        case.name
+    );
+    assert!(rt;
+        plain.bytes() == answers.as_slice(),
+        "what {} writes on the plain store",
         case.name
     );
     Ok(())

@@ -35,3 +35,5 @@ mod records;
 mod reports;
 #[cfg(test)]
 mod stars;
+#[cfg(test)]
+mod stores;
