@@ -30,6 +30,8 @@ mod plans;
 #[cfg(test)]
 mod points;
 #[cfg(test)]
+mod random;
+#[cfg(test)]
 mod records;
 #[cfg(test)]
 mod reports;
