@@ -1,7 +1,7 @@
 #!/usr/bin/env python3
 """Makes edit scripts on a grid of parcels, for bin/bench --edits.
 
-    bin/edit_scripts.py KIND SIZE [RECORDS]     writes such a script, of 20,000 records if not given
+    bin/edit_scripts.py KIND SIZE [RECORDS]     writes such a script, of 100,000 records if not given
 
 The grid is that of `bin/bench --write grid SIZE`; a job is that plan and the script. Kinds, over and over, each time at
 another parcel, string or point:
@@ -260,7 +260,7 @@ def main():
     words = sys.argv[1:]
     if len(words) not in (2, 3) or words[0] not in KINDS:
         sys.exit(__doc__)
-    sys.stdout.writelines(script(words[0], int(words[1]), int(words[2]) if len(words) == 3 else 20_000))
+    sys.stdout.writelines(script(words[0], int(words[1]), int(words[2]) if len(words) == 3 else 100_000))
 
 
 if __name__ == '__main__':
