@@ -1,5 +1,6 @@
 //! The first place at which a value stands again.
 ghost use Rattle.std.specs.Prelude.{◌≡◌, length, IfOk, IfSome, IfNone};
+ghost use Rattle.std.specs.Bool.{OnTrue};
 ghost use Rattle.sweep.specs.Repeats.{AreDistinct, IsFirstRepeat, keyed_of};
 ghost use Rattle.sweep.specs.Repeats.{FollowsEqual, PrecedesWithin};
 
@@ -41,12 +42,24 @@ fn least_behind_equal(keyed: &[Keyed]) -> Option<usize>
     least
 }
 
+// Whether no two of these keys are equal, told by a sort of the keys alone.
+fn are_distinct(alloc: Global, keys: &[u64]) -> Result<bool, AllocError>
+    ensures { IfOk result (λ distinct. OnTrue distinct (AreDistinct keys.now)) }
+{
+    let mut sorted = Vec::from_slice(alloc, keys)?;
+    sorted.sort_unstable();
+    Ok(sorted.is_sorted_by(|a, b| a < b))
+}
+
 /// The least place of these at which a value stands that an earlier place has, and `None` where no
-/// two are equal. By one sort, so that no choice of values makes it slow.
+/// two are equal. By a sort or two, so that no choice of values makes it slow.
 pub fn first_repeated(alloc: Global, keys: &[u64]) -> Result<Option<usize>, AllocError>
     ensures some { IfOk result (λ place. IfSome place (IsFirstRepeat keys.now)) }
     ensures none { IfOk result (λ place. IfNone place (AreDistinct keys.now)) }
 {
+    if are_distinct(alloc, keys)? {
+        return Ok(None);
+    }
     let mut keyed = with_places(alloc, keys)?;
     keyed.sort_unstable_by_key(|k| (k.key, k.place));
     Ok(least_behind_equal(keyed.as_slice()))
