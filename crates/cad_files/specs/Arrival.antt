@@ -4,12 +4,13 @@ use Rattle.std.specs.List.{list_all, AllByRecursion, Contains}
 use Rattle.geo_exact.specs.Sector.{in_sector}
 use Rattle.cad_map.specs.Map.{Map, position_of}
 use Rattle.cad_map.specs.Stars.{star, spokes_of}
+use Rattle.key_lists.specs.Held.{Held, items_at}
 use Rattle.cad_files.specs.declared.followers.Arrival.{Arrival}
 use Rattle.cad_map.specs.declared.stars.Spoke.{Spoke}
 
 -- the spokes that stars have at each point are the map's
-abbrev pub AreStarsOf : Map → List Spoke → Type 0
-AreStarsOf m stars = (p : ℕ) → star p stars ≡ star p (spokes_of m)
+abbrev pub AreStarsOf : Map → Held Spoke → Type 0
+AreStarsOf m stars = (p : ℕ) → items_at stars p ≡ star p (spokes_of m)
 
 -- a side from one point to another, at its end
 abbrev pub arrival_of : Map → ℕ → ℕ → Arrival

@@ -1,12 +1,14 @@
 //! The strings at each point of a map.
-ghost use Rattle.std.specs.Prelude.{◌≡◌, ◌++◌, ℕ, IfOk, OnOk};
+ghost use Rattle.std.specs.Prelude.{◌≡◌, ◌++◌, ◌∷◌, [], ℕ, IfOk, OnOk};
 ghost use Rattle.cad_map.specs.Stars.{spoke_of, spokes_at, spokes_of, star};
+ghost use Rattle.key_lists.specs.Held.{items_at};
 
 use crate::look::far_end;
 use crate::rings::position;
 use crate::store::MapView;
 use cad_rows::{Memory, PointNo, StringRow};
 use geo_exact::Pt;
+use key_lists::KeyLists;
 use std::alloc::Global;
 use std::marker::Model;
 
@@ -26,21 +28,24 @@ pub struct Spoke {
 
 /// The strings of each point of a map, found by the point. A string from a point to itself stands
 /// there once.
-#[derive(Debug, Drop)]
 pub struct Stars {
-    spokes: Vec<Spoke>,
+    spokes: KeyLists<Spoke>,
+}
+
+// Written out, so that the end of one is a single call in a caller's proof.
+impl Drop for Stars {
+    fn drop(self) {
+        let Stars { spokes: _spokes } = self;
+    }
 }
 
 impl Model for Stars {
-    ghost use Rattle.std.specs.Prelude.{List};
-    ghost use Rattle.std.specs.List.Sorted.{IsNonDecreasingBy};
-    ghost use Rattle.cad_map.specs.declared.stars.Spoke.{Spoke};
+    ghost use Rattle.cad_map.specs.declared.stars.Spoke.{Spoke as SpokeOf};
+    ghost use Rattle.key_lists.specs.Held.{Held};
 
-    ghost Value = { List Spoke };
+    ghost Value = { Held SpokeOf };
 
-    ghost view = { λ a. a.spokes.items };
-
-    ghost invariant = { λ a. IsNonDecreasingBy (λ s. s.at) a.spokes.items };
+    ghost view = { λ a. a.spokes };
 }
 
 // The string at a place, as a point at one of its ends sees it.
@@ -56,52 +61,51 @@ fn spoke_from<M: MapView>(map: &M, place: usize, string: &StringRow, at: PointNo
     }
 }
 
-// Puts the spokes of the string at a place last.
+// Puts a spoke last among those of its point.
+fn put_spoke(spokes: &mut KeyLists<Spoke>, spoke: Spoke) -> Result<(), Memory>
+    ensures { OnOk result
+        ((p : ℕ) → items_at spokes.new p ≡ items_at spokes.old p ++ star p (spoke ∷ [])) }
+{
+    let key = u64::from(spoke.at.get());
+    spokes.reserve(key, 1)?;
+    spokes.put(key, spoke);
+    Ok(())
+}
+
+// Puts the spokes of the string at a place last among those of its points.
 fn put_spokes<M: MapView>(
-    spokes: &mut Vec<Spoke>,
+    spokes: &mut KeyLists<Spoke>,
     map: &M,
     place: usize,
     string: &StringRow,
 ) -> Result<(), Memory>
-    ensures { OnOk result
-        (spokes.new.items ≡ spokes.old.items ++ spokes_at (M.map map.now) place string.now) }
+    ensures { OnOk result ((p : ℕ) → items_at spokes.new p
+        ≡ items_at spokes.old p ++ star p (spokes_at (M.map map.now) place string.now)) }
 {
-    spokes.push(spoke_from(map, place, string, string.from))?;
+    put_spoke(spokes, spoke_from(map, place, string, string.from))?;
     if string.from != string.to {
-        spokes.push(spoke_from(map, place, string, string.to))?;
+        put_spoke(spokes, spoke_from(map, place, string, string.to))?;
     }
     Ok(())
 }
 
-// The spokes of all strings, in order of the strings.
-fn all_spokes<M: MapView>(alloc: Global, map: &M) -> Result<Vec<Spoke>, Memory>
-    ensures { IfOk result (λ spokes. spokes.items ≡ spokes_of (M.map map.now)) }
-{
-    let mut spokes = Vec::new(alloc);
-    for place in 0..map.counts().strings {
-        put_spokes(&mut spokes, map, place, map.string_at(place).unwrap())?;
-    }
-    Ok(spokes)
-}
-
 impl Stars {
-    /// The strings of each point of this map. Takes time for a sort of twice the strings.
+    /// The strings of each point of this map. It takes a few steps a string.
     pub fn of<M: MapView>(alloc: Global, map: &M) -> Result<Stars, Memory>
         ensures { IfOk result
-            (λ stars. (p : ℕ) → star p stars ≡ star p (spokes_of (M.map map.now))) }
+            (λ stars. (p : ℕ) → items_at stars p ≡ star p (spokes_of (M.map map.now))) }
     {
-        let mut spokes = all_spokes(alloc, map)?;
-        spokes.sort_by_key(|s| s.at.get())?;
+        let mut spokes = KeyLists::new(alloc);
+        for place in 0..map.counts().strings {
+            put_spokes(&mut spokes, map, place, map.string_at(place).unwrap())?;
+        }
         Ok(Stars { spokes })
     }
 
-    /// The spokes of a point, in the order of the strings. By binary search; takes no memory.
+    /// The spokes of a point, in the order of the strings. By one look; takes no memory.
     pub fn ends(&self, point: PointNo) -> &[Spoke]
-        ensures { result.now ≡ star point self.now }
+        ensures { result.now ≡ items_at self.now point }
     {
-        let spokes = self.spokes.as_slice();
-        let low = spokes.partition_point(|s| s.at.get() < point.get());
-        let rest = &spokes[low..];
-        &rest[..rest.partition_point(|s| s.at.get() <= point.get())]
+        self.spokes.at(u64::from(point.get()))
     }
 }

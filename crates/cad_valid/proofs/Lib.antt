@@ -19,5 +19,6 @@ mod NearStrings
 mod NearCorners
 mod StarTests
 mod NearFaces
+mod RaysOfPoint
 pub mod Untouched
 pub mod CallerLemmas

@@ -1,5 +1,5 @@
 -- Where the corners at touched points and at the ends of touched strings are empty, all are.
-use Rattle.std.proofs.Common.{◌≡◌, ◌≢◌, ℕ, refl, sym, ap, subst, ◌∙◌, Option, Some, None, Bool, true, false, true≢false, not, ◌⊎◌, inl, inr, eqb-true, eq-eqb}
+use Rattle.std.proofs.Common.{◌≡◌, ℕ, refl, sym, ap, subst, ◌∙◌, Option, Some, None, Bool, true, false, true≢false, not, ◌⊎◌, inl, inr, eqb-true, eq-eqb}
 use Rattle.std.proofs.lemmas.Bool.{and_parts, eqb-false}
 use Rattle.std.proofs.lemmas.List.Sorted.{Contains-permutation, IsPermutation-sym}
 use Rattle.std.specs.Prelude.{IsTrue, ◌↔◌, is_some, ◌==◌, ◌||◌, if◌then◌else◌}

@@ -1,5 +1,5 @@
 -- Where touched faces have their outlines and their holes in place, all have.
-use Rattle.std.proofs.Common.{◌≡◌, ◌≢◌, ℕ, ◌+◌, refl, sym, ap, subst, ◌∙◌, List, [], ◌∷◌, filter, cond, Bool, true, false, not, inl, inr, ℤ, pos, length, ◌≤◌, arith, Option, Some, None, true≢false}
+use Rattle.std.proofs.Common.{◌≡◌, ℕ, ◌+◌, refl, sym, ap, subst, ◌∙◌, List, [], ◌∷◌, filter, cond, Bool, true, false, not, inl, inr, ℤ, pos, length, ◌≤◌, arith, Option, Some, None, true≢false}
 use Rattle.std.proofs.lemmas.List.Sums.{sum_by-cons}
 use Rattle.std.specs.Prelude.{IsTrue, ◌↔◌, count_by, ◌&&◌, ◌||◌, int_lt, ◌==◌, is_some}
 use Rattle.std.specs.List.{AllByRecursion, Contains, list_all}

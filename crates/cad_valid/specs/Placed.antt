@@ -1,5 +1,5 @@
 -- Strings with the positions of their ends, and tests of where two of them may meet.
-use Rattle.std.specs.Prelude.{ℕ, Bool, ◌==◌, ◌&&◌, ◌||◌, not, if◌then◌else◌}
+use Rattle.std.specs.Prelude.{◌≡◌, ℕ, Bool, ◌==◌, ◌&&◌, ◌||◌, not, if◌then◌else◌}
 use Rattle.geo_exact.specs.Position.{Position}
 use Rattle.geo_exact.specs.SignTest.{passes_signs}
 use Rattle.cad_rows.specs.declared.rows.PointRow.{PointRow}
@@ -15,6 +15,11 @@ placed_string m s =
 -- a point, as a string from itself to itself
 abbrev pub placed_point : PointRow → Placed
 placed_point p = record { from = p.number; to = p.number; a = p.position; b = p.position }
+
+-- it lies where the map has its ends
+pub record IsPlacedIn (m : Map) (f : Placed) : Type 0 where
+  pub first : f.a ≡ position_of m f.from
+  pub second : f.b ≡ position_of m f.to
 
 abbrev pub is_placed_end : Placed → ℕ → Bool
 is_placed_end f p = (f.from == p) || (f.to == p)

@@ -30,11 +30,14 @@ pub(crate) fn has_holes_in_place<M: MapView>(map: &M) -> bool
     true
 }
 
-/// Whether the holes of one face lie in its outline and apart.
+/// Whether the holes of one face lie in its outline and apart. A ring alone does.
 pub(crate) fn has_sound_holes<M: MapView>(map: &M, face: &Face) -> bool
     requires { HasWholeRings (M.map map.now) }
     ensures { result ≡ has_sound_holes_of (M.map map.now) (rings_of (M.map map.now) face.now) }
 {
+    if ring_count(map, face) < 2 {
+        return true;
+    }
     are_holes_inside(map, face) && are_holes_apart(map, face)
 }
 

@@ -10,6 +10,7 @@ ghost use Rattle.cad_valid.specs.Near.{HoldsMap, ComesFromValid, touched_of};
 mod corners;
 mod faces;
 mod points;
+mod rays;
 mod strings;
 
 use crate::near::corners::{are_empty_at, are_empty_at_ends};

@@ -2,7 +2,8 @@
 ghost use Rattle.std.specs.Prelude.{◌≡◌};
 ghost use Rattle.geo_exact.specs.Position.{Position};
 ghost use Rattle.cad_map.specs.Crossings.{HasTwoPoints};
-ghost use Rattle.cad_valid.specs.Placed.{placed_string as placed_string_of};
+ghost use Rattle.cad_map.specs.Map.{position_of};
+ghost use Rattle.cad_valid.specs.Placed.{IsPlacedIn, placed_string as placed_string_of};
 ghost use Rattle.cad_valid.specs.Placed.{placed_point as placed_point_of};
 ghost use Rattle.cad_valid.specs.Placed.{is_placed_end as is_end_of, near_position as near_position_of};
 ghost use Rattle.cad_valid.specs.Placed.{far_position as far_position_of, meets_only_at};
@@ -57,6 +58,33 @@ pub(crate) fn placed_string<M: MapView>(map: &M, string: &StringRow) -> Placed
         to: string.to,
         a: position(map, string.from),
         b: position(map, string.to),
+    }
+}
+
+/// The position of a point that mostly is an end of a string that was looked up.
+fn position_beside<M: MapView>(map: &M, here: &Placed, point: PointNo) -> Pt
+    requires { IsPlacedIn (M.map map.now) here.now }
+    ensures { result ≡ position_of (M.map map.now) point }
+{
+    if here.from == point {
+        here.a
+    } else if here.to == point {
+        here.b
+    } else {
+        position(map, point)
+    }
+}
+
+/// A string of the map that mostly has an end in common with one that was looked up.
+pub(crate) fn placed_beside<M: MapView>(map: &M, here: &Placed, string: &StringRow) -> Placed
+    requires { IsPlacedIn (M.map map.now) here.now }
+    ensures { result ≡ placed_string_of (M.map map.now) string.now }
+{
+    Placed {
+        from: string.from,
+        to: string.to,
+        a: position_beside(map, here, string.from),
+        b: position_beside(map, here, string.to),
     }
 }
 

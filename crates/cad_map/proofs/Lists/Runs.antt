@@ -1,9 +1,8 @@
 -- The elements with one key in a list sorted by keys: a run between two partition points.
-use Rattle.std.proofs.Common.{◌≡◌, ◌∙◌, ℕ, suc, ◌+◌, ◌-◌, ◌<◌, ◌≤◌, Bool, true, false, not, ◌&&◌, List, [], ◌∷◌, ◌++◌, length, get_or, take, drop, refl, ap, sym, inl, inr, ltb, leb, eqb, arith}
+use Rattle.std.proofs.Common.{◌≡◌, ◌∙◌, ℕ, suc, ◌+◌, ◌-◌, ◌<◌, ◌≤◌, Bool, true, false, List, [], ◌∷◌, ◌++◌, length, get_or, take, drop, refl, ap, sym, inl, inr, ltb, leb, eqb, arith}
 use Rattle.std.specs.Prelude.{◌==◌, filter, slice_range}
 use Rattle.std.specs.List.{All, AllWithin}
-use Rattle.std.specs.List.Sorted.{IsPartitionPoint, IsStableByKey, ties}
-use Rattle.std.specs.Ordering.{is_lt, nat_cmp}
+use Rattle.std.specs.List.Sorted.{IsPartitionPoint}
 use Rattle.std.proofs.lemmas.Bool.{cases_lt}
 use Rattle.std.proofs.lemmas.Bool.Decides.{nat_tests}
 use Rattle.std.proofs.lemmas.List.{take-append-drop, get_or-take, get_or-drop, length-take, length-drop, append-nil}
@@ -88,41 +87,3 @@ filter-bounds key xs k low high b =
     (λ i d from to. neither (key (get_or xs i d)) k
     (b.below.1 i d from (omega (arith, b.high_within))) (b.up_to.0 i d (omega arith) to))
     (λ i d from to. no_more (key (get_or xs i d)) k (b.up_to.1 i d from to))
-
--- the same where the second search begins at the place that the first gave
-pub filter-bounds_after : {X : Type 0} (key : X → ℕ) (xs : List X) (k low count : ℕ)
-    → low ≤ length xs → count ≤ length (drop low xs)
-    → IsPartitionPoint (λ x. ltb (key x) k ≡ true) (λ x. ltb (key x) k ≡ false) xs low
-    → IsPartitionPoint (λ x. leb (key x) k ≡ true) (λ x. leb (key x) k ≡ false) (drop low xs) count
-    → filter (λ x. key x == k) xs ≡ take count (drop low xs)
-filter-bounds_after {X} key xs k low count low_within count_within below up_to =
-    let rest = rw length-drop at count_within in
-    let here : (i : ℕ) (d : X) → low ≤ i → get_or (drop low xs) (i - low) d ≡ get_or xs i d = λ i d from.
-    let is : low + (i - low) ≡ i = omega arith in
-    rw (get_or-drop, is) refl in
-    let b : AreBounds key xs k low (low + count) = record {
-      low_within = low_within;
-      high_within = omega arith;
-      below = below;
-      up_to = (
-        (λ i d from to. elim (cases_lt i low) [
-          | inl lt ↦ up_to_less _ k (below.0 i d from lt)
-          | inr ge ↦ rw (here i d ge) at (up_to.0 (i - low) d (omega arith) (omega arith))
-        ]),
-        (λ i d from to. rw (here i d (omega arith)) at (up_to.1 (i - low) d (omega arith) (rw length-drop (omega arith)))),
-      );
-    } in
-    let width : low + count - low ≡ count = omega arith in
-    rw width at (filter-bounds key xs k low (low + count) b)
-
--- ---- Stable sorts
-
-ties_are_equal : (a b : ℕ) → (not (is_lt (nat_cmp a b)) && not (is_lt (nat_cmp b a))) ≡ eqb b a
-ties_are_equal a b = grind (arith, nat_tests)
-
--- a stable sort by keys leaves the elements with the key of x in their order
-pub filter-stable : {X : Type 0} (key : X → ℕ) (xs ys : List X) → IsStableByKey key nat_cmp xs ys
-    → (x : X) → filter (λ y. key y == key x) ys ≡ filter (λ y. key y == key x) xs
-filter-stable {X} key xs ys stable x =
-    let same : ties (λ a b. is_lt (nat_cmp (key a) (key b))) x ≡ (λ y. key y == key x) = λ i y. ties_are_equal (key x) (key y) i in
-    rw same at (stable x)

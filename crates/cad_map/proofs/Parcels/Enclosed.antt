@@ -1,5 +1,5 @@
 -- A closed chain of free points put into a face of a valid map: the map stays sound.
-use Rattle.std.proofs.Common.{◌≡◌, ℕ, ◌+◌, ◌≤◌, inl, refl, ap, subst, ◌∙◌, List, [], ◌∷◌, ◌++◌, length, map, reverse, true, arith}
+use Rattle.std.proofs.Common.{◌≡◌, ℕ, ◌≤◌, inl, refl, ap, subst, ◌∙◌, List, [], ◌∷◌, ◌++◌, length, map, reverse, true, arith}
 use Rattle.std.specs.Prelude.{IsTrue, IsPermutation}
 use Rattle.std.specs.List.{AllByRecursion, Contains}
 use Rattle.std.proofs.lemmas.List.{append-nil, length-append, length-reverse}

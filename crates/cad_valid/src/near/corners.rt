@@ -5,6 +5,7 @@ ghost use Rattle.cad_map.specs.Rings.{HasWholeRings};
 ghost use Rattle.cad_valid.specs.Near.{OfString, HasEmptyCornersAt, HasEmptyEnds};
 
 use crate::corners::is_empty_after;
+use crate::near::rays::{MOST_RAYS, are_empty_between, rays_at};
 use cad_map::{MapView, far_end, is_end};
 use cad_rows::{PointNo, StringNo, StringRow};
 
@@ -86,9 +87,21 @@ fn is_empty_end<M: MapView>(
     points.contains(&end) || has_empty_corners(map, end)
 }
 
-/// Whether the corners at a point are empty. Each is met by the side before it, which is a side of
-/// one of the point's strings.
+/// Whether the corners at a point are empty.
 fn has_empty_corners<M: MapView>(map: &M, point: PointNo) -> bool
+    requires { HasWholeRings (M.map map.now) }
+    ensures { IsTrue result ↔ HasEmptyCornersAt (M.map map.now) point }
+{
+    if map.degree(point) > MOST_RAYS {
+        return has_empty_corners_of_many(map, point);
+    }
+    let rays = rays_at(map, point);
+    are_empty_between(map, point, rays.as_slice())
+}
+
+/// Whether the corners at a point of many strings are empty. Each is met by the side before it, which
+/// is a side of one of the point's strings.
+fn has_empty_corners_of_many<M: MapView>(map: &M, point: PointNo) -> bool
     requires { HasWholeRings (M.map map.now) }
     ensures { IsTrue result ↔ HasEmptyCornersAt (M.map map.now) point }
 {

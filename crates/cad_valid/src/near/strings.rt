@@ -7,7 +7,9 @@ ghost use Rattle.cad_valid.specs.Placed.{placed_string as placed_string_of, plac
 ghost use Rattle.cad_valid.specs.Near.{HoldsMap, OfPoint, OfString, MeetsIfOther, MeetsAtEnds};
 ghost use Rattle.cad_valid.specs.Near.{BearsEnds, LiesAtEnds, IsUncrossed};
 
-use crate::placed::{Placed, lies_only_as_end, meet_at_ends, placed_point, placed_string};
+use crate::placed::{
+    Placed, lies_only_as_end, meet_at_ends, placed_beside, placed_point, placed_string,
+};
 use cad_map::MapView;
 use cad_rows::{PointNo, PointRow, StringNo, StringRow};
 use cell_grid::CellGrid;
@@ -84,7 +86,7 @@ fn meets_if_other<M: MapView>(map: &M, string: &StringRow, here: &Placed, other:
     if other.number.get() == string.number.get() {
         return true;
     }
-    meet_at_ends(here, &placed_string(map, other))
+    meet_at_ends(here, &placed_beside(map, here, other))
 }
 
 /// Whether no point lies on a string but as its end. `here`: the string as it lies on the map.

@@ -1,4 +1,4 @@
-use Rattle.std.proofs.Common.{sym, subst, ◌∙◌, true, false}
+use Rattle.std.proofs.Common.{sym, subst, ◌∙◌}
 use Rattle.cad_map.specs.Choice.{MayBeChosen, IsFirst}
 use Rattle.cad_map.specs.Views.{HasSide}
 use Rattle.cad_map.proofs.Boundaries.FacesBeside.{is_face-same}

@@ -1,4 +1,4 @@
-use Rattle.std.proofs.Common.{◌≡◌, ◌∙◌, ◌∷◌, ◌++◌, [], sym, refl, subst, take, length, Some, true≢false}
+use Rattle.std.proofs.Common.{◌≡◌, ◌∙◌, sym, refl, subst, take, Some, true≢false}
 use Rattle.std.proofs.lemmas.List.{take_all}
 use Rattle.std.proofs.lemmas.Option.{slice_get_read}
 use Rattle.std.specs.Prelude.{slice_get, IfSome}
