@@ -20,8 +20,7 @@ use edit_records::grid_of;
 use half_table::{Half, HalfTable, Tally};
 use key_lists::KeyLists;
 use map_parts::{
-    MapRows, Spoke, add_strings, find_half, half_at, keep_rings, kept_half, label_rings,
-    link_rings, star_of,
+    MapRows, Spoke, add_strings, find_half, half_at, kept_half, label_rings, link_rings, star_of,
 };
 use std::alloc::Global;
 use std::marker::Model;
@@ -84,8 +83,7 @@ impl<T: Tally> Draft<T> {
         let mut stars = KeyLists::new(alloc);
         add_strings(map, &mut table, &mut stars)?;
         link_rings(map, &mut table, &stars);
-        label_rings(map, &mut table, &stars);
-        let kept = keep_rings(alloc, map, &stars)?;
+        let kept = label_rings(alloc, map, &mut table, &stars)?;
         let grid = grid_of(alloc, map)?;
         Ok(Draft {
             rows,

@@ -1,10 +1,10 @@
 -- Paths of halves that lead along the sides of a chain, or of a ring.
 use Rattle.std.proofs.Common.{◌≡◌, ◌⊎◌, ℕ, ◌≤◌, ◌||◌, Bool, true, false, List, [], ◌∷◌, ◌++◌, map, length, refl, sym, ap, ◌∙◌, subst, inl, inr, nat_eq, true≢false, arith}
 use Rattle.std.proofs.lemmas.Bool.Decides.{Decides-eqb}
-use Rattle.std.specs.List.{AllByRecursion, Contains, IsDistinct, list_any}
-use Rattle.cad_rings.specs.Cycle.{Ring, Side, sides_along, sides_of, Corner, corner_back, corners_along, corners_of}
+use Rattle.std.specs.List.{AllByRecursion, Contains, IsDistinct}
+use Rattle.cad_rings.specs.Cycle.{Ring, Side, sides_along, sides_of, Corner, corner_back, corners_of}
 use Rattle.cad_rings.specs.Surgery.{corner, sides_of_chain, corners_of_chain}
-use Rattle.cad_map.proofs.CallerLemmas.{Contains-cases, Contains-first, Contains-later, Contains-map, All-at_each}
+use Rattle.cad_map.proofs.CallerLemmas.{Contains-cases, Contains-first, Contains-later}
 use Rattle.half_table.specs.declared.half.Half.{Half}
 use Rattle.half_table.specs.Half.{twin, is_half}
 use Rattle.half_table.specs.Cycle.{IsRun}

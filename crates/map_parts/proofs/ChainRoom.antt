@@ -6,8 +6,6 @@ use Rattle.std.proofs.lemmas.Bool.{eqb-true, eq-eqb}
 use Rattle.std.proofs.lemmas.List.Sums.{sum_by-append}
 use Rattle.cad_rows.specs.declared.rows.StringRow.{StringRow}
 use Rattle.cad_rings.specs.Cycle.{Side, sides_along}
-use Rattle.cad_rings.specs.Surgery.{sides_of_chain}
-use Rattle.cad_rings.proofs.CallerLemmas.{sides_of_chain-is}
 use Rattle.cad_map.specs.Map.{side_of}
 use Rattle.cad_map.specs.Valid.{EachPair}
 use Rattle.cad_map.proofs.CallerLemmas.{count-yes, count-no}

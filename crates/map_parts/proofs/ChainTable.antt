@@ -1,7 +1,7 @@
 -- The table where a chain parts a ring in two, or joins two.
-use Rattle.std.proofs.Common.{◌≡◌, ◌≢◌, ◌⊎◌, ℕ, ◌≤◌, Bool, true, false, true≢false, List, [], ◌∷◌, map, length, refl, sym, ap, ◌∙◌, subst, inl, inr, arith}
+use Rattle.std.proofs.Common.{◌≡◌, ◌≢◌, ◌⊎◌, ℕ, ◌≤◌, true, true≢false, List, [], ◌∷◌, map, length, sym, ap, ◌∙◌, subst, inl, inr, arith}
 use Rattle.std.specs.List.{AllByRecursion, Contains}
-use Rattle.cad_rings.specs.Cycle.{Side, opposite, Corner, corner_back}
+use Rattle.cad_rings.specs.Cycle.{Side, opposite, Corner}
 use Rattle.cad_rings.specs.Surgery.{corner, sides_of_chain, corners_of_chain}
 use Rattle.cad_map.specs.Chain.{start_of, next_of, end_of, last_but_one, leaving}
 use Rattle.cad_map.specs.Map.{Map, all_corners}
@@ -9,7 +9,7 @@ use Rattle.cad_map.specs.Rings.{HasWholeRings}
 use Rattle.cad_map.specs.Views.{ComesAfter}
 use Rattle.cad_map.proofs.CallerLemmas.{Contains-first, Contains-later, Contains-cases, Contains-map, map-Contains, All-at_each, of_both_ways, in_both_ways}
 use Rattle.half_table.specs.declared.half.Half.{Half}
-use Rattle.half_table.specs.Half.{twin, is_half}
+use Rattle.half_table.specs.Half.{twin}
 use Rattle.half_table.specs.Rows.{HalfRows, IsLinked, has, next, origin_of}
 use Rattle.half_table.proofs.Halves.{twin-twin, cases_half, other-is_half}
 use Rattle.half_paths.specs.Path.{strings_of, last_of}

@@ -1,11 +1,10 @@
 -- The points along a cycle of a table, as a ring with its sides and corners.
-use Rattle.std.proofs.Common.{◌⊎◌, ◌≡◌, ℕ, zero, suc, ◌≤◌, Bool, true, false, List, [], ◌∷◌, ◌++◌, length, map, refl, sym, ap, ◌∙◌, subst, arith, inl, inr}
+use Rattle.std.proofs.Common.{◌⊎◌, ◌≡◌, ℕ, ◌≤◌, true, List, [], ◌∷◌, ◌++◌, length, map, refl, sym, ap, ◌∙◌, subst, arith, inl, inr}
 use Rattle.std.specs.List.{Contains}
-use Rattle.cad_rings.specs.Cycle.{Ring, Side, sides_of, Corner, corners_along, corners_of}
+use Rattle.cad_rings.specs.Cycle.{sides_of, Corner, corners_along, corners_of}
 use Rattle.cad_rings.specs.Surgery.{corner}
 use Rattle.cad_map.proofs.CallerLemmas.{Contains-cases, Contains-first, Contains-later, side_before, sides-before}
 use Rattle.half_table.specs.declared.half.Half.{Half}
-use Rattle.half_table.specs.Half.{is_half}
 use Rattle.half_table.specs.Cycle.{IsRun, orbit}
 use Rattle.half_table.specs.Rows.{HalfRows, next, origin_of, halves, cycle, has, IsLinked}
 use Rattle.half_table.proofs.Closed.{cycle-closes}

@@ -1,5 +1,5 @@
 -- A division with the room that it takes and its strings in the table.
-use Rattle.std.proofs.Common.{◌≡◌, ◌≢◌, ℕ, ◌+◌, Bool, true, false, refl, sym, ap, subst, ◌∙◌, List, [], ◌∷◌, ◌++◌, map, length, suc, nat_eq, arith}
+use Rattle.std.proofs.Common.{◌≡◌, ◌≢◌, ℕ, ◌+◌, true, refl, sym, ap, subst, ◌∙◌, List, [], ◌∷◌, ◌++◌, map, length, suc, nat_eq, arith}
 use Rattle.std.specs.Prelude.{IsPermutation, ◌-◌, ◌<◌, slice_get, Some}
 use Rattle.std.specs.List.{AllByRecursion, Contains, IsDistinct}
 use Rattle.cad_rows.specs.declared.names.Face.{Face}
@@ -12,17 +12,17 @@ use Rattle.cad_rings.proofs.CallerLemmas.{sides_of_chain-is}
 use Rattle.cad_map.specs.declared.boundary.Boundary.{Boundary}
 use Rattle.cad_map.specs.Boundaries.{face_place}
 use Rattle.cad_map.specs.Chain.{start_of, end_of, inner_of, leaving}
-use Rattle.cad_map.specs.Map.{Map, side_of}
+use Rattle.cad_map.specs.Map.{side_of}
 use Rattle.cad_map.specs.Valid.{EachPair}
 use Rattle.cad_map.proofs.CallerLemmas.{All-at_each, All-from_each, in_parts, pairs-from_distinct}
 use Rattle.half_table.specs.declared.half.Half.{Half}
 use Rattle.half_table.specs.Half.{twin}
-use Rattle.half_table.specs.Rows.{HalfRows, IsLinked, has, next, origin_of}
+use Rattle.half_table.specs.Rows.{HalfRows, IsLinked, has, next}
 use Rattle.half_paths.specs.Path.{strings_of}
 use Rattle.half_paths.specs.Loose.{AddsStrings, numbers_of, is_of}
 use Rattle.entry_list.specs.Slots.{HasSlot}
 use Rattle.key_lists.specs.Held.{Held, IsSame, items_at, HasRoomAt}
-use Rattle.cad_laws.specs.Local.{IsShown, side_by}
+use Rattle.cad_laws.specs.Local.{side_by}
 use Rattle.map_parts.specs.declared.map_rows.MapRows.{MapRows}
 use Rattle.map_parts.specs.declared.stars.Spoke.{Spoke}
 use Rattle.map_parts.specs.Rows.{map_in}
@@ -31,7 +31,7 @@ use Rattle.map_parts.specs.Labels.{IsAlong, IsOnRing}
 use Rattle.map_parts.specs.Islands.{AreOfRings}
 use Rattle.map_parts.specs.Shown.{KeepsShown}
 use Rattle.map_parts.specs.Splitting.{FitMap}
-use Rattle.map_parts.specs.Dividing.{IsDividing, divided, rings_beside, CanDivide, CanUndivide, CanBeginDivide, CanBeginUndivide}
+use Rattle.map_parts.specs.Dividing.{divided, rings_beside, CanDivide, CanUndivide, CanBeginDivide, CanBeginUndivide}
 use Rattle.map_parts.proofs.AddedStrings.{strings-path, numbers-distinct}
 use Rattle.map_parts.proofs.AlongPaths.{is-on_path}
 use Rattle.map_parts.proofs.ChainAcross.{last-string}

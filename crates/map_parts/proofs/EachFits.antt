@@ -1,7 +1,5 @@
 -- The two ways to say that a table with one half kept of each ring is that of a map.
 use Rattle.std.proofs.Common.{◌≡◌, [], true}
-use Rattle.std.specs.Prelude.{IsPermutation}
-use Rattle.std.specs.List.{AllByRecursion, Contains}
 use Rattle.cad_map.specs.Boundaries.{face_place}
 use Rattle.cad_map.specs.Map.{Map}
 use Rattle.cad_map.specs.Rings.{HasWholeRings}
@@ -14,7 +12,6 @@ use Rattle.key_lists.specs.Held.{Held, items_at}
 use Rattle.cad_rows.specs.declared.names.Face.{Face}
 use Rattle.map_parts.specs.declared.stars.Spoke.{Spoke}
 use Rattle.map_parts.specs.Parts.{Parts}
-use Rattle.map_parts.specs.Fits.{FitRings}
 use Rattle.map_parts.specs.Building.{parts_of}
 use Rattle.map_parts.specs.Passing.{FitTable}
 use Rattle.map_parts.specs.Islands.{FitsTable}

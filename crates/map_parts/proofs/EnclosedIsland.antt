@@ -1,5 +1,5 @@
 -- An enclosure brings an island.
-use Rattle.std.proofs.Common.{◌≡◌, ◌≢◌, ◌⊎◌, ℕ, Bool, true, false, not, List, [], ◌∷◌, ◌++◌, map, filter, reverse, refl, sym, ap, ◌∙◌, subst, inl, inr, true≢false, if◌then◌else◌, ◌==◌}
+use Rattle.std.proofs.Common.{◌≡◌, ◌⊎◌, ℕ, Bool, true, false, not, List, [], ◌∷◌, ◌++◌, map, filter, reverse, refl, sym, ap, ◌∙◌, subst, inl, inr, true≢false, if◌then◌else◌, ◌==◌}
 use Rattle.std.specs.Prelude.{IsPermutation, is_some}
 use Rattle.std.specs.List.{AllByRecursion, Contains}
 use Rattle.std.proofs.lemmas.List.{map-append, append-nil}
@@ -11,7 +11,7 @@ use Rattle.cad_rows.specs.declared.names.Face.{Face}
 use Rattle.cad_rows.specs.declared.names.Face.TheVariants.{Outside, Parcel}
 use Rattle.cad_rows.specs.declared.rows.ParcelRow.{ParcelRow}
 use Rattle.cad_map.specs.Table.{row_with}
-use Rattle.cad_rings.specs.Cycle.{Ring, Side, sides_of, opposite}
+use Rattle.cad_rings.specs.Cycle.{Ring, sides_of, opposite}
 use Rattle.cad_rings.proofs.CallerLemmas.{sides_of-least_rotation, sides_of-reversed}
 use Rattle.cad_map.specs.declared.boundary.Boundary.{Boundary}
 use Rattle.cad_map.specs.Boundaries.{is_face, bounding, canonical_form}

@@ -1,6 +1,6 @@
 -- An enclosure of a map on half-edges that is made in place, and taken back.
-use Rattle.std.proofs.Common.{◌≡◌, ◌≢◌, ℕ, ◌+◌, ◌≤◌, Bool, true, false, refl, sym, ap, subst, ◌∙◌, List, [], ◌∷◌, ◌++◌, map, reverse, filter, not, ◌==◌, append-nil, slice_get, length, Option, Some, None, is_some, arith}
-use Rattle.std.specs.Prelude.{IsPermutation, IsSome}
+use Rattle.std.proofs.Common.{◌≡◌, ◌≢◌, ℕ, ◌+◌, ◌≤◌, true, false, refl, sym, ap, subst, ◌∙◌, List, [], ◌∷◌, ◌++◌, map, reverse, length, None, is_some, arith}
+use Rattle.std.specs.Prelude.{IsSome}
 use Rattle.std.specs.List.{AllByRecursion, Contains}
 use Rattle.std.proofs.lemmas.List.{length-append}
 use Rattle.cad_rows.specs.declared.edits.Edit.TheVariants.{Enclose}
@@ -8,27 +8,26 @@ use Rattle.cad_rows.specs.declared.names.Face.{Face}
 use Rattle.cad_rows.specs.declared.names.Face.TheVariants.{Parcel}
 use Rattle.cad_rows.specs.declared.rows.ParcelRow.{ParcelRow}
 use Rattle.cad_rows.specs.declared.rows.StringRow.{StringRow}
-use Rattle.cad_rings.specs.Cycle.{Ring, Side, sides_of, Corner, corner_back, corners_of}
+use Rattle.cad_rings.specs.Cycle.{Ring, sides_of}
 use Rattle.cad_rings.specs.Surgery.{sides_of_chain}
 use Rattle.cad_rings.proofs.CallerLemmas.{sides_of_chain-is}
 use Rattle.cad_map.specs.declared.boundary.Boundary.{Boundary}
 use Rattle.cad_map.specs.Boundaries.{face_place, bounding, canonical_form}
-use Rattle.cad_map.specs.Chain.{start_of, strings_along}
+use Rattle.cad_map.specs.Chain.{start_of}
 use Rattle.cad_map.specs.Effects.{after}
 use Rattle.cad_map.specs.Map.{Map, string_of, parcel_of, side_of, has_face}
 use Rattle.cad_map.specs.Rings.{HasWholeRings}
-use Rattle.cad_map.specs.Table.{row_with, without_row}
+use Rattle.cad_map.specs.Table.{without_row}
 use Rattle.cad_map.specs.Valid.{EachPair}
-use Rattle.cad_map.proofs.CallerLemmas.{CanEnclose as IsAllowed, can-enclose, allowed, whole_valid, row_with-there, All-append, All-from_each, All-follows, All-join, numbers-strings_along, sides-strings_along, pairs-from_distinct, is_face-place}
+use Rattle.cad_map.proofs.CallerLemmas.{CanEnclose as IsAllowed, can-enclose, allowed, whole_valid, row_with-there, All-append, All-from_each, All-follows, All-join, numbers-strings_along, sides-strings_along, pairs-from_distinct}
 use Rattle.half_table.specs.declared.half.Half.{Half}
-use Rattle.half_table.specs.Half.{forward_of, twin}
+use Rattle.half_table.specs.Half.{forward_of}
 use Rattle.half_table.specs.Rows.{HalfRows, IsLinked, has, next}
 use Rattle.half_paths.specs.Path.{AreIn, AreDifferent}
 use Rattle.half_paths.specs.Loose.{numbers_of}
 use Rattle.half_paths.specs.Round.{IsRound}
 use Rattle.key_lists.specs.Held.{Held, items_at}
-use Rattle.cad_laws.specs.Local.{IsShown, side_by}
-use Rattle.cad_laws.specs.Tried.{IsTried}
+use Rattle.cad_laws.specs.Local.{IsShown}
 use Rattle.cad_laws.proofs.CallerLemmas.{whole-after}
 use Rattle.map_parts.specs.declared.map_rows.MapRows.{MapRows}
 use Rattle.map_parts.specs.declared.stars.Spoke.{Spoke}
@@ -38,7 +37,6 @@ use Rattle.map_parts.specs.Paths.{AreAlong, HasStringsMore}
 use Rattle.map_parts.specs.Islands.{FitsTable, AreOfRings, IsIslandOf}
 use Rattle.map_parts.specs.Labels.{IsOnRing}
 use Rattle.map_parts.specs.Handing.{KeepsEach, HaveTwoFaces}
-use Rattle.map_parts.specs.Passing.{FitTable}
 use Rattle.map_parts.specs.Splitting.{FitMap, AreStarsOf}
 use Rattle.map_parts.specs.StringRows.{CanPutStrings, CanTakeStrings, without_rows}
 use Rattle.map_parts.specs.Enclosing.{IsEnclosing, enclosed, rings_placed, CanEnclose, CanOpen}

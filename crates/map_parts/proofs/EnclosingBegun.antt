@@ -1,19 +1,19 @@
 -- An enclosure with the room that it takes and its strings in the table.
-use Rattle.std.proofs.Common.{◌≡◌, ◌≢◌, ℕ, ◌+◌, true, refl, sym, ap, subst, ◌∙◌, List, [], ◌∷◌, ◌++◌, map, length, nat_eq, arith}
+use Rattle.std.proofs.Common.{◌≡◌, ◌≢◌, ℕ, ◌+◌, true, refl, sym, ap, subst, ◌∙◌, List, [], ◌∷◌, ◌++◌, map, length, nat_eq}
 use Rattle.std.specs.Prelude.{IsPermutation, flat_map, Result, Ok, Err, OnErr}
-use Rattle.std.specs.List.{AllByRecursion, Contains, IsDistinct}
+use Rattle.std.specs.List.{AllByRecursion, IsDistinct}
 use Rattle.cad_rows.specs.declared.names.Face.{Face}
 use Rattle.cad_rows.specs.declared.names.Face.TheVariants.{Parcel}
 use Rattle.cad_rows.specs.declared.rows.ParcelRow.{ParcelRow}
 use Rattle.cad_rows.specs.declared.rows.StringRow.{StringRow}
 use Rattle.cad_map.specs.Boundaries.{face_place}
-use Rattle.cad_map.specs.Map.{Map, faces, has_face}
+use Rattle.cad_map.specs.Map.{Map, faces}
 use Rattle.cad_map.proofs.CallerLemmas.{All-from_each, pairs-from_distinct}
 use Rattle.half_table.specs.declared.half.Half.{Half}
-use Rattle.half_table.specs.Half.{forward_of, twin}
-use Rattle.half_table.specs.Rows.{HalfRows, IsLinked, next, origin_of}
+use Rattle.half_table.specs.Half.{twin}
+use Rattle.half_table.specs.Rows.{HalfRows, IsLinked, next}
 use Rattle.half_paths.specs.Path.{strings_of}
-use Rattle.half_paths.specs.Loose.{AddsStrings, AreLoose, numbers_of, is_of}
+use Rattle.half_paths.specs.Loose.{AddsStrings, numbers_of, is_of}
 use Rattle.entry_list.specs.Slots.{HasSlot}
 use Rattle.key_lists.specs.Held.{Held, IsSame, items_at, HasRoomAt}
 use Rattle.cad_laws.specs.Local.{IsShown, side_by}
@@ -22,12 +22,11 @@ use Rattle.map_parts.specs.declared.stars.Spoke.{Spoke}
 use Rattle.map_parts.specs.Rows.{map_in}
 use Rattle.map_parts.specs.Stars.{spokes_at}
 use Rattle.map_parts.specs.Islands.{AreOfRings}
-use Rattle.map_parts.specs.Passing.{FitTable, kept_in}
+use Rattle.map_parts.specs.Passing.{FitTable}
 use Rattle.map_parts.specs.KeptRings.{KeepsRings}
 use Rattle.map_parts.specs.Shown.{KeepsShown}
 use Rattle.map_parts.specs.Splitting.{FitMap}
-use Rattle.map_parts.specs.StringRows.{HasRoomFor}
-use Rattle.map_parts.specs.Enclosing.{IsEnclosing, enclosed, rings_placed, CanEnclose, CanOpen, CanBeginEnclose, CanBeginOpen}
+use Rattle.map_parts.specs.Enclosing.{enclosed, rings_placed, CanEnclose, CanOpen, CanBeginEnclose, CanBeginOpen}
 use Rattle.map_parts.proofs.AddedStrings.{strings-path, numbers-distinct}
 use Rattle.map_parts.proofs.AlongPaths.{is-on_path}
 use Rattle.map_parts.proofs.Enclosing as made

@@ -1,7 +1,6 @@
 -- A table that goes with a valid map half by half fits it.
-use Rattle.std.proofs.Common.{◌≡◌, ◌≢◌, ℕ, ◌≤◌, List, [], ◌∷◌, map, refl, sym, ap, ◌∙◌, subst, arith, Some}
-use Rattle.std.specs.Prelude.{IsPermutation}
-use Rattle.std.specs.List.{AllByRecursion, Contains}
+use Rattle.std.proofs.Common.{◌≡◌, ℕ, List, map, sym, ap, ◌∙◌, subst}
+use Rattle.std.specs.List.{Contains}
 use Rattle.std.proofs.lemmas.Option.{same_Some}
 use Rattle.std.proofs.lemmas.List.Sorted.{IsPermutation-sym, Contains-permutation}
 use Rattle.cad_rows.specs.declared.names.Face.{Face}
@@ -14,11 +13,10 @@ use Rattle.cad_map.proofs.CallerLemmas.{Contains-map, All-at_each, map-Contains,
 use Rattle.cad_laws.proofs.CallerLemmas.{one-ring, face-told}
 use Rattle.map_parts.proofs.WholeStrings.{two-ends}
 use Rattle.half_table.specs.declared.half.Half.{Half}
-use Rattle.half_table.specs.Half.{twin}
 use Rattle.half_table.specs.Rows.{HalfRows, next, origin_of, face, cycle}
 use Rattle.cad_laws.specs.Local.{IsShown, side_by, IsLocal}
-use Rattle.map_parts.specs.KeptRings.{IsRingOf, IsKept, KeepsRings}
-use Rattle.map_parts.specs.Parts.{Parts, FitTogether, IsOnKeptCycle, HasHalves, rows_of, map_of, kept_halves}
+use Rattle.map_parts.specs.KeptRings.{IsKept, KeepsRings}
+use Rattle.map_parts.specs.Parts.{Parts, FitTogether, IsOnKeptCycle, map_of, kept_halves}
 use Rattle.map_parts.specs.Fits.{FitRings, with_rings}
 use Rattle.map_parts.proofs.RingsOfHalves.{cycle-ring, cycle-same_ring, rings-canonical}
 use Rattle.map_parts.proofs.PartsRings.{half-two}

@@ -1,5 +1,5 @@
 -- A table that goes with a map, after an island has come or gone.
-use Rattle.std.proofs.Common.{◌≡◌, ◌≢◌, ℕ, ◌+◌, ◌≤◌, Bool, true, false, List, [], ◌∷◌, map, length, refl, sym, ap, ◌∙◌, subst, if◌then◌else◌, arith}
+use Rattle.std.proofs.Common.{◌≡◌, ◌≢◌, ◌≤◌, Bool, List, ◌∷◌, map, length, sym, ap, ◌∙◌, subst, if◌then◌else◌}
 use Rattle.std.specs.List.{AllByRecursion, Contains, list_any}
 use Rattle.std.proofs.lemmas.List.Sorted.{Contains-permutation}
 use Rattle.cad_rows.specs.declared.names.Face.{Face}
@@ -10,7 +10,7 @@ use Rattle.cad_map.specs.Map.{Map}
 use Rattle.cad_map.specs.Merger.{handed_over}
 use Rattle.cad_map.specs.Rings.{HasWholeRings}
 use Rattle.cad_map.specs.Views.{HasSide}
-use Rattle.cad_map.proofs.CallerLemmas.{Contains-first, Contains-map, All-at_each, All-from_each, All-follows}
+use Rattle.cad_map.proofs.CallerLemmas.{Contains-first, Contains-map, All-follows}
 use Rattle.half_table.specs.declared.half.Half.{Half}
 use Rattle.half_table.specs.Half.{twin, forward_of, backward_of}
 use Rattle.half_table.specs.Cycle.{holds}
@@ -26,7 +26,7 @@ use Rattle.map_parts.specs.Paths.{AreAlong, HasStringsMore}
 use Rattle.map_parts.specs.Relabelled.{on_cycles, RelabelsEach}
 use Rattle.map_parts.specs.Islands.{FitsTable, AreOfRings, IsIslandOf}
 use Rattle.map_parts.proofs.WholeStrings.{two-ends}
-use Rattle.map_parts.proofs.PartsRings.{half-two, row-there}
+use Rattle.map_parts.proofs.PartsRings.{half-two}
 use Rattle.map_parts.proofs.KeptShown.{local-kept, bare}
 use Rattle.map_parts.proofs.RelabelledEach.{cycle-same}
 use Rattle.map_parts.proofs.RingCycles.{labelled-faces, ring-has_side}

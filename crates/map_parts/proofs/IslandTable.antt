@@ -1,8 +1,7 @@
 -- The table where an island comes, and where it goes.
-use Rattle.std.proofs.Common.{◌≡◌, ◌≢◌, ◌⊎◌, ℕ, ◌≤◌, ◌||◌, Bool, true, false, List, [], ◌∷◌, ◌++◌, map, length, refl, sym, ap, ◌∙◌, subst, inl, inr, true≢false, arith}
+use Rattle.std.proofs.Common.{◌≡◌, ◌≢◌, ◌⊎◌, ℕ, ◌≤◌, ◌||◌, Bool, true, false, List, [], ◌∷◌, map, length, refl, sym, ap, ◌∙◌, subst, inl, inr, true≢false}
 use Rattle.std.specs.List.{AllByRecursion, Contains}
-use Rattle.cad_rows.specs.declared.rows.StringRow.{StringRow}
-use Rattle.cad_rings.specs.Cycle.{Ring, Side, sides_along, sides_of, opposite, Corner, corner_back, corners_of}
+use Rattle.cad_rings.specs.Cycle.{Ring, Side, sides_of, opposite, Corner, corners_of}
 use Rattle.cad_rings.specs.Surgery.{corner, both_ways}
 use Rattle.cad_map.specs.Map.{Map, all_corners, has_string}
 use Rattle.cad_map.specs.Rings.{HasWholeRings}
@@ -12,7 +11,7 @@ use Rattle.half_table.specs.declared.half.Half.{Half}
 use Rattle.half_table.specs.Half.{twin}
 use Rattle.half_table.specs.Rows.{HalfRows, IsLinked, has, next, origin_of}
 use Rattle.half_table.proofs.Halves.{twin-twin}
-use Rattle.half_paths.specs.Path.{strings_of, last_of, AreDifferent, AreElsewhere}
+use Rattle.half_paths.specs.Path.{strings_of, AreDifferent, AreElsewhere}
 use Rattle.half_paths.specs.Loose.{is_of}
 use Rattle.half_paths.specs.Round.{IsRound}
 use Rattle.cad_laws.specs.Local.{IsShown, side_by, beyond, IsLocal, LeadsAlong}

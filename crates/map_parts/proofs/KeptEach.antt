@@ -1,15 +1,15 @@
 -- One half kept of each ring, face by face.
-use Rattle.std.proofs.Common.{◌≡◌, ◌≢◌, ◌⊎◌, inl, inr, ℕ, suc, Bool, true, false, not, ◌&&◌, List, [], ◌∷◌, ◌++◌, map, find, filter, refl, sym, ap, ◌∙◌, subst, Option, Some, None, true≢false, ◌==◌, arith}
-use Rattle.std.specs.Prelude.{IsPermutation, flat_map, unwrap_or, is_some}
+use Rattle.std.proofs.Common.{◌≡◌, ◌≢◌, ◌⊎◌, inl, inr, ℕ, Bool, true, false, ◌&&◌, List, [], ◌∷◌, ◌++◌, map, find, refl, sym, ap, ◌∙◌, subst, Option, Some, None, true≢false, ◌==◌, arith}
+use Rattle.std.specs.Prelude.{IsPermutation, flat_map, unwrap_or}
 use Rattle.std.specs.List.{AllByRecursion, Contains}
 use Rattle.std.specs.Str.{bytes_eq}
 use Rattle.std.proofs.lemmas.List.{map-append}
 use Rattle.std.proofs.lemmas.Slice.Eq.{bytes_eq-Decides}
-use Rattle.std.proofs.lemmas.List.Sorted.{Contains-permutation, IsPermutation-refl, IsPermutation-sym, IsPermutation-trans, IsPermutation-cons, IsPermutation-middle}
+use Rattle.std.proofs.lemmas.List.Sorted.{IsPermutation-refl, IsPermutation-trans, IsPermutation-cons, IsPermutation-middle}
 use Rattle.cad_rows.specs.declared.names.Face.{Face}
 use Rattle.cad_rows.specs.declared.names.Face.TheVariants.{Outside, Parcel}
 use Rattle.cad_rows.specs.declared.rows.ParcelRow.{ParcelRow}
-use Rattle.cad_rings.specs.Cycle.{Side, has_side, sides_of}
+use Rattle.cad_rings.specs.Cycle.{has_side, sides_of}
 use Rattle.cad_map.specs.declared.boundary.Boundary.{Boundary}
 use Rattle.cad_map.specs.Boundaries.{bounding, is_face, face_place}
 use Rattle.cad_map.specs.Map.{Map, faces, has_face, all_sides}
@@ -20,7 +20,7 @@ use Rattle.std.proofs.lemmas.Cmp.{nat_eq_equiv}
 use Rattle.half_table.specs.declared.half.Half.{Half}
 use Rattle.half_table.specs.Rows.{HalfRows}
 use Rattle.key_lists.specs.Held.{Held, items_at}
-use Rattle.cad_laws.specs.Local.{IsShown, side_by}
+use Rattle.cad_laws.specs.Local.{side_by}
 use Rattle.map_parts.specs.KeptRings.{IsKept, KeepsRings}
 use Rattle.map_parts.specs.Parts.{Parts, rows_of, in_face, kept_halves}
 use Rattle.map_parts.specs.Fits.{FitRings, with_rings}

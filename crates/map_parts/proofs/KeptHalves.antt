@@ -1,5 +1,5 @@
 -- One half of each ring, under the places of faces.
-use Rattle.std.proofs.Common.{◌≡◌, ◌≢◌, ℕ, suc, ◌≤◌, ◌⊎◌, ◌==◌, Bool, true, false, List, [], ◌∷◌, ◌++◌, map, find, filter, length, refl, sym, ap, ◌∙◌, subst, arith, inl, inr, Option, Some, None, true≢false}
+use Rattle.std.proofs.Common.{◌≡◌, ◌≢◌, ℕ, suc, ◌⊎◌, ◌==◌, Bool, true, false, List, [], ◌∷◌, ◌++◌, map, find, filter, refl, sym, ap, ◌∙◌, subst, arith, inl, inr, Option, Some, None, true≢false}
 use Rattle.std.specs.Prelude.{IsPermutation, flat_map, ◌||◌, unwrap_or, is_some}
 use Rattle.std.specs.List.{AllByRecursion, Contains, list_any}
 use Rattle.std.proofs.lemmas.Bool.{eqb-true}
@@ -9,18 +9,18 @@ use Rattle.std.proofs.lemmas.List.Elements.{filter-append}
 use Rattle.cad_rows.specs.declared.names.Face.{Face}
 use Rattle.cad_rows.specs.declared.names.Face.TheVariants.{Outside, Parcel}
 use Rattle.cad_rows.specs.declared.rows.ParcelRow.{ParcelRow}
-use Rattle.cad_rings.specs.Cycle.{Side, has_side, sides_of}
+use Rattle.cad_rings.specs.Cycle.{has_side, sides_of}
 use Rattle.cad_map.specs.declared.boundary.Boundary.{Boundary}
-use Rattle.cad_map.specs.Boundaries.{bounding, is_face, face_place, sides_in}
+use Rattle.cad_map.specs.Boundaries.{bounding, face_place}
 use Rattle.cad_map.specs.Map.{Map, faces, has_face, all_sides}
 use Rattle.cad_map.specs.Table.{row_with}
 use Rattle.cad_map.specs.Rings.{HasWholeRings}
 use Rattle.cad_map.specs.Valid.{EachPair}
-use Rattle.cad_map.proofs.CallerLemmas.{Contains-first, Contains-later, Contains-cases, Contains-map, Contains-in_part, All-at_each, All-from_each, list_any-Contains, map-Contains, find-Contains, Contains-filter, filter-Contains, has_side-Contains, Contains-has_side, is_face-same, is_face-place, front_exchanged, once-from_pairs}
+use Rattle.cad_map.proofs.CallerLemmas.{Contains-first, Contains-later, Contains-cases, Contains-map, Contains-in_part, All-at_each, All-from_each, list_any-Contains, map-Contains, find-Contains, filter-Contains, has_side-Contains, Contains-has_side, is_face-same, is_face-place, front_exchanged, once-from_pairs}
 use Rattle.half_table.specs.declared.half.Half.{Half}
 use Rattle.half_table.specs.Rows.{HalfRows}
 use Rattle.key_lists.specs.Held.{Held, items_at}
-use Rattle.cad_laws.specs.Local.{IsShown, side_by}
+use Rattle.cad_laws.specs.Local.{side_by}
 use Rattle.map_parts.specs.KeptRings.{IsKept, KeepsRings}
 use Rattle.map_parts.specs.Parts.{Parts, rows_of, kept_at, in_face, kept_halves}
 use Rattle.map_parts.specs.Fits.{with_rings}

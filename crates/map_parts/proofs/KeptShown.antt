@@ -1,5 +1,5 @@
 -- Where the halves of the map's strings are as they were, the parts stand for the same map.
-use Rattle.std.proofs.Common.{◌≡◌, ◌≢◌, ℕ, true, false, List, [], ◌∷◌, refl, sym, ap, ◌∙◌, subst, true≢false, Bool, nat_eq}
+use Rattle.std.proofs.Common.{◌≡◌, ℕ, true, false, List, [], ◌∷◌, refl, sym, ap, ◌∙◌, subst, true≢false, Bool, nat_eq}
 use Rattle.std.specs.List.{AllByRecursion, Contains}
 use Rattle.std.proofs.lemmas.Bool.Decides.{Decides-eqb}
 use Rattle.std.specs.Prelude.{if◌then◌else◌, ◌||◌, Result, Ok, Err, OnOk, OnErr}
@@ -20,7 +20,7 @@ use Rattle.half_paths.specs.Path.{strings_of}
 use Rattle.half_paths.specs.Loose.{numbers_of, is_of, AreNew, AddsStrings, DropsStrings}
 use Rattle.cad_laws.specs.Local.{IsShown, side_by, beyond, IsLocal}
 use Rattle.map_parts.specs.KeptRings.{IsKept, KeepsRings}
-use Rattle.map_parts.specs.Parts.{Parts, FitTogether, HasHalves, rows_of, map_of, kept_halves}
+use Rattle.map_parts.specs.Parts.{Parts, FitTogether, HasHalves, map_of, kept_halves}
 use Rattle.map_parts.specs.Fits.{FitRings, HaveFaces, with_rings}
 use Rattle.map_parts.specs.Shown.{KeepsShown}
 use Rattle.map_parts.proofs.WholeStrings.{strings-once}

@@ -2,43 +2,37 @@
 use Rattle.std.proofs.Common.{◌≡◌, ◌≢◌, ℕ, ◌+◌, ◌<◌, ◌≤◌, slice_get, ◌⊎◌, Bool, true, false, List, [], ◌∷◌, map, length, refl, sym, ap, ◌∙◌, subst, arith, inl, inr, Option, Some, None, true≢false}
 use Rattle.std.proofs.lemmas.Bool.{cases_lt}
 use Rattle.std.proofs.lemmas.Option.{slice_get-get_or}
-use Rattle.cad_rings.specs.Cycle.{turned}
-use Rattle.map_parts.specs.Views.{view_half}
-use Rattle.map_parts.proofs.Rounds.{first-in}
-use Rattle.std.specs.Prelude.{slice_index, IsSome, unwrap_or, ◌||◌, if◌then◌else◌}
-use Rattle.std.specs.List.{AllByRecursion, Contains}
+use Rattle.std.specs.Prelude.{unwrap_or, ◌||◌, if◌then◌else◌}
+use Rattle.std.specs.List.{Contains}
 use Rattle.std.proofs.lemmas.Option.{same_Some}
 use Rattle.cad_rows.specs.declared.names.Face.{Face}
-use Rattle.cad_rows.specs.declared.rows.StringRow.{StringRow}
 use Rattle.cad_rings.specs.Cycle.{Ring, Side, sides_of, opposite, IsSameRing}
-use Rattle.cad_rings.specs.Surgery.{corner}
 use Rattle.cad_rings.proofs.CallerLemmas.{IsSameRing-sym}
 use Rattle.cad_map.specs.declared.boundary.Boundary.{Boundary}
-use Rattle.cad_map.specs.Map.{Map, all_sides, string_sides, has_string, side_of, point_after}
+use Rattle.cad_map.specs.Map.{Map, all_sides, string_sides, side_of, point_after}
 use Rattle.cad_map.specs.Rings.{HasWholeRings}
 use Rattle.cad_map.specs.Steps.{next_side}
 use Rattle.cad_map.specs.Views.{ComesAfter, HasSide}
-use Rattle.cad_map.proofs.CallerLemmas.{All-follows, Contains-first, Contains-at, Contains-later, Contains-cases, Contains-map, Contains-flat_map, Contains-in_part, All-at_each, list_any-Contains, map-Contains, Contains-has_side, point_after-some, point_after-none, side-same}
+use Rattle.cad_map.proofs.CallerLemmas.{All-follows, Contains-first, Contains-at, Contains-later, Contains-map, Contains-flat_map, Contains-in_part, list_any-Contains, map-Contains, Contains-has_side, point_after-some, point_after-none, side-same}
 use Rattle.cad_laws.proofs.CallerLemmas.{one-ring}
 use Rattle.std.proofs.lemmas.List.Sorted.{Contains-permutation}
 use Rattle.map_parts.proofs.WholeStrings.{two-ends, strings-once}
 use Rattle.half_table.specs.declared.half.Half.{Half}
 use Rattle.half_table.specs.Half.{is_half, twin, half_of}
 use Rattle.half_table.specs.Cycle.{holds}
-use Rattle.half_table.specs.Rows.{HalfRows, IsLinked, has, next, origin_of, face, cycle}
+use Rattle.half_table.specs.Rows.{HalfRows, IsLinked, next, origin_of, face, cycle}
 use Rattle.half_table.specs.Surgery.{Relabels}
 use Rattle.half_table.proofs.Halves.{is_half-self, is_half-same}
 use Rattle.map_parts.specs.declared.stars.Spoke.{Spoke}
 use Rattle.key_lists.specs.Held.{Held}
 use Rattle.cad_laws.specs.Local.{IsShown, side_by, IsLocal}
-use Rattle.map_parts.specs.Parts.{HasHalves}
 use Rattle.map_parts.specs.Building.{HoldsStrings, IsLinkedAt}
 use Rattle.map_parts.specs.Labels.{IsOnRing, IsLabelled, KeepsLabels}
 use Rattle.map_parts.proofs.RingsOfHalves.{cycle-same_ring}
 use Rattle.map_parts.proofs.CycleRings.{cycle-each, cycle-sides}
 use Rattle.map_parts.proofs.PartsRings.{found-row, half-two, rings_at-there}
 use Rattle.map_parts.proofs.ToHalves.{side-half_of}
-use Rattle.map_parts.proofs.Strings.{sides-apart, told-some, told-is, with_stars}
+use Rattle.map_parts.proofs.Strings.{sides-apart, with_stars}
 
 -- ---- All halves are linked
 

@@ -1,25 +1,17 @@
 -- What is linked stays: halves are joined one by one as the rings of a map go.
-use Rattle.std.proofs.Common.{◌≡◌, ◌≢◌, ℕ, zero, suc, ◌+◌, ◌≤◌, ◌<◌, ◌⊎◌, ◌==◌, Bool, true, false, List, [], ◌∷◌, length, map, find, refl, sym, ap, ◌∙◌, subst, arith, inl, inr, Option, Some, None, true≢false}
-use Rattle.std.specs.Prelude.{IsPermutation, option_map}
-use Rattle.std.specs.List.{AllByRecursion, Contains}
-use Rattle.std.proofs.lemmas.Bool.{eqb-true}
-use Rattle.std.proofs.lemmas.Cmp.{nat_eq_equiv}
-use Rattle.std.proofs.lemmas.List.Sorted.{IsPermutation-sym, Contains-permutation}
-use Rattle.cad_rows.specs.declared.rows.StringRow.{StringRow}
-use Rattle.cad_rings.specs.Cycle.{Ring, Side, sides_of, opposite, turned, corners_of}
-use Rattle.cad_rings.specs.Surgery.{corner}
+use Rattle.std.proofs.Common.{◌≡◌, ℕ, zero, suc, ◌≤◌, length, refl, sym, ap, ◌∙◌, subst, arith, inl, inr}
+use Rattle.std.specs.List.{Contains}
+use Rattle.cad_rings.specs.Cycle.{Side, sides_of, turned}
 use Rattle.cad_rings.proofs.CallerLemmas.{IsSameRing-turned, length-turned}
 use Rattle.cad_map.specs.declared.boundary.Boundary.{Boundary}
-use Rattle.cad_map.specs.Map.{Map, all_sides, string_sides, has_string, side_of}
+use Rattle.cad_map.specs.Map.{Map, all_sides, has_string}
 use Rattle.cad_map.specs.Rings.{HasWholeRings}
 use Rattle.cad_map.specs.Steps.{next_side, steps}
-use Rattle.cad_map.specs.Walk.{first_side}
 use Rattle.cad_map.proofs.CallerLemmas.{Contains-cases, Contains-first, Contains-later, Contains-in_part, Contains-flat_map, All-at_each, IsWalked, walked-same, side-place, steps-round, ring-walked, comes_from, next-in_all}
 use Rattle.cad_map.proofs.CallerLemmas as maps
 use Rattle.half_table.specs.declared.half.Half.{Half}
-use Rattle.half_table.specs.Half.{is_half, twin, half_of, forward_of, backward_of}
-use Rattle.half_table.specs.Cycle.{exchanged}
-use Rattle.half_table.specs.Rows.{HalfRows, Table, IsLinked, has, next, prev, origin_of}
+use Rattle.half_table.specs.Half.{twin}
+use Rattle.half_table.specs.Rows.{HalfRows, IsLinked, has, next, prev}
 use Rattle.half_table.specs.Surgery.{IsSpliced}
 use Rattle.half_table.proofs.Halves.{cases_half, exchanged-first, exchanged-other}
 use Rattle.cad_laws.specs.Local.{IsShown, side_by}

@@ -1,5 +1,5 @@
 -- The rows of a map after a merger, and those before it: the strings that the two parcels share and the ended one go, and come back.
-use Rattle.std.proofs.Common.{◌≡◌, ◌≢◌, inl, inr, ℕ, ◌+◌, ◌≤◌, ◌==◌, Bool, true, false, not, true≢false, refl, sym, ap, subst, ◌∙◌, List, [], ◌∷◌, ◌++◌, map, filter, length, insert, slice_get, Some, None, arith}
+use Rattle.std.proofs.Common.{◌≡◌, ◌≢◌, inl, inr, ℕ, ◌≤◌, ◌==◌, Bool, true, false, not, true≢false, refl, sym, ap, subst, ◌∙◌, List, [], ◌∷◌, ◌++◌, map, filter, length, insert, slice_get, Some, None, arith}
 use Rattle.std.specs.Prelude.{IsSome, IsFalse, IsPermutation}
 use Rattle.std.specs.List.{AllByRecursion, Contains, list_any}
 use Rattle.std.proofs.lemmas.Bool.{eqb-true}

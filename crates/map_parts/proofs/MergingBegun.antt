@@ -1,11 +1,10 @@
 -- A merger along a chain with the room that it takes, and what it leaves for the way back.
-use Rattle.std.proofs.Common.{◌≡◌, ◌≢◌, ℕ, ◌+◌, refl, ap, subst, ◌∙◌, List, length, slice_get, Some, arith}
+use Rattle.std.proofs.Common.{◌≡◌, ◌≢◌, ℕ, ◌+◌, refl, subst, ◌∙◌, List, length, slice_get, Some, arith}
 use Rattle.std.specs.List.{AllByRecursion}
 use Rattle.cad_rings.specs.Surgery.{sides_of_chain}
 use Rattle.cad_rows.specs.declared.names.Face.{Face}
 use Rattle.cad_rows.specs.declared.names.Face.TheVariants.{Parcel}
 use Rattle.cad_rows.specs.declared.rows.ParcelRow.{ParcelRow}
-use Rattle.cad_rows.specs.declared.rows.StringRow.{StringRow}
 use Rattle.cad_map.specs.Boundaries.{face_place}
 use Rattle.cad_map.specs.Chain.{leaving}
 use Rattle.cad_map.specs.Map.{Map}

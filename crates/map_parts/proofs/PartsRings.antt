@@ -1,6 +1,6 @@
 -- What the halves tell of the rings of the map that they stand for.
-use Rattle.std.proofs.Common.{◌≡◌, ◌≢◌, ℕ, zero, suc, ◌≤◌, ◌⊎◌, ◌==◌, Bool, true, false, List, [], ◌∷◌, ◌++◌, length, map, find, filter, refl, sym, ap, ◌∙◌, subst, arith, inl, inr, Option, Some, None, true≢false, cond}
-use Rattle.std.specs.Prelude.{IsPermutation, IsTrue, flat_map, is_some}
+use Rattle.std.proofs.Common.{◌≡◌, ◌≢◌, ℕ, ◌≤◌, ◌⊎◌, ◌==◌, Bool, true, false, List, [], ◌∷◌, length, map, refl, sym, ap, ◌∙◌, subst, arith, inl, inr, Option, Some, None, true≢false}
+use Rattle.std.specs.Prelude.{flat_map, is_some}
 use Rattle.std.specs.List.{AllByRecursion, Contains}
 use Rattle.std.proofs.lemmas.Bool.{eqb-true}
 use Rattle.std.proofs.lemmas.List.Sorted.{IsPermutation-sym, Contains-permutation}
@@ -12,17 +12,17 @@ use Rattle.cad_rings.specs.Canonical.{least_rotation}
 use Rattle.cad_rings.proofs.CallerLemmas.{sides_of-least_rotation}
 use Rattle.cad_map.specs.declared.boundary.Boundary.{Boundary}
 use Rattle.cad_map.specs.Boundaries.{bounding, is_face, canonical_order, sides_in, corners_in, canonical_form}
-use Rattle.cad_map.specs.Map.{Map, all_sides, all_corners, has_string, rings_at, face_sides}
+use Rattle.cad_map.specs.Map.{all_sides, rings_at}
 use Rattle.cad_map.specs.Table.{row_with}
 use Rattle.cad_map.specs.Valid.{HasTwoEnds}
-use Rattle.cad_map.specs.Views.{HasSide, IsNoSide, ComesAfter}
-use Rattle.cad_map.proofs.CallerLemmas.{Contains-cases, Contains-first, Contains-later, Contains-map, Contains-flat_map, Contains-in_part, All-at_each, All-from_each, map-Contains, find-Contains, Contains-has_side, has_side-Contains, is_face-refl, IsPermutation-canonical_order, sides_in-canonical_order, corners_in-canonical_order}
+use Rattle.cad_map.specs.Views.{HasSide, ComesAfter}
+use Rattle.cad_map.proofs.CallerLemmas.{Contains-cases, Contains-first, Contains-later, Contains-map, Contains-flat_map, Contains-in_part, All-at_each, All-from_each, map-Contains, find-Contains, Contains-has_side, is_face-refl, IsPermutation-canonical_order, sides_in-canonical_order, corners_in-canonical_order}
 use Rattle.half_table.specs.declared.half.Half.{Half}
-use Rattle.half_table.specs.Half.{twin, forward_of, backward_of, half_of}
+use Rattle.half_table.specs.Half.{twin, half_of}
 use Rattle.half_table.specs.Rows.{HalfRows, has, next, origin_of, face, cycle}
 use Rattle.cad_laws.specs.Local.{IsShown, side_by}
 use Rattle.map_parts.specs.KeptRings.{kept_ring}
-use Rattle.map_parts.specs.Parts.{Parts, FitTogether, IsOnKeptCycle, HasHalves, rows_of, map_of, kept_halves, rings_kept}
+use Rattle.map_parts.specs.Parts.{Parts, FitTogether, HasHalves, rows_of, map_of, kept_halves, rings_kept}
 use Rattle.map_parts.proofs.CycleRings.{turn, cycle-each, cycle-two, cycle-corners, cycle-sides}
 
 -- a ring of a face among these is one of the face's

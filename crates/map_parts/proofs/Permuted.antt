@@ -1,12 +1,12 @@
 -- Lists in another order, where it is told of each two elements whether they are the same.
-use Rattle.std.proofs.Common.{◌≡◌, ◌≢◌, ◌⊎◌, ℕ, suc, ◌+◌, ◌≤◌, Bool, true, false, not, List, [], ◌∷◌, ◌++◌, filter, refl, sym, ap, ◌∙◌, subst, inl, inr, arith, true≢false, cond}
+use Rattle.std.proofs.Common.{◌≡◌, ◌≢◌, ◌⊎◌, ℕ, ◌+◌, ◌≤◌, Bool, true, false, not, List, [], ◌∷◌, ◌++◌, filter, refl, sym, ap, ◌∙◌, subst, inl, inr, arith, true≢false, cond}
 use Rattle.std.specs.Prelude.{IsPermutation, count_by, flat_map}
 use Rattle.std.specs.List.{AllByRecursion, Contains}
 use Rattle.std.proofs.lemmas.List.{append_assoc}
 use Rattle.std.proofs.lemmas.List.Sums.{sum_by-append}
 use Rattle.std.proofs.lemmas.List.Sorted.{IsPermutation-refl, IsPermutation-cons, IsPermutation-sym, IsPermutation-trans, IsPermutation-middle, IsPermutation-append_left, IsPermutation-append_right, IsPermutation-append_comm, sum_by-IsPermutation}
 use Rattle.cad_map.specs.Valid.{EachPair}
-use Rattle.cad_map.proofs.CallerLemmas.{Contains-cases, Contains-first, Contains-later, count-yes, count-no, front_exchanged}
+use Rattle.cad_map.proofs.CallerLemmas.{Contains-cases, count-yes, count-no, front_exchanged}
 
 -- the first and the second part exchanged, and the first put behind the third
 pub turned : {X : Type 0} (us bs cs ds : List X) → IsPermutation ((us ++ bs) ++ (cs ++ ds)) (bs ++ ((cs ++ us) ++ ds))

@@ -1,9 +1,8 @@
 -- Cycles relabelled one after another.
-use Rattle.std.proofs.Common.{◌≡◌, ℕ, zero, suc, ◌+◌, Bool, true, false, ◌||◌, List, [], ◌∷◌, length, refl, sym, ap, ◌∙◌, if◌then◌else◌, arith}
+use Rattle.std.proofs.Common.{◌≡◌, ◌+◌, Bool, true, false, ◌||◌, List, [], ◌∷◌, length, refl, ◌∙◌, if◌then◌else◌}
 use Rattle.std.specs.List.{list_any}
 use Rattle.cad_rows.specs.declared.names.Face.{Face}
 use Rattle.half_table.specs.declared.half.Half.{Half}
-use Rattle.half_table.specs.Count.{ticked}
 use Rattle.half_table.specs.Cycle.{holds, orbit}
 use Rattle.half_table.specs.Rows.{HalfRows, strings, halves_of, has, next, face, cycle}
 use Rattle.half_table.specs.Surgery.{Relabels}

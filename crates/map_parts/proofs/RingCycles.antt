@@ -1,15 +1,14 @@
 -- Cycles of a table that goes with a map: which halves they hold.
-use Rattle.std.proofs.Common.{◌≡◌, ◌≢◌, ◌⊎◌, ℕ, ◌≤◌, ◌||◌, Bool, true, false, List, [], ◌∷◌, map, refl, sym, ap, ◌∙◌, subst, inl, inr, true≢false, arith, Some}
-use Rattle.std.specs.List.{AllByRecursion, Contains, list_any}
+use Rattle.std.proofs.Common.{◌≡◌, ◌≢◌, ◌||◌, Bool, true, false, List, [], ◌∷◌, refl, sym, ap, ◌∙◌, subst, inl, inr, true≢false}
+use Rattle.std.specs.List.{AllByRecursion, Contains}
 use Rattle.std.proofs.lemmas.Option.{same_Some}
 use Rattle.cad_rows.specs.declared.names.Face.{Face}
-use Rattle.cad_rows.specs.declared.rows.StringRow.{StringRow}
 use Rattle.cad_rings.specs.Cycle.{Side, sides_of}
 use Rattle.cad_map.specs.declared.boundary.Boundary.{Boundary}
 use Rattle.cad_map.specs.Map.{Map, all_sides}
 use Rattle.cad_map.specs.Rings.{HasWholeRings}
 use Rattle.cad_map.specs.Views.{HasSide}
-use Rattle.cad_map.proofs.CallerLemmas.{Contains-cases, Contains-flat_map, Contains-has_side, All-at_each, list_any-Contains, once-from_pairs}
+use Rattle.cad_map.proofs.CallerLemmas.{Contains-flat_map, Contains-has_side, All-at_each, list_any-Contains, once-from_pairs}
 use Rattle.half_table.specs.declared.half.Half.{Half}
 use Rattle.half_table.specs.Half.{twin, is_half, forward_of, backward_of}
 use Rattle.half_table.specs.Cycle.{holds}
@@ -20,7 +19,6 @@ use Rattle.cad_laws.proofs.CallerLemmas.{one-ring, face-told, side-string}
 use Rattle.map_parts.specs.Parts.{HasHalves}
 use Rattle.map_parts.specs.Labels.{IsOnRing, IsLabelled}
 use Rattle.map_parts.specs.Relabelled.{on_cycles}
-use Rattle.map_parts.specs.Islands.{AreOfRings}
 use Rattle.map_parts.proofs.ToHalves.{one_part}
 use Rattle.map_parts.proofs.PartsRings.{row-there, rings_at-there}
 use Rattle.map_parts.proofs.RingsOfHalves.{cycle-ring}

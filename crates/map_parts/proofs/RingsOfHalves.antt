@@ -1,10 +1,10 @@
 -- The points along a half's cycle are the ring that has its side.
-use Rattle.std.proofs.Common.{◌≡◌, ℕ, zero, suc, ◌+◌, ◌<◌, ◌≤◌, Bool, true, false, List, [], ◌∷◌, length, take, map, refl, sym, ap, ◌∙◌, subst, arith, Some}
+use Rattle.std.proofs.Common.{◌≡◌, ℕ, zero, suc, ◌<◌, Bool, true, false, List, [], ◌∷◌, length, map, refl, sym, ap, ◌∙◌, subst, arith, Some}
 use Rattle.std.proofs.lemmas.List.{take_all}
 use Rattle.std.specs.List.{Contains}
 use Rattle.cad_rings.specs.Cycle.{Ring, Side, sides_of, Corner, corners_of, turned, IsSameRing}
 use Rattle.cad_rings.specs.Surgery.{corner}
-use Rattle.cad_rings.proofs.CallerLemmas.{IsSameRing-turned, IsSameRing-length}
+use Rattle.cad_rings.proofs.CallerLemmas.{IsSameRing-turned}
 use Rattle.cad_map.specs.declared.boundary.Boundary.{Boundary}
 use Rattle.cad_map.specs.Map.{Map}
 use Rattle.cad_map.specs.Rings.{HasWholeRings}

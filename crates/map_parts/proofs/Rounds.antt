@@ -1,10 +1,10 @@
 -- The first three points of a ring, from any of its places on.
-use Rattle.std.proofs.Common.{◌≡◌, ℕ, ◌+◌, ◌<◌, ◌≤◌, ◌⊎◌, List, [], ◌∷◌, length, refl, sym, ap, ◌∙◌, subst, arith, inl, inr, Some, slice_get}
+use Rattle.std.proofs.Common.{◌≡◌, ℕ, ◌+◌, ◌<◌, ◌≤◌, ◌⊎◌, [], ◌∷◌, ◌++◌, append_assoc, get_or, drop, take, length, refl, sym, ap, ◌∙◌, subst, arith, inl, inr, Some, slice_get}
 use Rattle.std.specs.Prelude.{slice_index}
 use Rattle.std.proofs.lemmas.Bool.{cases_lt}
 use Rattle.std.proofs.lemmas.Option.{slice_get-get_or}
 use Rattle.std.specs.List.{Contains}
-use Rattle.cad_rings.specs.Cycle.{Ring, Side, sides_of, turned, corners_of}
+use Rattle.cad_rings.specs.Cycle.{Ring, Side, sides_of, turned}
 use Rattle.cad_rings.specs.Surgery.{corner}
 use Rattle.cad_rings.proofs.CallerLemmas.{IsSameRing-turned, IsSameRing-sym, length-turned}
 use Rattle.cad_map.specs.declared.boundary.Boundary.{Boundary}
@@ -12,9 +12,10 @@ use Rattle.cad_map.specs.Map.{Map, all_sides}
 use Rattle.cad_map.specs.Rings.{HasWholeRings}
 use Rattle.cad_map.specs.Steps.{next_side}
 use Rattle.cad_map.specs.Walk.{first_side}
-use Rattle.cad_map.proofs.CallerLemmas.{Contains-first, Contains-at, Contains-flat_map, Contains-in_part, All-at_each, IsWalked, walked-same, side-place, side-same, ring-walked}
+use Rattle.cad_map.proofs.CallerLemmas.{drop-at, take-more, Contains-first, Contains-at, Contains-flat_map, Contains-in_part, All-at_each, IsWalked, walked-same, side-place, side-same, ring-walked}
 use Rattle.half_table.specs.Rows.{HalfRows}
 use Rattle.map_parts.specs.Building.{IsLinkedAt, KeepsLinks}
+use Rattle.map_parts.specs.Labels.{side_at}
 
 module _ (m : Map) (whole : HasWholeRings m) (b : Boundary) (there : Contains m.boundaries b) where
   pub three : 3 ≤ length b.ring
@@ -40,6 +41,25 @@ module _ (m : Map) (whole : HasWholeRings m) (b : Boundary) (there : Contains m.
         by [] l = absurd (omega arith)
         by (a ∷ []) l = absurd (omega arith)
         by (a ∷ c ∷ q) l = refl
+
+    -- the side at the next place is the one after
+    pub at-next : i < length b.ring → ◌≡◌ {A = Side} (side_at (i + 1) b.ring) (slice_index (turned i b.ring) 1, slice_index (turned i b.ring) 2)
+    at-next low =
+        let at = slice_get-get_or b.ring i 0 low in
+        let front = drop-at b.ring i (get_or b.ring i 0) at in
+        let back = take-more b.ring i (get_or b.ring i 0) at in
+        let rest = drop (i + 1) b.ring ++ take i b.ring in
+        let here : turned i b.ring ≡ get_or b.ring i 0 ∷ rest = ap (λ (l : Ring). l ++ take i b.ring) front in
+        let there : turned (i + 1) b.ring ≡ rest ++ get_or b.ring i 0 ∷ [] = ap (λ (l : Ring). drop (i + 1) b.ring ++ l) (sym back) ∙ sym (append_assoc (drop (i + 1) b.ring) (take i b.ring) (get_or b.ring i 0 ∷ [])) in
+        let e = ap length here in
+        let l = long in
+        ap (λ (q : Ring). let s : Side = (slice_index q 0, slice_index q 1) in s) there ∙ by rest (get_or b.ring i 0) (omega (arith, e, l))
+        ∙ sym (ap (λ (q : Ring). let s : Side = (slice_index q 1, slice_index q 2) in s) here)
+      where
+        by : (q : Ring) (x : ℕ) → 2 ≤ length q → ◌≡◌ {A = Side} (slice_index (q ++ x ∷ []) 0, slice_index (q ++ x ∷ []) 1) (slice_index (x ∷ q) 1, slice_index (x ∷ q) 2)
+        by [] x l = absurd (omega arith)
+        by (a ∷ []) x l = absurd (omega arith)
+        by (a ∷ c ∷ q) x l = refl
 
     pub first-follows : next_side m (slice_index (turned i b.ring) 0, slice_index (turned i b.ring) 1) ≡ (slice_index (turned i b.ring) 1, slice_index (turned i b.ring) 2)
     first-follows = by r long walked

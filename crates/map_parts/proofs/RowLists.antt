@@ -1,11 +1,9 @@
 -- Rows under their numbers, and the list of the rows.
-use Rattle.std.proofs.Common.{Bor, ◌≡◌, ℕ, zero, suc, List, [], ◌∷◌, ◌++◌, Bool, true, false, ◌==◌, not, cond, map, find, true≢false, nat_eq, refl, sym, ap, ◌∙◌, subst, Option, Some, None, slice_get, insert}
+use Rattle.std.proofs.Common.{Bor, ◌≡◌, ℕ, zero, suc, List, [], ◌∷◌, Bool, true, false, ◌==◌, map, find, refl, sym, ap, ◌∙◌, subst, Option, Some, None, slice_get, insert}
 use Rattle.std.specs.Option.{option_copied}
-use Rattle.std.specs.Prelude.{IsSome, option_map, filter, is_some, IfSome, IfNone, if◌then◌else◌}
+use Rattle.std.specs.Prelude.{IsSome, option_map, is_some, IfSome, IfNone}
 use Rattle.std.specs.List.{list_any}
 use Rattle.std.specs.Map.{values_of}
-use Rattle.std.specs.List.{AllByRecursion}
-use Rattle.std.proofs.lemmas.Bool.{eqb-true}
 use Rattle.std.proofs.lemmas.Option.{slice_get-map}
 use Rattle.indexmap.proofs.SetLemmas.{map-insert}
 use Rattle.entry_list.specs.Slots.{Slots, rows_of, row_at, without_number, with_number, StandsAt, PutsIn}

@@ -1,20 +1,19 @@
 -- Edits of rows alone, taken back.
-use Rattle.std.proofs.Common.{◌≡◌, ◌≢◌, ◌≤◌, ℕ, ℤ, List, [], ◌∷◌, ◌++◌, zero, suc, true, not, ◌==◌, map, filter, refl, sym, ap, ◌∙◌, subst, Option, Some, None, is_some, slice_get, insert, length, take, drop, arith}
-use Rattle.std.specs.Prelude.{unwrap_or, option_map, IsTrue}
+use Rattle.std.proofs.Common.{◌≡◌, ◌≢◌, ◌≤◌, ℕ, List, [], ◌∷◌, ◌++◌, zero, suc, true, map, refl, sym, ap, ◌∙◌, Option, Some, None, is_some, slice_get, insert, length, take, drop, arith}
+use Rattle.std.specs.Prelude.{unwrap_or, option_map}
 use Rattle.geo_exact.specs.Position.{Position}
 use Rattle.cad_rows.specs.declared.rows.PointRow.{PointRow}
 use Rattle.cad_rows.specs.declared.rows.StringRow.{StringRow}
 use Rattle.cad_rows.specs.declared.rows.ParcelRow.{ParcelRow}
-use Rattle.cad_rows.specs.declared.rows.SourceRow.{SourceRow}
 use Rattle.cad_rows.specs.declared.names.Item.{Item}
 use Rattle.cad_rows.specs.declared.names.Item.TheVariants as item
 use Rattle.cad_map.specs.Changes.{with_point, with_parcel, with_string, change_point, change_parcel, change_string, change_sources}
-use Rattle.cad_map.specs.Map.{Map, point_of, parcel_of, string_of, source_of}
+use Rattle.cad_map.specs.Map.{Map, point_of, parcel_of, string_of}
 use Rattle.cad_map.specs.Refusals.{is_there, item_named, sources_at}
 use Rattle.cad_map.specs.Table.{row_with, without_row, with_row}
 use Rattle.cad_map.specs.Valid.{EachPair}
-use Rattle.cad_map.proofs.CallerLemmas.{found-number, found-again}
-use Rattle.cad_laws.proofs.CallerLemmas.{found-changed, with-again, with-same, without-push, insert-without, placed-within}
+use Rattle.cad_map.proofs.CallerLemmas.{found-number}
+use Rattle.cad_laws.proofs.CallerLemmas.{found-changed, with-again, with-same, insert-without, placed-within}
 
 -- ---- A row changed in its place, among the rows of one kind
 

@@ -1,8 +1,8 @@
 -- Strings that are left out of rows by their numbers, in whatever order.
-use Rattle.std.proofs.Common.{◌≡◌, ◌≢◌, inl, inr, ℕ, Bool, true, false, not, ◌==◌, ◌||◌, nat_eq, arith, true≢false, refl, sym, ap, subst, ◌∙◌, List, [], ◌∷◌, ◌++◌, map, filter, Option, Some, None}
+use Rattle.std.proofs.Common.{◌≡◌, ◌≢◌, inl, inr, ℕ, Bool, true, false, not, ◌||◌, nat_eq, arith, true≢false, refl, sym, ap, subst, ◌∙◌, List, [], ◌∷◌, map, filter, None}
 use Rattle.std.specs.Prelude.{◌↔◌, IsTrue, is_some, IsSome, IsPermutation}
 use Rattle.std.specs.List.{AllByRecursion, Contains, list_any}
-use Rattle.std.proofs.lemmas.Bool.{eqb-true, eq-eqb, false_from_ne_true}
+use Rattle.std.proofs.lemmas.Bool.{eqb-true, eq-eqb}
 use Rattle.std.proofs.lemmas.Cmp.{nat_eq_equiv}
 use Rattle.std.proofs.lemmas.List.Sorted.{IsPermutation-sym, Contains-permutation}
 use Rattle.std.proofs.lemmas.Option.{same_Some}
@@ -10,11 +10,10 @@ use Rattle.cad_rows.specs.declared.rows.StringRow.{StringRow}
 use Rattle.cad_map.specs.Map.{Map, string_of}
 use Rattle.cad_map.specs.Table.{row_with, without_row}
 use Rattle.cad_map.specs.Valid.{EachPair}
-use Rattle.cad_map.proofs.CallerLemmas.{All-from_each, All-at_each, Contains-at, Contains-cases, Contains-first, Contains-later, Contains-map, map-Contains, Contains-filter, filter-Contains, list_any-Contains, row-found, pairs-IsPermutation}
+use Rattle.cad_map.proofs.CallerLemmas.{All-from_each, All-at_each, Contains-cases, Contains-first, Contains-later, Contains-map, map-Contains, Contains-filter, filter-Contains, list_any-Contains, row-found, pairs-IsPermutation}
 use Rattle.half_table.specs.declared.half.Half.{Half}
-use Rattle.half_paths.specs.Loose.{is_of, numbers_of}
+use Rattle.half_paths.specs.Loose.{numbers_of}
 use Rattle.half_paths.specs.Path.{strings_of}
-use Rattle.cad_laws.specs.Local.{IsShown}
 use Rattle.map_parts.specs.Paths.{HasStringsMore}
 use Rattle.map_parts.specs.StringRows.{without_rows}
 use Rattle.map_parts.proofs.AddedStrings.{of-none}

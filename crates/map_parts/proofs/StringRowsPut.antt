@@ -1,10 +1,10 @@
 -- Strings that come last among the rows, one after another, and go.
-use Rattle.std.proofs.Common.{◌≡◌, ◌≢◌, ℕ, ◌+◌, ◌<◌, ◌≤◌, refl, sym, ap, subst, ◌∙◌, List, [], ◌∷◌, ◌++◌, append_assoc, append-nil, map, filter, length, length-append, Option, Some, None, inl, inr, arith, not, ◌==◌, nat_eq, Bool, true, false}
-use Rattle.std.specs.Prelude.{IsPermutation, IsSome, is_some}
+use Rattle.std.proofs.Common.{◌≡◌, ◌≢◌, ℕ, refl, sym, ap, subst, ◌∙◌, List, [], ◌∷◌, ◌++◌, map, filter, length, length-append, Some, None, inl, inr, arith, not, ◌==◌, nat_eq, Bool, true, false}
+use Rattle.std.specs.Prelude.{IsPermutation, IsSome}
 use Rattle.std.specs.List.{AllByRecursion, Contains}
-use Rattle.std.proofs.lemmas.List.Sorted.{IsPermutation-refl, IsPermutation-append_comm}
+use Rattle.std.proofs.lemmas.List.Sorted.{IsPermutation-append_comm}
 use Rattle.cad_rows.specs.declared.rows.StringRow.{StringRow}
-use Rattle.cad_map.specs.Map.{Map, string_of}
+use Rattle.cad_map.specs.Map.{string_of}
 use Rattle.cad_map.specs.Table.{row_with, without_row}
 use Rattle.cad_map.specs.Valid.{EachPair}
 use Rattle.cad_map.proofs.CallerLemmas.{All-follows, All-at_each, All-filter, none-push, Contains-first, Contains-later}
@@ -16,7 +16,7 @@ use Rattle.map_parts.specs.Rows.{map_in, rows_in}
 use Rattle.half_table.specs.Half.{forward_of, backward_of}
 use Rattle.map_parts.specs.Stars.{spoke, spokes_of, spokes_at, AddsSpokes}
 use Rattle.map_parts.specs.Splitting.{AreStarsOf}
-use Rattle.map_parts.specs.StringRows.{HasRoomFor, CanPutStrings, CanTakeStrings, without_rows}
+use Rattle.map_parts.specs.StringRows.{CanPutStrings, CanTakeStrings}
 use Rattle.map_parts.proofs.Passing.SplitBetween.{row-first}
 use Rattle.map_parts.proofs.Passing.SplitUndone.{kept-without}
 use Rattle.map_parts.proofs.Passing.StarsChanged.{stars-with, stars-without, room-after_put, length-spokes_at, star-from, star-to}

@@ -1,22 +1,20 @@
 -- The halves of a map's strings in a table that is being joined to its rings.
-use Rattle.std.proofs.Common.{◌≡◌, ◌≢◌, ℕ, ◌==◌, Bool, true, false, List, [], ◌∷◌, map, find, refl, sym, ap, ◌∙◌, subst, inl, inr, Option, Some, None}
-use Rattle.std.specs.Prelude.{IsSome, IfSome, IsPermutation, option_map}
-use Rattle.std.specs.List.{AllByRecursion, Contains}
-use Rattle.cad_rows.specs.declared.rows.StringRow.{StringRow}
+use Rattle.std.proofs.Common.{◌≡◌, [], refl, sym, ◌∙◌, subst, inl, inr, Option, Some, None}
+use Rattle.std.specs.Prelude.{IsSome, IfSome}
+use Rattle.std.specs.List.{Contains}
 use Rattle.cad_rings.specs.Cycle.{Side}
-use Rattle.cad_map.specs.Map.{Map, all_sides, string_sides, has_string}
+use Rattle.cad_map.specs.Map.{Map, all_sides}
 use Rattle.cad_map.specs.Rings.{HasWholeRings}
-use Rattle.cad_map.specs.Valid.{EachPair}
 use Rattle.cad_map.specs.Steps.{next_side}
-use Rattle.cad_map.proofs.CallerLemmas.{All-at_each, All-from_each, next-in_all}
+use Rattle.cad_map.proofs.CallerLemmas.{All-at_each, All-from_each}
 use Rattle.cad_laws.proofs.CallerLemmas.{side-string}
 use Rattle.map_parts.proofs.WholeStrings.{two-ends, strings-once}
 use Rattle.half_table.specs.declared.half.Half.{Half}
 use Rattle.half_table.specs.Half.{forward_of, backward_of}
-use Rattle.half_table.specs.Rows.{HalfRows, IsLinked, has, next, prev, origin_of}
-use Rattle.half_table.specs.Surgery.{KeepsHalves, IsSpliced}
+use Rattle.half_table.specs.Rows.{HalfRows, IsLinked, has, prev, origin_of}
+use Rattle.half_table.specs.Surgery.{IsSpliced}
 use Rattle.map_parts.specs.declared.stars.Spoke.{Spoke}
-use Rattle.key_lists.specs.Held.{Held, items_at}
+use Rattle.key_lists.specs.Held.{Held}
 use Rattle.cell_grid.specs.Kept.{Kept}
 use Rattle.cad_laws.specs.Local.{IsShown, side_by}
 use Rattle.map_parts.specs.Parts.{Parts, HasHalves, rows_of}

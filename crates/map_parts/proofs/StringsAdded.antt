@@ -1,8 +1,7 @@
 -- A table with one string more.
-use Rattle.std.proofs.Common.{◌≡◌, ◌≢◌, ℕ, ◌+◌, ◌<◌, ◌≤◌, ◌⊎◌, ◌==◌, Bool, true, false, List, [], ◌∷◌, ◌++◌, take, length, find, refl, sym, ap, ◌∙◌, subst, inl, inr, Option, Some, None, true≢false, nat_eq, slice_get}
-use Rattle.std.specs.Prelude.{is_some, flat_map, IsPermutation, option_map, if◌then◌else◌}
-use Rattle.std.specs.List.{AllByRecursion, Contains}
-use Rattle.std.specs.Map.{lookup}
+use Rattle.std.proofs.Common.{◌≡◌, ◌≢◌, ℕ, ◌+◌, ◌≤◌, ◌==◌, Bool, true, false, List, [], ◌∷◌, ◌++◌, take, length, refl, sym, ap, ◌∙◌, subst, Some, None, true≢false, nat_eq, slice_get}
+use Rattle.std.specs.Prelude.{is_some, IsPermutation, if◌then◌else◌}
+use Rattle.std.specs.List.{AllByRecursion}
 use Rattle.std.proofs.lemmas.Bool.{eqb-true}
 use Rattle.std.proofs.lemmas.Cmp.{nat_eq_equiv}
 use Rattle.std.proofs.lemmas.List.{take_more, take_all, append_assoc}
@@ -12,15 +11,13 @@ use Rattle.cad_rows.specs.declared.rows.StringRow.{StringRow}
 use Rattle.cad_map.specs.Map.{Map}
 use Rattle.cad_map.specs.Table.{row_with}
 use Rattle.cad_map.specs.Rings.{HasWholeRings}
-use Rattle.cad_map.proofs.CallerLemmas.{Contains-cases, All-at_each, All-from_each, row_with-earlier}
-use Rattle.half_table.specs.declared.half.Half.{Half}
+use Rattle.cad_map.proofs.CallerLemmas.{All-at_each, All-from_each, row_with-earlier}
 use Rattle.half_table.specs.Half.{forward_of, backward_of, half_of}
-use Rattle.half_table.specs.Rows.{HalfRows, IsLinked, has, has_halves, origin_of, links_of, links_at}
-use Rattle.half_table.specs.declared.links.Ends.{Ends}
+use Rattle.half_table.specs.Rows.{HalfRows, IsLinked, has, has_halves}
 use Rattle.half_table.specs.Surgery.{AddsLoose}
 use Rattle.half_table.proofs.Strings.{has-string}
 use Rattle.map_parts.specs.declared.stars.Spoke.{Spoke}
-use Rattle.key_lists.specs.Held.{Held, items_at}
+use Rattle.key_lists.specs.Held.{Held}
 use Rattle.map_parts.specs.Stars.{spokes_of, spokes_at, AddsSpokes}
 use Rattle.map_parts.proofs.WholeStrings.{two-ends}
 use Rattle.map_parts.specs.Parts.{HasHalves}

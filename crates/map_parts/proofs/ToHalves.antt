@@ -1,5 +1,5 @@
 -- Parts that stand for a map, half by half.
-use Rattle.std.proofs.Common.{◌≡◌, ◌≢◌, ℕ, ◌+◌, ◌≤◌, ◌⊎◌, Bool, true, false, List, [], ◌∷◌, map, refl, sym, ap, ◌∙◌, subst, arith, inl, inr, cond}
+use Rattle.std.proofs.Common.{◌≡◌, ◌≢◌, ◌+◌, ◌≤◌, Bool, true, false, List, [], ◌∷◌, map, refl, sym, ap, ◌∙◌, subst, arith, inl, inr, cond}
 use Rattle.std.specs.Prelude.{IsPermutation, flat_map, count_by}
 use Rattle.std.specs.List.{AllByRecursion, Contains}
 use Rattle.std.proofs.lemmas.List.Sums.{sum_by-append}
@@ -11,14 +11,14 @@ use Rattle.cad_rings.specs.Canonical.{least_rotation}
 use Rattle.cad_rings.proofs.CallerLemmas.{sides_of-least_rotation}
 use Rattle.cad_map.specs.declared.boundary.Boundary.{Boundary}
 use Rattle.cad_map.specs.Boundaries.{bounding, canonical_order, canonical_form}
-use Rattle.cad_map.specs.Map.{Map, side_of, string_sides}
+use Rattle.cad_map.specs.Map.{side_of, string_sides}
 use Rattle.cad_map.specs.Valid.{HasTwoEnds}
 use Rattle.cad_map.proofs.CallerLemmas.{Contains-cases, Contains-first, Contains-later, Contains-map, Contains-flat_map, All-at_each, All-from_each, count-some, IsPermutation-canonical_order, is_side-refl, once-from_pairs}
 use Rattle.half_table.specs.declared.half.Half.{Half}
-use Rattle.half_table.specs.Half.{twin, half_of}
-use Rattle.half_table.specs.Rows.{HalfRows, next, origin_of, face, cycle}
-use Rattle.cad_laws.specs.Local.{IsShown, side_by, IsLocal}
-use Rattle.map_parts.specs.KeptRings.{kept_ring, IsKept, KeepsRings}
+use Rattle.half_table.specs.Half.{half_of}
+use Rattle.half_table.specs.Rows.{HalfRows, origin_of, face, cycle}
+use Rattle.cad_laws.specs.Local.{IsShown, side_by}
+use Rattle.map_parts.specs.KeptRings.{kept_ring, IsKept}
 use Rattle.map_parts.specs.Parts.{Parts, FitTogether, HasHalves, rows_of, map_of, kept_halves, rings_kept}
 use Rattle.map_parts.specs.Fits.{FitRings, HasSidesOnce}
 use Rattle.map_parts.proofs.PartsRings.{found-row, in_table, half-side, half-corner, side-there, ring-kept}

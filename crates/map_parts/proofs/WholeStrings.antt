@@ -1,8 +1,7 @@
 -- The strings of a map whose rings are whole.
-use Rattle.std.proofs.Common.{◌≡◌, ◌≢◌, ap, refl, sym}
+use Rattle.std.proofs.Common.{◌≢◌, sym}
 use Rattle.std.proofs.lemmas.List.Sorted.{IsPermutation-sym}
 use Rattle.cad_rows.specs.declared.rows.StringRow.{StringRow}
-use Rattle.cad_rings.specs.Cycle.{Side}
 use Rattle.cad_map.specs.Map.{Map, face_at, string_sides, all_sides, left_face, right_face}
 use Rattle.cad_map.specs.Rings.{HasWholeRings}
 use Rattle.cad_map.specs.Valid.{EachPair, HasTwoEnds}

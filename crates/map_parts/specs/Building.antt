@@ -1,5 +1,5 @@
 -- A table that is being joined to the rings of a map.
-use Rattle.std.specs.Prelude.{◌≡◌, ℕ, List, IsPermutation, is_some, take}
+use Rattle.std.specs.Prelude.{◌≡◌, ℕ, IsPermutation, is_some, take}
 use Rattle.std.specs.List.{AllByRecursion, Contains}
 use Rattle.cad_rings.specs.Cycle.{Side}
 use Rattle.cad_map.specs.Map.{Map, has_string, all_sides}

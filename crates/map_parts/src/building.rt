@@ -1,23 +1,22 @@
 //! A table joined to the rings of a map.
-ghost use Rattle.std.specs.Prelude.{◌≡◌, ◌≢◌, false, IfOk, OnOk};
+ghost use Rattle.std.specs.Prelude.{◌≡◌, ◌≢◌, ◌<◌, ◌+◌, true, false, length, IfOk, OnOk};
 ghost use Rattle.std.specs.List.{Contains};
 ghost use Rattle.cad_rings.specs.Cycle.{sides_of, Side};
 ghost use Rattle.cad_map.specs.declared.boundary.Boundary.{Boundary as BoundaryOf};
 ghost use Rattle.cad_map.specs.Map.{all_sides};
 ghost use Rattle.cad_map.specs.Rings.{HasWholeRings};
-ghost use Rattle.cad_map.specs.Steps.{next_side};
-ghost use Rattle.half_table.specs.Rows.{HalfRows, has_halves, IsLinked};
-ghost use Rattle.half_table.specs.Surgery.{AddsLoose};
+ghost use Rattle.half_table.specs.Rows.{HalfRows, has, has_halves, prev, cycle, IsLinked};
+ghost use Rattle.half_table.specs.Surgery.{AddsLoose, IsSpliced, Relabels};
 ghost use Rattle.cad_laws.specs.Local.{IsLocal};
 ghost use Rattle.map_parts.specs.Building.{AreStarsOf, HoldsStrings, HoldsStringsUpTo, IsLinkedAt, IsLinkedAll, KeepsLinks};
-ghost use Rattle.map_parts.specs.Labels.{IsAlong, IsOnRing, IsLabelled, KeepsLabels, HoldsRings};
+ghost use Rattle.map_parts.specs.Labels.{IsHalfAlong, side_at, IsHalfOnRing, IsLabelled, KeepsLabels, HoldsRings};
 ghost use Rattle.map_parts.specs.Stars.{AddsSpokes};
 
 use crate::kept::keep_half;
 use crate::stars::{Spoke, add_spokes, find_half};
 use cad_map::{Boundary, MapView, PlainMap};
 use cad_rings::Ring;
-use cad_rows::{Memory, PointNo, StringRow};
+use cad_rows::{Face, Memory, PointNo, StringRow};
 use half_table::{Half, HalfTable, Tally};
 use key_lists::KeyLists;
 use std::alloc::Global;
@@ -59,33 +58,47 @@ fn side_half(map: &PlainMap, stars: &KeyLists<Spoke>, from: PointNo, to: PointNo
     requires whole { HasWholeRings map.now }
     requires stars { AreStarsOf map.now stars.now }
     requires side { Contains (all_sides map.now) (from, to) }
-    ensures { (rows : HalfRows) → HoldsStrings map.now rows stars.now → IsAlong map.now rows (from, to) result }
+    ensures { IsHalfAlong map.now stars.now (from, to) result }
 {
     find_half(stars, from, to).unwrap()
 }
 
-// Joins the half along a side to the half along the next one, by one splice. What was joined
-// before stays joined.
+// Joins a half to the one that is to follow it, by one splice.
+fn join<T: Tally>(table: &mut HalfTable<T>, first: &Half, second: &Half)
+    requires first_in { has table.old.rows first.now ≡ true }
+    requires second_in { has table.old.rows second.now ≡ true }
+    ensures spliced { IsSpliced first.now (prev table.old.rows second.now) table.old.rows table.new.rows }
+    ensures linked { IsLinked table.new.rows }
+{
+    let before = table.prev(*second);
+    table.splice(*first, before);
+}
+
+// Joins the half along a ring's side at a place to the half along the next side, by one splice, and
+// gives that. What was joined before stays joined.
 fn link<T: Tally>(
     map: &PlainMap,
     table: &mut HalfTable<T>,
     stars: &KeyLists<Spoke>,
-    from: PointNo,
-    at: PointNo,
-    to: PointNo,
-)
+    ring: &Ring,
+    place: usize,
+    first: &Half,
+) -> Half
     requires whole { HasWholeRings map.now }
     requires strings { HoldsStrings map.now table.old.rows stars.now }
-    requires side { Contains (all_sides map.now) (from, at) }
-    requires next { next_side map.now (from, at) ≡ (at, to) }
+    requires ring { (b : BoundaryOf) × Contains map.now.boundaries b × (b.ring ≡ ring.now) }
+    requires place { place < length ring.now }
+    requires first { IsHalfAlong map.now stars.now (side_at place ring.now) first.now }
+    ensures next { IsHalfAlong map.now stars.now (side_at (place + 1) ring.now) result }
     ensures strings { HoldsStrings map.now table.new.rows stars.now }
-    ensures linked { IsLinkedAt map.now table.new.rows (from, at) }
+    ensures linked { IsLinkedAt map.now table.new.rows (side_at place ring.now) }
     ensures keeps { KeepsLinks map.now table.old.rows table.new.rows }
 {
-    let first = side_half(map, stars, from, at);
+    let at = ring.turned_at(place, 1);
+    let to = ring.turned_at(place, 2);
     let second = side_half(map, stars, at, to);
-    let before = table.prev(second);
-    table.splice(first, before);
+    join(table, first, &second);
+    second
 }
 
 // Joins the halves along a ring.
@@ -102,11 +115,9 @@ fn link_ring<T: Tally>(
     ensures linked { (s : Side) → Contains (sides_of ring.now) s → IsLinkedAt map.now table.new.rows s }
     ensures keeps { KeepsLinks map.now table.old.rows table.new.rows }
 {
+    let mut half = side_half(map, stars, ring.turned_at(0, 0), ring.turned_at(0, 1));
     for place in 0..ring.len() {
-        let from = ring.turned_at(place, 0);
-        let at = ring.turned_at(place, 1);
-        let to = ring.turned_at(place, 2);
-        link(map, table, stars, from, at, to);
+        half = link(map, table, stars, ring, place, &half);
     }
 }
 
@@ -127,61 +138,65 @@ fn first_half(map: &PlainMap, stars: &KeyLists<Spoke>, boundary: &Boundary) -> H
     requires whole { HasWholeRings map.now }
     requires there { Contains map.now.boundaries boundary.now }
     requires stars { AreStarsOf map.now stars.now }
-    ensures { (rows : HalfRows) → HoldsStrings map.now rows stars.now → IsOnRing map.now rows boundary.now result }
+    ensures { IsHalfOnRing map.now stars.now boundary.now result }
 {
     let from = boundary.ring.turned_at(0, 0);
     let to = boundary.ring.turned_at(0, 1);
     side_half(map, stars, from, to)
 }
 
-// Gives the halves along a ring its face.
+// Gives the halves that follow a half, and itself, a face.
+fn label<T: Tally>(table: &mut HalfTable<T>, half: &Half, face: &Face)
+    requires { has table.old.rows half.now ≡ true }
+    ensures relabels { Relabels (cycle table.old.rows half.now) face.now table.old.rows table.new.rows }
+    ensures linked { IsLinked table.new.rows }
+{
+    table.relabel(*half, *face);
+}
+
+// Gives the halves along a ring its face, and answers the one along its first side.
 fn label_ring<T: Tally>(
     map: &PlainMap,
     table: &mut HalfTable<T>,
     stars: &KeyLists<Spoke>,
     boundary: &Boundary,
-)
+) -> Half
     requires whole { HasWholeRings map.now }
     requires strings { HoldsStrings map.now table.old.rows stars.now }
     requires local { IsLocal map.now table.old.rows }
     requires there { Contains map.now.boundaries boundary.now }
+    ensures first { IsHalfOnRing map.now stars.now boundary.now result }
     ensures strings { HoldsStrings map.now table.new.rows stars.now }
     ensures local { IsLocal map.now table.new.rows }
     ensures labelled { IsLabelled map.now table.new.rows boundary.now }
     ensures keeps { KeepsLabels map.now table.old.rows table.new.rows }
 {
     let half = first_half(map, stars, boundary);
-    table.relabel(half, boundary.face);
+    label(table, &half, &boundary.face);
+    half
 }
 
-/// Gives all halves the faces of their rings.
-pub fn label_rings<T: Tally>(map: &PlainMap, table: &mut HalfTable<T>, stars: &KeyLists<Spoke>)
+/// Gives all halves the faces of their rings, and keeps one half of each ring, under the place of its
+/// face.
+pub fn label_rings<T: Tally>(
+    alloc: Global,
+    map: &PlainMap,
+    table: &mut HalfTable<T>,
+    stars: &KeyLists<Spoke>,
+) -> Result<KeyLists<Half>, Memory>
     requires whole { HasWholeRings map.now }
     requires strings { HoldsStrings map.now table.old.rows stars.now }
     requires linked { IsLinkedAll map.now table.old.rows }
     ensures strings { HoldsStrings map.now table.new.rows stars.now }
     ensures local { IsLocal map.now table.new.rows }
-    ensures labelled { (b : BoundaryOf) → Contains map.now.boundaries b → IsLabelled map.now table.new.rows b }
-{
-    for boundary in map.boundaries() {
-        label_ring(map, table, stars, boundary);
-    }
-}
-
-/// Keeps one half of each ring, under the place of its face.
-pub fn keep_rings(
-    alloc: Global,
-    map: &PlainMap,
-    stars: &KeyLists<Spoke>,
-) -> Result<KeyLists<Half>, Memory>
-    requires whole { HasWholeRings map.now }
-    requires stars { AreStarsOf map.now stars.now }
-    ensures { IfOk result (λ kept. (rows : HalfRows) → HoldsStrings map.now rows stars.now
+    ensures labelled { OnOk result ((b : BoundaryOf) → Contains map.now.boundaries b
+        → IsLabelled map.now table.new.rows b) }
+    ensures kept { IfOk result (λ kept. (rows : HalfRows) → HoldsStrings map.now rows stars.now
         → HoldsRings map.now rows kept map.now.boundaries) }
 {
     let mut kept = KeyLists::new(alloc);
     for boundary in map.boundaries() {
-        let half = first_half(map, stars, boundary);
+        let half = label_ring(map, table, stars, boundary);
         keep_half(&mut kept, boundary.face, half)?;
     }
     Ok(kept)

@@ -13,7 +13,7 @@ mod map_rows;
 mod rows;
 mod stars;
 
-pub use building::{add_strings, keep_rings, label_rings, link_rings};
+pub use building::{add_strings, label_rings, link_rings};
 pub use edits::dividing::undivide;
 pub use edits::dividing_tried::{begin_divide, begin_undivide};
 pub use edits::enclosing::open;

@@ -1,23 +1,20 @@
 -- The halves of two maps of which one has a point between two others.
-use Rattle.std.proofs.Common.{◌≡◌, ◌≢◌, ℕ, ◌⊎◌, inl, inr, refl, sym, ap, subst, ◌∙◌, List, [], ◌∷◌, Bool, true, false, if◌then◌else◌, true≢false, map, nat_eq, arith, not}
-use Rattle.std.specs.Prelude.{is_some, IsPermutation, IsTrue, ◌↔◌}
+use Rattle.std.proofs.Common.{◌≡◌, ◌≢◌, ℕ, ◌⊎◌, inl, inr, refl, sym, ap, subst, ◌∙◌, ◌∷◌, Bool, true, false, true≢false, map, nat_eq, not}
+use Rattle.std.specs.Prelude.{IsTrue, ◌↔◌}
 use Rattle.std.specs.List.{AllByRecursion, Contains, IsDistinct}
 use Rattle.std.proofs.lemmas.Bool.Decides.{Decides-eqb}
 use Rattle.std.proofs.lemmas.List.Sorted.{IsPermutation-sym, IsPermutation-map, Contains-permutation}
 use Rattle.cad_rows.specs.declared.rows.StringRow.{StringRow}
 use Rattle.cad_rings.specs.Cycle.{Side, opposite}
-use Rattle.cad_map.specs.Map.{Map, side_of, all_sides}
-use Rattle.cad_map.specs.Rings.{HasWholeRings}
+use Rattle.cad_map.specs.Map.{Map, side_of}
 use Rattle.cad_map.specs.Valid.{EachPair}
 use Rattle.cad_map.proofs.CallerLemmas.{Contains-cases, Contains-first, Contains-later, Contains-map, All-at_each, pairs-IsPermutation}
-use Rattle.cad_laws.proofs.CallerLemmas.{string-sides}
 use Rattle.half_table.specs.declared.half.Half.{Half}
 use Rattle.half_table.specs.Half.{twin, is_half, half_of, forward_of, backward_of}
 use Rattle.half_table.specs.Rows.{HalfRows, has, origin_of}
 use Rattle.half_table.proofs.Halves.{twin-twin, is_half-other}
 use Rattle.half_table.proofs.Strings.{has-string}
-use Rattle.half_paths.specs.Path.{AreDifferent}
-use Rattle.cad_laws.specs.Local.{IsShown, side_by, BeginAtEnds}
+use Rattle.cad_laws.specs.Local.{IsShown, side_by}
 use Rattle.map_parts.specs.Parts.{HasHalves}
 use Rattle.map_parts.specs.Passing.{IsHalfAlong, HasBetween}
 use Rattle.map_parts.specs.declared.edits.passing.Passing.{Passing}

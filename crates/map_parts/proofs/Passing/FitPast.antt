@@ -1,5 +1,5 @@
 -- A map's table without the point, once the string past it is in the place of the path through it.
-use Rattle.std.proofs.Common.{◌≡◌, ◌≢◌, ℕ, ◌⊎◌, inl, inr, refl, sym, ap, subst, ◌∙◌, List, length, ◌≤◌, map, false}
+use Rattle.std.proofs.Common.{◌≡◌, ◌≢◌, ℕ, ◌⊎◌, inl, inr, refl, sym, ap, subst, ◌∙◌, length, ◌≤◌, map, false}
 use Rattle.std.proofs.lemmas.List.Sorted.{Contains-permutation}
 use Rattle.std.specs.List.{AllByRecursion, Contains}
 use Rattle.cad_rows.specs.declared.names.Face.{Face}

@@ -1,17 +1,16 @@
 -- A map's table with the point, once the path through it is in the place of the string past it.
-use Rattle.std.proofs.Common.{◌≡◌, ◌≢◌, ℕ, ◌⊎◌, inl, inr, refl, sym, ap, subst, ◌∙◌, List, [], ◌∷◌, map, Bool, true, false}
-use Rattle.std.specs.Prelude.{IsPermutation}
+use Rattle.std.proofs.Common.{◌≡◌, ◌≢◌, ℕ, ◌⊎◌, inl, inr, refl, sym, ap, subst, ◌∙◌, map}
 use Rattle.std.specs.List.{AllByRecursion, Contains}
 use Rattle.cad_rows.specs.declared.names.Face.{Face}
 use Rattle.cad_rings.specs.Cycle.{Side, sides_of}
 use Rattle.cad_rings.specs.Surgery.{without}
 use Rattle.cad_map.specs.declared.boundary.Boundary.{Boundary}
 use Rattle.cad_map.specs.Boundaries.{bounding, canonical_form, face_place}
-use Rattle.cad_map.specs.Map.{Map, all_sides, has_face}
+use Rattle.cad_map.specs.Map.{Map, all_sides}
 use Rattle.cad_map.specs.Views.{HasSide}
 use Rattle.cad_map.proofs.CallerLemmas.{All-at_each, Contains-first, Contains-flat_map}
 use Rattle.half_table.specs.declared.half.Half.{Half}
-use Rattle.half_table.specs.Half.{twin, is_half}
+use Rattle.half_table.specs.Half.{twin}
 use Rattle.half_table.specs.Rows.{HalfRows, IsLinked, next, face, cycle}
 use Rattle.half_table.specs.Surgery.{KeepsHalves, Relabels}
 use Rattle.half_table.proofs.Halves.{is_half-turned, is_half-twin}

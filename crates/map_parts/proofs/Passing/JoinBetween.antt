@@ -1,25 +1,23 @@
 -- A join that is tried takes a point out from between the far ends of its two strings.
-use Rattle.std.proofs.Common.{◌≡◌, ◌≢◌, ℕ, refl, sym, ap, subst, ◌∙◌, List, [], ◌∷◌, ◌++◌, map, filter, Bool, true, false, true≢false, if◌then◌else◌, ◌==◌, ◌||◌, not, Some, None, nat_eq, inl, inr, ◌⊎◌}
+use Rattle.std.proofs.Common.{◌≡◌, ◌≢◌, ℕ, refl, sym, ap, subst, ◌∙◌, List, [], ◌∷◌, ◌++◌, filter, Bool, true, false, true≢false, if◌then◌else◌, ◌==◌, not, Some, None, nat_eq, inl, inr, ◌⊎◌}
 use Rattle.std.specs.Prelude.{IsPermutation, is_some}
-use Rattle.std.specs.List.{AllByRecursion, Contains, IsDistinct}
+use Rattle.std.specs.List.{Contains, IsDistinct}
 use Rattle.std.proofs.lemmas.Bool.{eqb-true, eq-eqb, false_from_ne_true}
 use Rattle.std.proofs.lemmas.List.Sorted.{IsPermutation-trans, IsPermutation-append_left, IsPermutation-append_comm, IsPermutation-filter_both}
 use Rattle.cad_rows.specs.declared.edits.Edit.TheVariants.{Join}
 use Rattle.cad_rows.specs.declared.names.Name.TheVariants as name
 use Rattle.cad_rows.specs.declared.rows.StringRow.{StringRow}
-use Rattle.cad_rings.specs.Cycle.{Side, opposite}
-use Rattle.cad_map.specs.Changes.{join, by_number, string_joining, joined_sources}
+use Rattle.cad_rings.specs.Cycle.{opposite}
+use Rattle.cad_map.specs.Changes.{by_number, string_joining, joined_sources}
 use Rattle.cad_map.specs.Effects.{after}
 use Rattle.cad_map.specs.Map.{Map, point_of, string_of, side_of, strings_at, far_end, is_end}
-use Rattle.cad_map.proofs.CallerLemmas.{allowed, there-one, free-join, two-joined, meet-at, MeetAt, at-first, at-second, differ, row-found, whole_valid, ends}
-use Rattle.half_table.specs.declared.half.Half.{Half}
+use Rattle.cad_map.proofs.CallerLemmas.{allowed, there-one, free-join, two-joined, meet-at, at-first, at-second, differ, row-found, whole_valid, ends}
 use Rattle.half_table.specs.Half.{half_of, forward_of}
 use Rattle.half_paths.specs.Path.{AreDifferent}
 use Rattle.cad_laws.specs.Joining.{FarEndsAreApart}
 use Rattle.cad_laws.specs.Tried.{IsTried}
 use Rattle.cad_laws.proofs.CallerLemmas.{join-at, whole-after}
 use Rattle.map_parts.specs.Passing.{IsHalfAlong, HasBetween, path_at}
-use Rattle.map_parts.proofs.Passing.SplitBetween.{number-other}
 
 -- the half of a string that ends at the point leads to it from the far end
 pub half-to : (s : StringRow) (p : ℕ) → is_end s p ≡ true

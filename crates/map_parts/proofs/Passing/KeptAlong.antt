@@ -15,8 +15,6 @@ use Rattle.half_table.specs.declared.half.Half.{Half}
 use Rattle.half_table.specs.Rows.{HalfRows}
 use Rattle.cad_laws.specs.Local.{IsShown, side_by}
 use Rattle.map_parts.specs.KeptRings.{IsKept, KeepsRings}
-use Rattle.map_parts.specs.Labels.{IsOnRing}
-use Rattle.map_parts.proofs.CycleRings.{map-map}
 use Rattle.map_parts.proofs.KeptHalves.{home_of, home-is}
 
 -- a permutation of what f makes of a list is what it makes of a permutation

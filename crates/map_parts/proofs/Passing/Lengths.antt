@@ -1,12 +1,12 @@
 -- How long the two rings at a point between two others are: no longer than all rings through it.
-use Rattle.std.proofs.Common.{◌≡◌, ℕ, ◌+◌, ◌≤◌, ◌==◌, inl, inr, refl, sym, ap, subst, ◌∙◌, List, [], ◌∷◌, length, map, filter, not, Bool, true, false, true≢false, cond, arith}
+use Rattle.std.proofs.Common.{◌≡◌, ℕ, ◌+◌, ◌≤◌, ◌==◌, inl, inr, refl, sym, ap, subst, ◌∙◌, List, [], ◌∷◌, length, map, filter, not, Bool, true, false, arith}
 use Rattle.std.specs.Prelude.{sum_by, count_by}
 use Rattle.std.specs.List.{Contains, list_any}
 use Rattle.std.proofs.lemmas.Bool.{eq-eqb}
 use Rattle.std.proofs.lemmas.List.{length-map}
 use Rattle.std.proofs.lemmas.List.Sums.{sum_by-cons}
 use Rattle.std.proofs.lemmas.List.Sorted.{Contains-permutation}
-use Rattle.cad_rings.specs.Cycle.{Ring, Side, sides_of, corners_of}
+use Rattle.cad_rings.specs.Cycle.{Side, sides_of, corners_of}
 use Rattle.cad_rings.specs.Canonical.{least_rotation}
 use Rattle.cad_rings.specs.Surgery.{corner, without}
 use Rattle.cad_rings.proofs.CallerLemmas.{IsSameRing-length, IsSameRing-least_rotation}
@@ -14,7 +14,7 @@ use Rattle.cad_map.specs.declared.boundary.Boundary.{Boundary}
 use Rattle.cad_map.specs.Boundaries.{bounding, canonical_form, corners_in}
 use Rattle.cad_map.specs.Map.{Map}
 use Rattle.cad_map.specs.Rings.{HasWholeRings}
-use Rattle.cad_map.proofs.CallerLemmas.{Contains-cases, Contains-filter, Contains-in_part, Contains-map, All-at_each, count-yes, count-no, corner-sides, corners_at, through-corners}
+use Rattle.cad_map.proofs.CallerLemmas.{Contains-cases, Contains-filter, Contains-in_part, Contains-map, All-at_each, count-no, corner-sides, through-corners}
 use Rattle.cad_laws.specs.Counts.{sides_through}
 use Rattle.cad_laws.specs.Local.{IsShown, IsLocal, side_by}
 use Rattle.cad_laws.specs.Touching.{passes}

@@ -1,12 +1,12 @@
 -- A table in which other halves follow than before, half by half.
-use Rattle.std.proofs.Common.{◌≡◌, ◌≢◌, ℕ, refl, sym, ap, subst, ◌∙◌, Bool, true, false, if◌then◌else◌, List, [], ◌∷◌}
+use Rattle.std.proofs.Common.{◌≡◌, ℕ, refl, sym, ap, subst, ◌∙◌, Bool, true, false}
 use Rattle.std.specs.List.{AllByRecursion, Contains}
 use Rattle.cad_rows.specs.declared.rows.StringRow.{StringRow}
 use Rattle.cad_rings.specs.Cycle.{Side, opposite}
 use Rattle.cad_map.specs.Map.{Map, side_of, all_sides}
 use Rattle.cad_map.specs.Rings.{HasWholeRings}
 use Rattle.cad_map.specs.Views.{ComesAfter}
-use Rattle.cad_map.proofs.CallerLemmas.{All-at_each, All-from_each}
+use Rattle.cad_map.proofs.CallerLemmas.{All-at_each}
 use Rattle.cad_laws.proofs.CallerLemmas.{apart-halves, string-sides}
 use Rattle.half_table.specs.declared.half.Half.{Half}
 use Rattle.half_table.specs.Half.{twin, half_of, forward_of, backward_of}
@@ -14,10 +14,8 @@ use Rattle.half_table.specs.Rows.{HalfRows, IsLinked, has, next, origin_of}
 use Rattle.half_table.specs.Surgery.{KeepsHalves}
 use Rattle.cad_laws.specs.Local.{IsShown, IsLocal, side_by}
 use Rattle.map_parts.specs.Parts.{HasHalves}
-use Rattle.map_parts.specs.Passing.{IsHalfAlong}
 use Rattle.map_parts.proofs.PartsRings.{found-row}
 use Rattle.map_parts.proofs.WholeStrings.{two-ends}
-use Rattle.map_parts.proofs.Passing.Between.{along-side, twin-in}
 
 -- the half of a string has a side of the map's rings
 pub string-half_side : (m : Map) → HasWholeRings m → (rows : HalfRows) (row : StringRow)

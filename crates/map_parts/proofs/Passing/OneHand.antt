@@ -1,8 +1,7 @@
 -- A ring has no string on both hands, where the rings are whole.
-use Rattle.std.proofs.Common.{◌≡◌, ◌⊎◌, inl, inr, refl, sym, ap, subst, List}
+use Rattle.std.proofs.Common.{inl, inr, refl, subst}
 use Rattle.std.specs.List.{Contains}
 use Rattle.cad_rings.specs.Cycle.{Side, opposite, sides_of, corners_of}
-use Rattle.cad_rings.specs.Surgery.{corner}
 use Rattle.cad_map.specs.declared.boundary.Boundary.{Boundary}
 use Rattle.cad_map.specs.Map.{Map}
 use Rattle.cad_map.specs.Rings.{HasWholeRings}

@@ -1,6 +1,6 @@
 -- The table of a map with a point, and then without it: the string past the point is in the place of
 -- the path through it.
-use Rattle.std.proofs.Common.{◌≡◌, ◌≢◌, ℕ, ◌⊎◌, inl, inr, refl, sym, ap, subst, ◌∙◌, List, [], ◌∷◌, true, false}
+use Rattle.std.proofs.Common.{◌≡◌, ◌≢◌, ℕ, ◌⊎◌, inl, inr, refl, sym, ap, subst, ◌∙◌, ◌∷◌}
 use Rattle.std.specs.List.{AllByRecursion, Contains}
 use Rattle.std.proofs.lemmas.List.Sorted.{Contains-permutation}
 use Rattle.cad_rows.specs.declared.rows.StringRow.{StringRow}
@@ -11,9 +11,9 @@ use Rattle.cad_map.specs.Views.{ComesAfter}
 use Rattle.cad_map.proofs.CallerLemmas.{Contains-cases, All-at_each, All-from_each}
 use Rattle.half_table.specs.declared.half.Half.{Half}
 use Rattle.half_table.specs.Half.{twin}
-use Rattle.half_table.specs.Rows.{HalfRows, IsLinked, has, next, origin_of}
+use Rattle.half_table.specs.Rows.{HalfRows, IsLinked, next, origin_of}
 use Rattle.half_table.specs.Surgery.{KeepsHalves}
-use Rattle.half_table.proofs.Halves.{is_half-other, other-is_half, twin-twin}
+use Rattle.half_table.proofs.Halves.{is_half-other, twin-twin}
 use Rattle.half_paths.specs.Rerouted.{LeadsOn}
 use Rattle.cad_laws.specs.Local.{IsShown, IsLocal, side_by, beyond}
 use Rattle.cad_laws.specs.Tables.{GoesOnJoined}

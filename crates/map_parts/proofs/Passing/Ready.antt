@@ -1,11 +1,11 @@
 -- What the two steps at a point between two others ask of the table, and what they leave of it.
-use Rattle.std.proofs.Common.{◌≡◌, ◌+◌, ℕ, refl, sym, ap, subst, ◌∙◌, List, [], ◌∷◌, ◌++◌, length, true, false, nat_eq, arith}
+use Rattle.std.proofs.Common.{◌≡◌, ◌+◌, ℕ, sym, ap, ◌∙◌, [], ◌∷◌, ◌++◌, length, true, false, nat_eq, arith}
 use Rattle.std.specs.List.{IsDistinct}
 use Rattle.half_table.specs.declared.half.Half.{Half}
 use Rattle.half_table.specs.Count.{ticked}
 use Rattle.half_table.specs.Half.{twin}
 use Rattle.half_table.specs.Cycle.{orbit}
-use Rattle.half_table.specs.Rows.{HalfRows, IsLinked, strings, has, next, prev, halves_of, cycle}
+use Rattle.half_table.specs.Rows.{HalfRows, strings, has, next, prev, halves_of, cycle}
 use Rattle.half_table.proofs.Loose.{nat_eq-symm}
 use Rattle.half_paths.proofs.Along.{ticked-add}
 use Rattle.half_paths.specs.Path.{AreDifferent}
@@ -13,7 +13,7 @@ use Rattle.half_paths.specs.Redirect.{redirect}
 use Rattle.half_paths.specs.Rerouted.{rerouted, CanReroute}
 use Rattle.key_lists.specs.Held.{Held}
 use Rattle.map_parts.specs.Parts.{HasHalves}
-use Rattle.map_parts.specs.Passing.{HasBetween, CanGoThrough, CanGoPast}
+use Rattle.map_parts.specs.Passing.{CanGoThrough, CanGoPast}
 use Rattle.map_parts.specs.declared.edits.passing.Passing.{Passing}
 use Rattle.map_parts.proofs.Passing.Between as between
 use Rattle.map_parts.proofs.Passing.Routes.{IsThroughNow, IsPastNow, through-now, past-now}

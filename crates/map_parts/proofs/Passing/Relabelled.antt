@@ -1,9 +1,9 @@
 -- A cycle that gets the face of its ring, in a table that is local to a map.
-use Rattle.std.proofs.Common.{◌≡◌, ◌≢◌, refl, sym, ap, subst, ◌∙◌, Bool, true, false, if◌then◌else◌, true≢false}
+use Rattle.std.proofs.Common.{◌≡◌, ◌≢◌, refl, sym, ap, subst, ◌∙◌, Bool, true, false, if◌then◌else◌}
 use Rattle.std.specs.List.{AllByRecursion, Contains}
 use Rattle.cad_rows.specs.declared.names.Face.{Face}
 use Rattle.cad_rows.specs.declared.rows.StringRow.{StringRow}
-use Rattle.cad_rings.specs.Cycle.{Side, opposite, sides_of}
+use Rattle.cad_rings.specs.Cycle.{Side, opposite}
 use Rattle.cad_map.specs.Map.{Map, side_of}
 use Rattle.cad_map.specs.Rings.{HasWholeRings}
 use Rattle.cad_map.specs.Views.{HasSide}

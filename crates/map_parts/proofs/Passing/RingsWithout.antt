@@ -1,13 +1,12 @@
 -- The sides of each ring with and without a point between two others.
-use Rattle.std.proofs.Common.{◌≡◌, ◌≢◌, ℕ, ◌+◌, ◌≤◌, ◌⊎◌, inl, inr, refl, sym, ap, subst, ◌∙◌, List, [], ◌∷◌, ◌++◌, length, map, filter, not, Bool, true, cond, ◌==◌, arith}
+use Rattle.std.proofs.Common.{◌≡◌, ◌≢◌, ℕ, ◌≤◌, ◌⊎◌, inl, inr, refl, sym, ap, subst, ◌∙◌, List, [], ◌∷◌, ◌++◌, length, map, filter, not, cond, ◌==◌, arith}
 use Rattle.std.specs.Prelude.{IsPermutation, count_by, flat_map}
 use Rattle.std.specs.List.{Contains}
 use Rattle.std.proofs.lemmas.Bool.{eqb-true, eq-eqb}
 use Rattle.std.proofs.lemmas.List.Sums.{sum_by-cons, sum_by-append}
 use Rattle.std.proofs.lemmas.List.Elements.{Contains-append_left, Contains-append_right, Contains-append_cases}
 use Rattle.std.proofs.lemmas.List.Sorted.{IsPermutation-sym, IsPermutation-filter_both, sum_by-IsPermutation, Contains-permutation}
-use Rattle.cad_rings.specs.Cycle.{Ring, Side, is_side, opposite, sides_of, Corner, corners_of}
-use Rattle.cad_rings.specs.Canonical.{least_rotation}
+use Rattle.cad_rings.specs.Cycle.{Side, is_side, sides_of, Corner, corners_of}
 use Rattle.cad_rings.specs.Surgery.{corner, without}
 use Rattle.cad_rings.proofs.CallerLemmas.{sides_of-least_rotation}
 use Rattle.cad_map.specs.declared.boundary.Boundary.{Boundary}

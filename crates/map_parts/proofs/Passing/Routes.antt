@@ -3,7 +3,7 @@ use Rattle.std.proofs.Common.{◌≡◌, ◌≢◌, ◌⊎◌, inl, inr, refl, s
 use Rattle.half_table.specs.declared.half.Half.{Half}
 use Rattle.half_table.specs.Half.{twin, is_half}
 use Rattle.half_table.specs.Rows.{HalfRows, next, prev, IsLinked}
-use Rattle.half_table.proofs.Halves.{is_half-self, is_half-other, is_half-turned, is_half-twin, twin-twin, other-is_half}
+use Rattle.half_table.proofs.Halves.{is_half-self, is_half-other, is_half-turned, is_half-twin, other-is_half}
 use Rattle.half_paths.specs.Loose.{AreLoose}
 use Rattle.half_paths.specs.Redirect.{redirect}
 use Rattle.half_paths.specs.Rerouted.{rerouted, LeadsOn}

@@ -1,6 +1,6 @@
 -- A split that is tried puts a point between the ends of a string.
-use Rattle.std.proofs.Common.{◌≡◌, ◌≢◌, ℕ, ℤ, refl, sym, ap, subst, ◌∙◌, List, [], ◌∷◌, ◌++◌, map, Bool, true, false, ◌==◌, not, Option, Some, None, nat_eq, true≢false}
-use Rattle.std.specs.Prelude.{IsPermutation, option_map, unwrap_or, filter}
+use Rattle.std.proofs.Common.{◌≡◌, ◌≢◌, ℕ, ℤ, refl, sym, ap, subst, ◌∙◌, List, [], ◌∷◌, ◌++◌, map, Bool, true, false, ◌==◌, Option, Some, None, nat_eq}
+use Rattle.std.specs.Prelude.{IsPermutation, option_map, unwrap_or}
 use Rattle.std.specs.List.{AllByRecursion, Contains, IsDistinct}
 use Rattle.std.proofs.lemmas.Bool.{eqb-true, false_from_ne_true}
 use Rattle.std.proofs.lemmas.List.Sorted.{IsPermutation-refl, IsPermutation-cons, IsPermutation-trans, IsPermutation-middle, IsPermutation-append_comm}
@@ -12,12 +12,11 @@ use Rattle.cad_map.specs.Map.{Map, string_of}
 use Rattle.cad_map.specs.Table.{row_with, without_row}
 use Rattle.cad_map.specs.Valid.{EachPair}
 use Rattle.cad_map.proofs.CallerLemmas.{allowed, free-split, halves-differ, find-Contains, found-number, whole_valid}
-use Rattle.half_table.specs.declared.half.Half.{Half}
 use Rattle.half_table.specs.Half.{forward_of}
 use Rattle.half_paths.specs.Path.{AreDifferent}
 use Rattle.cad_laws.specs.Tried.{IsTried}
 use Rattle.cad_laws.proofs.CallerLemmas.{split-between, whole-after}
-use Rattle.map_parts.specs.Passing.{IsHalfAlong, HasBetween, path_of}
+use Rattle.map_parts.specs.Passing.{HasBetween, path_of}
 
 -- ---- Rows with one at the front
 

@@ -1,10 +1,10 @@
 -- A split of a map on half-edges that is taken back in place.
-use Rattle.std.proofs.Common.{◌≡◌, ◌≢◌, inl, inr, ◌<◌, ◌≤◌, ◌+◌, ◌==◌, ℕ, zero, suc, ℤ, refl, sym, ap, subst, ◌∙◌, List, [], ◌∷◌, ◌++◌, map, length, append_assoc, not, Bool, true, false, insert, slice_get, Option, Some, None, arith, nat_eq, true≢false}
+use Rattle.std.proofs.Common.{◌≡◌, ◌≢◌, inl, inr, ◌≤◌, ◌==◌, ℕ, zero, suc, refl, sym, ap, subst, ◌∙◌, List, [], ◌∷◌, ◌++◌, map, length, append_assoc, not, Bool, true, false, insert, slice_get, Option, Some, None, arith}
 use Rattle.std.specs.Prelude.{IsPermutation, IsSome, is_some, option_map, unwrap_or}
 use Rattle.std.specs.List.{AllByRecursion, Contains}
 use Rattle.std.proofs.lemmas.Bool.{eqb-true, eq-eqb, false_from_ne_true}
 use Rattle.std.proofs.lemmas.List.Sorted.{length_permutation}
-use Rattle.std.proofs.lemmas.Option.{slice_get_within, get_or_from_slice_get}
+use Rattle.std.proofs.lemmas.Option.{slice_get_within}
 use Rattle.cad_rows.specs.declared.edits.Edit.TheVariants.{Split}
 use Rattle.cad_rows.specs.declared.rows.PointRow.{PointRow}
 use Rattle.cad_rows.specs.declared.rows.StringRow.{StringRow}
@@ -13,7 +13,7 @@ use Rattle.cad_map.specs.Effects.{after}
 use Rattle.cad_map.specs.Map.{Map, point_of, string_of}
 use Rattle.cad_map.specs.Table.{row_with, without_row}
 use Rattle.cad_map.specs.Valid.{EachPair}
-use Rattle.cad_map.proofs.CallerLemmas.{Contains-at, Contains-first, Contains-later, All-at_each, Contains-map, row-found, row_with-there, none-push, none-filter, allowed, free-split}
+use Rattle.cad_map.proofs.CallerLemmas.{Contains-at, All-at_each, Contains-map, row-found, row_with-there, none-push, none-filter, allowed, free-split}
 use Rattle.half_table.specs.declared.half.Half.{Half}
 use Rattle.half_table.specs.Rows.{HalfRows}
 use Rattle.key_lists.specs.Held.{Held}
@@ -22,7 +22,7 @@ use Rattle.map_parts.specs.declared.map_rows.MapRows.{MapRows}
 use Rattle.map_parts.specs.declared.stars.Spoke.{Spoke}
 use Rattle.map_parts.specs.Rows.{map_in}
 use Rattle.map_parts.specs.Passing.{HasBetween, FitTable, CanGoPast, path_of}
-use Rattle.map_parts.specs.Splitting.{CanUnsplit, CanMeet, FitMap, AreStarsOf}
+use Rattle.map_parts.specs.Splitting.{CanUnsplit, CanMeet, AreStarsOf}
 use Rattle.map_parts.proofs.Passing.Between as between
 use Rattle.map_parts.proofs.Passing.SplitBetween as made
 use Rattle.map_parts.proofs.Passing.StarsChanged.{stars-permuted}

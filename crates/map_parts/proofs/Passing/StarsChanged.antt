@@ -1,6 +1,6 @@
 -- Stars of some strings, with one string less and one more.
 use Rattle.std.proofs.Common.{◌≡◌, ◌≢◌, ℕ, ◌+◌, ◌≤◌, inl, inr, ◌==◌, ◌&&◌, if◌then◌else◌, refl, sym, ap, subst, ◌∙◌, List, [], ◌∷◌, ◌++◌, length, Bool, true, false, true≢false, cond, Option, arith, length-append}
-use Rattle.std.specs.Prelude.{IsPermutation, sum_by, count_by, flat_map, option_map, unwrap_or, vec_capacity}
+use Rattle.std.specs.Prelude.{IsPermutation, sum_by, count_by, option_map, unwrap_or, vec_capacity}
 use Rattle.std.specs.List.{Contains}
 use Rattle.std.specs.Global.{Vec}
 use Rattle.std.proofs.lemmas.Bool.{eqb-true, eq-eqb}
@@ -8,7 +8,6 @@ use Rattle.std.proofs.lemmas.List.Sums.{sum_by-cons, sum_by-append}
 use Rattle.std.proofs.lemmas.List.Sorted.{IsPermutation-refl, IsPermutation-cons, IsPermutation-sym, IsPermutation-trans, IsPermutation-middle, sum_by-IsPermutation, Contains-permutation, length_permutation}
 use Rattle.cad_map.proofs.CallerLemmas.{Contains-cases, Contains-first, Contains-later, Contains-flat_map, count-yes, count-no}
 use Rattle.cad_rows.specs.declared.rows.StringRow.{StringRow}
-use Rattle.half_table.specs.declared.half.Half.{Half}
 use Rattle.half_table.specs.Half.{is_half, forward_of, backward_of}
 use Rattle.half_table.proofs.Halves.{is_half-self, is_half-same}
 use Rattle.key_lists.specs.Held.{Held, items_at, capacity_at, list_at, HasRoomAt, KeepsOthers}

@@ -1,6 +1,6 @@
 -- The table of a map without a point, and then with it: the path through the point is in the place
 -- of the string past it.
-use Rattle.std.proofs.Common.{◌≡◌, ◌≢◌, ℕ, ◌⊎◌, inl, inr, refl, sym, ap, subst, ◌∙◌, List, [], ◌∷◌, true, false}
+use Rattle.std.proofs.Common.{◌≡◌, ◌≢◌, ℕ, inl, inr, refl, sym, ap, subst, ◌∙◌, ◌∷◌}
 use Rattle.std.specs.List.{AllByRecursion, Contains}
 use Rattle.std.proofs.lemmas.List.Sorted.{Contains-permutation}
 use Rattle.cad_rows.specs.declared.rows.StringRow.{StringRow}
@@ -10,7 +10,7 @@ use Rattle.cad_map.specs.Views.{ComesAfter}
 use Rattle.cad_map.proofs.CallerLemmas.{Contains-cases, All-at_each, All-from_each}
 use Rattle.half_table.specs.declared.half.Half.{Half}
 use Rattle.half_table.specs.Half.{twin}
-use Rattle.half_table.specs.Rows.{HalfRows, IsLinked, has, next, origin_of}
+use Rattle.half_table.specs.Rows.{HalfRows, IsLinked, next, origin_of}
 use Rattle.half_table.specs.Surgery.{KeepsHalves}
 use Rattle.half_table.proofs.Halves.{is_half-other, other-is_half, twin-twin}
 use Rattle.half_paths.specs.Rerouted.{LeadsOn}

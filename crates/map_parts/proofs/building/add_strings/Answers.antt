@@ -1,5 +1,5 @@
 use Rattle.std.proofs.Common.{sym}
-use Rattle.map_parts.proofs.StringsAdded.{next-free, next-ends, strings-more, strings-all}
+use Rattle.map_parts.proofs.StringsAdded.{next-free, next-ends, strings-more}
 use Rattle.map_parts.proofs.building.add_strings.Goals as goal
 
 pub add_string-requires : goal.add_string-requires

@@ -1,6 +1,6 @@
 use Rattle.std.proofs.Common.{sym, subst}
 use Rattle.std.specs.List.{Contains}
-use Rattle.cad_rings.specs.Cycle.{Side, sides_of}
+use Rattle.cad_rings.specs.Cycle.{sides_of}
 use Rattle.cad_map.specs.declared.boundary.Boundary.{Boundary}
 use Rattle.cad_map.proofs.CallerLemmas.{Contains-flat_map}
 use Rattle.map_parts.proofs.Rounds.{first-in}

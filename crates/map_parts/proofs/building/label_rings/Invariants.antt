@@ -1,7 +1,8 @@
-use Rattle.std.proofs.Common.{◌≡◌, ◌<◌, ℕ, Some, slice_get}
+use Rattle.std.proofs.Common.{◌≡◌, ◌<◌, ℕ, Some, slice_get, take}
 use Rattle.cad_map.specs.declared.boundary.Boundary.{Boundary}
 use Rattle.cad_laws.specs.Local.{IsLocal}
-use Rattle.map_parts.specs.Labels.{IsLabelled}
+use Rattle.half_table.specs.Rows.{HalfRows}
+use Rattle.map_parts.specs.Labels.{IsLabelled, HoldsRings}
 use Rattle.map_parts.specs.Building.{HoldsStrings}
 use Rattle.map_parts.proofs.building.label_rings.Given as goal
 
@@ -10,4 +11,5 @@ invariant-loop-boundary g l = record {
   strings : HoldsStrings l.map l.table.rows l.stars;
   local : IsLocal l.map l.table.rows;
   labelled : (i : ℕ) (b : Boundary) → i < l.boundary-index → slice_get l.map.boundaries i ≡ Some b → IsLabelled l.map l.table.rows b;
+  kept : (rows : HalfRows) → HoldsStrings l.map rows l.stars → HoldsRings l.map rows l.kept (take l.boundary-index l.map.boundaries);
 }

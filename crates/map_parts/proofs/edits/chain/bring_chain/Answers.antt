@@ -1,7 +1,6 @@
-use Rattle.std.proofs.Common.{◌≡◌, ◌∙◌, ◌∷◌, ◌+◌, true, length, sym, ap, subst, arith}
+use Rattle.std.proofs.Common.{◌≡◌, ◌∙◌, ◌∷◌, true, length, sym, ap, subst}
 use Rattle.half_table.specs.Count.{ticked}
 use Rattle.half_table.specs.declared.half.Half.{Half}
-use Rattle.half_table.specs.Half.{twin}
 use Rattle.half_table.specs.Rows.{has, next, prev}
 use Rattle.half_paths.specs.Redirect.{redirect}
 use Rattle.half_paths.specs.Path.{last_of}

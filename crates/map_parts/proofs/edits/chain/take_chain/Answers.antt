@@ -1,5 +1,4 @@
 use Rattle.std.proofs.Common.{◌≡◌, ◌∙◌, ◌∷◌, ◌+◌, true, length, sym, ap, subst, arith}
-use Rattle.cad_rings.specs.Surgery.{sides_of_chain}
 use Rattle.half_table.specs.Count.{ticked}
 use Rattle.half_table.specs.declared.half.Half.{Half}
 use Rattle.half_table.specs.Half.{twin}

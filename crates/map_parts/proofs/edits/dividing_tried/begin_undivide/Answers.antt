@@ -1,4 +1,4 @@
-use Rattle.std.proofs.Common.{◌≡◌, ◌∷◌, List}
+use Rattle.std.proofs.Common.{◌∷◌, List}
 use Rattle.half_table.specs.declared.half.Half.{Half}
 use Rattle.map_parts.proofs.DividingBegun as begun
 use Rattle.map_parts.proofs.EnclosingBegun.{on-err}

@@ -1,10 +1,9 @@
-use Rattle.std.proofs.Common.{◌≡◌, ◌≢◌, ◌+◌, ◌∷◌, ◌++◌, [], ℕ, length, sym, ap, ◌∙◌, subst, length-append, arith}
+use Rattle.std.proofs.Common.{◌≡◌, ◌∷◌, ◌++◌, [], ℕ, length, sym, ap, ◌∙◌, subst, length-append, arith}
 use Rattle.cad_map.specs.Boundaries.{face_place}
 use Rattle.cad_rings.specs.Cycle.{sides_of}
 use Rattle.half_table.specs.declared.half.Half.{Half}
 use Rattle.half_table.specs.Half.{twin}
-use Rattle.key_lists.specs.Held.{items_at, capacity_at, HasRoomAt}
-use Rattle.map_parts.specs.Handing.{KeepsEach}
+use Rattle.key_lists.specs.Held.{items_at, HasRoomAt}
 use Rattle.map_parts.specs.Islands.{FitsTable}
 use Rattle.map_parts.proofs.RelabelledEach.{in-relabelled}
 use Rattle.map_parts.proofs.Handed.{count-handed}

@@ -1,10 +1,7 @@
-use Rattle.std.proofs.Common.{◌≡◌, ◌≢◌, ◌+◌, ◌≤◌, ◌∷◌, [], ℕ, length, sym, ap, ◌∙◌, subst, arith}
-use Rattle.cad_rings.specs.Cycle.{sides_of}
+use Rattle.std.proofs.Common.{◌≡◌, ◌∷◌, [], ℕ, length, sym, ap, ◌∙◌, subst, arith}
 use Rattle.cad_map.specs.Boundaries.{face_place}
 use Rattle.half_table.specs.declared.half.Half.{Half}
-use Rattle.half_table.specs.Half.{twin}
-use Rattle.half_paths.specs.Path.{AreIn}
-use Rattle.key_lists.specs.Held.{items_at, capacity_at, HasRoomAt}
+use Rattle.key_lists.specs.Held.{items_at}
 use Rattle.map_parts.specs.Islands.{FitsTable}
 use Rattle.map_parts.proofs.WholeStrings.{two-ends}
 use Rattle.map_parts.proofs.PartsRings.{half-two}

@@ -1,5 +1,4 @@
-use Rattle.std.proofs.Common.{◌≡◌, ◌+◌, ◌-◌, ◌<◌, ◌≤◌, [], length, refl, sym, ap, ◌∙◌, arith}
-use Rattle.std.proofs.lemmas.Option.{slice_get_within}
+use Rattle.std.proofs.Common.{length, refl, ap, ◌∙◌, arith}
 use Rattle.key_lists.specs.Held.{items_at}
 use Rattle.map_parts.proofs.Handed.{nothing-left, one-fewer}
 use Rattle.map_parts.proofs.edits.handing.clear.Goals as goal

@@ -1,10 +1,9 @@
-use Rattle.std.proofs.Common.{◌≡◌, ◌+◌, ◌∷◌, true, length, sym, ap, ◌∙◌, subst, arith}
-use Rattle.half_table.specs.declared.half.Half.{Half}
+use Rattle.std.proofs.Common.{◌≡◌, ◌+◌, ◌∷◌, length, sym, ap, ◌∙◌, subst}
 use Rattle.half_table.specs.Half.{twin}
 use Rattle.half_table.specs.Count.{ticked}
-use Rattle.half_table.specs.Rows.{has, next, cycle}
+use Rattle.half_table.specs.Rows.{cycle}
 use Rattle.half_paths.specs.Round.{IsRound}
-use Rattle.half_paths.proofs.Along.{in-kept, ticked-add}
+use Rattle.half_paths.proofs.Along.{ticked-add}
 use Rattle.map_parts.specs.Relabelled.{cycles_length}
 use Rattle.map_parts.proofs.RelabelledEach.{cycle-same, in-relabelled}
 use Rattle.map_parts.proofs.IslandFits.{fits-without, relabelled-faces}

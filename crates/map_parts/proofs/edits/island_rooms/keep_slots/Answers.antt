@@ -1,12 +1,11 @@
-use Rattle.std.proofs.Common.{◌≡◌, ◌∷◌, [], ◌++◌, ◌+◌, ℕ, List, take, refl, sym, ap, subst, ◌∙◌, arith}
+use Rattle.std.proofs.Common.{◌≡◌, ◌∷◌, [], ◌++◌, ◌+◌, List, take, refl, sym, ap, subst, ◌∙◌}
 use Rattle.std.specs.List.{AllByRecursion}
-use Rattle.std.proofs.lemmas.List.{take_more, take_all}
+use Rattle.std.proofs.lemmas.List.{take_more}
 use Rattle.cad_rows.specs.declared.rows.StringRow.{StringRow}
-use Rattle.cad_map.specs.Map.{Map}
 use Rattle.cad_map.proofs.CallerLemmas.{All-follows, All-push}
 use Rattle.entry_list.specs.Slots.{HasSlot}
 use Rattle.map_parts.specs.declared.map_rows.MapRows.{MapRows}
-use Rattle.map_parts.specs.Rows.{map_in, rows_in}
+use Rattle.map_parts.specs.Rows.{map_in}
 use Rattle.map_parts.proofs.edits.island_rooms.keep_slots.Goals as goal
 
 pub loop-string-init : goal.loop-string-init

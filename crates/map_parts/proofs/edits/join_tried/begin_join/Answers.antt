@@ -1,4 +1,4 @@
-use Rattle.std.proofs.Common.{◌≡◌, ◌+◌, ◌∙◌, sym, ap, length}
+use Rattle.std.proofs.Common.{◌+◌, ◌∙◌, sym, ap, length}
 use Rattle.half_paths.proofs.Along.{ticked-add}
 use Rattle.half_table.specs.Count.{ticked}
 use Rattle.half_table.specs.Half.{forward_of, backward_of}

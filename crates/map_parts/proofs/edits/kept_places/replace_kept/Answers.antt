@@ -1,4 +1,4 @@
-use Rattle.std.proofs.Common.{◌≡◌, ◌+◌, ◌<◌, ◌≤◌, ◌∙◌, ◌++◌, [], ℕ, suc, length, map, take, drop, get_or, ap, sym, subst, arith, List, Option}
+use Rattle.std.proofs.Common.{◌≡◌, ◌+◌, ◌<◌, ◌≤◌, ◌∙◌, ◌++◌, [], ℕ, suc, length, map, take, drop, get_or, ap, subst, arith, List, Option}
 use Rattle.std.specs.Global.{Vec}
 use Rattle.std.specs.Prelude.{slice_set, option_map, unwrap_or}
 use Rattle.half_table.specs.declared.half.Half.{Half}

@@ -1,4 +1,4 @@
-use Rattle.std.proofs.Common.{rules, ◌≡◌, ◌∙◌, ap, sym, refl}
+use Rattle.std.proofs.Common.{rules, ◌∙◌, ap, sym, refl}
 use Rattle.std.specs.Prelude.{option_map}
 use Rattle.cad_map.specs.Changes.{change_parcel}
 use Rattle.map_parts.specs.Rows.{map_in}

@@ -1,4 +1,4 @@
-use Rattle.std.proofs.Common.{◌≡◌, ℕ, ◌∷◌, ◌+◌, ◌*◌, ◌∙◌, List, length, sym, ap, if◌then◌else◌, true}
+use Rattle.std.proofs.Common.{ℕ, ◌∷◌, ◌+◌, ◌*◌, ◌∙◌, List, length, ap, if◌then◌else◌, true}
 use Rattle.half_table.specs.declared.half.Half.{Half}
 use Rattle.half_table.specs.Count.{ticked}
 use Rattle.half_table.specs.Rows.{has, cycle}

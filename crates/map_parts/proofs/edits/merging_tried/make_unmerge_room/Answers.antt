@@ -1,13 +1,11 @@
-use Rattle.std.proofs.Common.{◌≡◌, ◌∷◌, ◌+◌, ◌≤◌, ◌∙◌, ℕ, List, length, map, nat_eq, sym, ap, subst, arith}
+use Rattle.std.proofs.Common.{◌≡◌, ◌≤◌, ◌∙◌, ℕ, List, length, map, nat_eq, sym, ap, subst, arith}
 use Rattle.std.specs.List.{AllByRecursion, IsDistinct}
-use Rattle.cad_rows.specs.declared.rows.ParcelRow.{ParcelRow}
 use Rattle.cad_rows.specs.declared.rows.StringRow.{StringRow}
 use Rattle.entry_list.specs.Slots.{HasSlot}
 use Rattle.half_table.specs.Count.{ticked}
 use Rattle.half_paths.specs.Loose.{AddsStrings, AreNew, numbers_of}
 use Rattle.map_parts.specs.Merging.{bare_row, rows_gone, HasRoomAtEnds}
 use Rattle.map_parts.specs.declared.edits.placed_strings.PlacedString.{PlacedString}
-use Rattle.map_parts.specs.Rows.{map_in}
 use Rattle.map_parts.proofs.EnclosingBegun.{on-err}
 use Rattle.map_parts.proofs.UnmergingBegun.{bare-adds, bare-distinct, bare-many, bare-new, of-bare}
 use Rattle.map_parts.proofs.edits.merging_tried.make_unmerge_room.Goals as goal

@@ -4,7 +4,7 @@ use Rattle.cad_rows.specs.declared.names.Face.{Face}
 use Rattle.half_table.specs.declared.half.Half.{Half}
 use Rattle.half_table.specs.Count.{ticked}
 use Rattle.half_table.specs.Half.{twin}
-use Rattle.half_table.specs.Rows.{next, has, face, cycle}
+use Rattle.half_table.specs.Rows.{next, face, cycle}
 use Rattle.half_table.specs.Surgery.{Relabels}
 use Rattle.key_lists.specs.Held.{items_at}
 use Rattle.map_parts.specs.Passing.{in_place_at}

@@ -1,10 +1,10 @@
-use Rattle.std.proofs.Common.{◌≡◌, ◌+◌, ◌∙◌, ℕ, ap, sym, subst, map, length}
+use Rattle.std.proofs.Common.{◌≡◌, ◌+◌, ◌∙◌, ap, sym, subst, map, length}
 use Rattle.cad_map.specs.Boundaries.{face_place}
 use Rattle.cad_rows.specs.declared.names.Face.{Face}
 use Rattle.half_table.specs.declared.half.Half.{Half}
 use Rattle.half_table.specs.Count.{ticked}
 use Rattle.half_table.specs.Half.{twin}
-use Rattle.half_table.specs.Rows.{next, has, face, cycle}
+use Rattle.half_table.specs.Rows.{next, face, cycle}
 use Rattle.half_table.specs.Surgery.{Relabels}
 use Rattle.key_lists.specs.Held.{items_at}
 use Rattle.map_parts.specs.Passing.{in_place_at}

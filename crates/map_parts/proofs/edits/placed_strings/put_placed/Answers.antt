@@ -1,4 +1,4 @@
-use Rattle.std.proofs.Common.{◌≡◌, ◌≢◌, ◌∷◌, [], ◌++◌, ℕ, ◌+◌, List, refl, sym, ap, subst, ◌∙◌, length, arith, insert}
+use Rattle.std.proofs.Common.{◌≡◌, [], List, refl, ap, subst, ◌∙◌, arith, insert}
 use Rattle.cad_rows.specs.declared.rows.StringRow.{StringRow}
 use Rattle.cad_map.specs.Map.{Map}
 use Rattle.map_parts.specs.declared.edits.placed_strings.PlacedString.{PlacedString}

@@ -1,6 +1,5 @@
-use Rattle.std.proofs.Common.{◌≡◌, ◌∙◌, ap, sym, refl}
+use Rattle.std.proofs.Common.{◌∙◌, ap, sym, refl}
 use Rattle.std.specs.Prelude.{option_map}
-use Rattle.cad_map.specs.Changes.{change_point}
 use Rattle.map_parts.specs.Rows.{map_in}
 use Rattle.map_parts.proofs.RowsUndone.{point-is}
 use Rattle.map_parts.proofs.edits.points.move_point.Goals as goal

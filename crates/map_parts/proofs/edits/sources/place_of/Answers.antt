@@ -1,4 +1,4 @@
-use Rattle.std.proofs.Common.{◌≡◌, ◌∙◌, ◌==◌, ap, sym, true, nat_eq}
+use Rattle.std.proofs.Common.{◌∙◌, ◌==◌, ap, sym, nat_eq}
 use Rattle.std.proofs.lemmas.Bool.{eqb-true, false_from_ne_true}
 use Rattle.std.specs.List.{list_any}
 use Rattle.cad_map.proofs.CallerLemmas.{drop-at}

@@ -1,4 +1,4 @@
-use Rattle.std.proofs.Common.{◌≡◌, ◌∙◌, ◌==◌, ap, sym, subst, not, ℕ, List}
+use Rattle.std.proofs.Common.{◌∙◌, ◌==◌, ap, sym, subst, not, ℕ}
 use Rattle.std.specs.Prelude.{IsSome}
 use Rattle.cad_rows.specs.declared.rows.StringRow.{StringRow}
 use Rattle.cad_map.specs.Table.{row_with, without_row}

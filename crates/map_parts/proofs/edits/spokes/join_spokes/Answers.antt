@@ -1,4 +1,4 @@
-use Rattle.std.proofs.Common.{◌≡◌, ◌≢◌, ◌∙◌, ◌∷◌, [], ℕ, sym, List}
+use Rattle.std.proofs.Common.{◌∷◌, ℕ}
 use Rattle.std.proofs.lemmas.List.Sorted.{IsPermutation-refl, IsPermutation-sym, Contains-permutation}
 use Rattle.cad_map.proofs.CallerLemmas.{Contains-first}
 use Rattle.map_parts.proofs.Passing.StarsChanged.{star-from, star-to, stars-without, stars-with, room-after_take, connects-two, room-points, room-after_both}

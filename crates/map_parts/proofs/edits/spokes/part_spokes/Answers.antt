@@ -1,4 +1,4 @@
-use Rattle.std.proofs.Common.{◌≡◌, ◌≢◌, ◌∙◌, ◌+◌, ◌∷◌, [], ℕ, sym, ap, List, length, arith}
+use Rattle.std.proofs.Common.{◌∷◌, ℕ, sym, ap, List, length, arith}
 use Rattle.std.proofs.lemmas.List.Sorted.{IsPermutation-refl}
 use Rattle.key_lists.specs.Held.{HasRoomAt}
 use Rattle.map_parts.specs.declared.stars.Spoke.{Spoke}

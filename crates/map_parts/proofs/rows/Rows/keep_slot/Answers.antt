@@ -1,8 +1,5 @@
-use Rattle.std.proofs.Common.{◌∙◌, ap, subst, sym}
-use Rattle.std.specs.Map.{values_of}
-use Rattle.entry_list.specs.Slots.{rows_of}
+use Rattle.std.proofs.Common.{subst, sym}
 use Rattle.cad_map.specs.Table.{AreNumbered}
-use Rattle.map_parts.specs.Rows.{rows_in}
 use Rattle.map_parts.proofs.rows.Rows.keep_slot.Goals as goal
 
 pub invariant_of-self : goal.invariant_of-self

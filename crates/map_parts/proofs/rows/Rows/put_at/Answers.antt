@@ -1,4 +1,4 @@
-use Rattle.std.proofs.Common.{◌≡◌, ◌≤◌, ◌∙◌, ap, subst, sym, length, insert}
+use Rattle.std.proofs.Common.{◌≤◌, ◌∙◌, ap, subst, sym, length, insert}
 use Rattle.std.specs.Map.{values_of}
 use Rattle.std.proofs.lemmas.Map.Entries.{length-values_of}
 use Rattle.entry_list.specs.Slots.{rows_of}

@@ -1,4 +1,4 @@
-use Rattle.std.proofs.Common.{◌∙◌, ◌++◌, ◌∷◌, [], ap, subst, sym, List}
+use Rattle.std.proofs.Common.{◌∙◌, ◌++◌, ◌∷◌, [], ap, subst, sym}
 use Rattle.std.specs.Map.{values_of}
 use Rattle.entry_list.specs.Slots.{rows_of}
 use Rattle.cad_map.specs.Table.{AreNumbered, row_with}

@@ -1,5 +1,5 @@
-use Rattle.std.proofs.Common.{◌≡◌, ◌∙◌, ap, sym, subst, slice_get, insert, Some, None}
-use Rattle.cad_map.specs.Table.{row_with, without_row, with_row}
+use Rattle.std.proofs.Common.{◌∙◌, ap, sym, slice_get}
+use Rattle.cad_map.specs.Table.{row_with, with_row}
 use Rattle.map_parts.specs.Rows.{rows_in}
 use Rattle.cad_laws.proofs.CallerLemmas.{none-taken, placed-within, insert-found, insert-with}
 use Rattle.map_parts.proofs.rows.Rows.take_there.Goals as goal
