@@ -1,0 +1,6 @@
+pub mod CutFacts
+pub mod AreaFacts
+pub mod MetresFacts
+pub mod JoinFacts
+pub mod ToldFacts
+pub mod DifferenceFacts

@@ -1,0 +1,7 @@
+pub mod Cut
+pub mod Differences
+pub mod Drawings
+pub mod Metres
+pub mod Tables
+pub mod Walked
+pub mod WellKnown

@@ -1,0 +1,159 @@
+//! The column beside a map: north, scale and key.
+
+use crate::edges::{Edge, push_lines};
+use crate::page::{Page, Spot, times_over, whole};
+use crate::pen::{push, push_box, push_centred, push_circle, push_spot, push_text};
+use cad_map::{MapView, PlainMap};
+use cad_rows::Memory;
+use std::alloc::Global;
+
+/// Where the column begins.
+pub(crate) const COLUMN: i64 = 34_200;
+
+/// The size of its letters.
+const SIZE: i64 = 280;
+
+/// How far its lines are apart.
+const STEP: i64 = 420;
+
+// The arrow to the north.
+fn push_north(text: &mut Vec<u8>) -> Result<(), Memory> {
+    let mut letter = "<path class=\"bar\" d=\"M";
+    for spot in [
+        Spot::at(40_300, 1_100),
+        Spot::at(40_600, 2_300),
+        Spot::at(40_300, 2_000),
+        Spot::at(40_000, 2_300),
+    ] {
+        push(text, letter)?;
+        push_spot(text, &spot)?;
+        letter = "L";
+    }
+    push(text, "Z\"/>\n")?;
+    push_centred(text, &Spot::at(40_300, 2_800), 420, "N")
+}
+
+/// A text of some words and a number. `Err` where memory runs out.
+pub(crate) fn worded(
+    alloc: Global,
+    before: &str,
+    number: i64,
+    after: &str,
+) -> Result<String, Memory> {
+    let mut words = String::from_str(alloc, before)?;
+    let digits = number.to_string(alloc)?;
+    words.push_str(digits.as_str())?;
+    words.push_str(after)?;
+    Ok(words)
+}
+
+// How long so many hundredths of a millimetre on the page are on the ground, in metres, or in millimetres below a metre.
+fn length_words(alloc: Global, scale: i64) -> Result<String, Memory> {
+    let metres = times_over(scale, 50, 1_000);
+    if metres >= 1 {
+        worded(alloc, "", metres, " m")
+    } else {
+        worded(alloc, "", scale.saturating_mul(50), " mm")
+    }
+}
+
+// A bar of five parts, each of a centimetre on the page.
+fn push_scale(alloc: Global, text: &mut Vec<u8>, scale: i64) -> Result<(), Memory> {
+    let words = worded(alloc, "Scale 1:", scale, " on A3")?;
+    push_text(text, "k", &Spot::at(COLUMN, 3_500), SIZE, words.as_str())?;
+    let mut x = COLUMN;
+    for class in ["bar", "frame", "bar", "frame", "bar"] {
+        push_box(text, class, &Spot::at(x, 3_800), 1_000, 160)?;
+        x = x.saturating_add(1_000);
+    }
+    push_centred(text, &Spot::at(COLUMN, 4_300), 240, "0")?;
+    let words = length_words(alloc, scale)?;
+    push_centred(text, &Spot::at(COLUMN + 5_000, 4_300), 240, words.as_str())
+}
+
+// How far down the middle of a line of the key is.
+fn height(line: i64) -> i64 {
+    line.saturating_mul(STEP)
+        .saturating_add(5_000)
+        .clamp(0, 28_000)
+}
+
+// The middle of the sign of a line of the key.
+fn sign(line: i64) -> Spot {
+    Spot::at(COLUMN + 550, height(line))
+}
+
+// A line as a sign of the key.
+fn push_line_sign(text: &mut Vec<u8>, line: i64, class: &str) -> Result<(), Memory> {
+    let y = height(line);
+    let edge = Edge {
+        from: Spot::at(COLUMN, y),
+        to: Spot::at(COLUMN + 1_100, y),
+    };
+    push_lines(text, class, &[edge])
+}
+
+// The words of a line of the key, beside its sign.
+fn push_entry(text: &mut Vec<u8>, line: i64, words: &str) -> Result<(), Memory> {
+    let spot = Spot::at(COLUMN + 1_500, height(line).saturating_add(90));
+    push_text(text, "k", &spot, SIZE, words)
+}
+
+// The words of a line of the key with a count.
+fn push_counted(
+    alloc: Global,
+    text: &mut Vec<u8>,
+    line: i64,
+    words: &str,
+    count: usize,
+) -> Result<(), Memory> {
+    let words = worded(alloc, words, whole(count), ")")?;
+    push_entry(text, line, words.as_str())
+}
+
+// The signs of a map's rows.
+fn push_row_key(alloc: Global, text: &mut Vec<u8>, map: &PlainMap) -> Result<(), Memory> {
+    let counts = map.counts();
+    let corner = Spot::at(COLUMN, height(0).saturating_sub(130));
+    push_box(text, "p", &corner, 1_100, 260)?;
+    push_counted(alloc, text, 0, "parcel (", counts.parcels)?;
+    push_line_sign(text, 1, "s")?;
+    push_counted(alloc, text, 1, "boundary (", counts.strings)?;
+    push_circle(text, "o", &sign(2), 55)?;
+    push_counted(alloc, text, 2, "point (", counts.points)?;
+    push_circle(text, "f", &sign(3), 110)?;
+    push_entry(text, 3, "free point")?;
+    let below = Spot::at(COLUMN, height(4).saturating_add(90));
+    push_text(text, "k", &below, 240, "number, label, area in m²")
+}
+
+// The signs of what has come, gone or changed.
+fn push_mark_key(text: &mut Vec<u8>) -> Result<(), Memory> {
+    for (line, class, words) in [
+        (6, "s came", "came since"),
+        (7, "s changed", "changed since"),
+        (8, "s went", "went since"),
+    ] {
+        push_line_sign(text, line, class)?;
+        push_entry(text, line, words)?;
+    }
+    Ok(())
+}
+
+/// Draws the column of a map: north, scale, key and counts. `Err` where memory runs out.
+pub(crate) fn push_key(
+    alloc: Global,
+    text: &mut Vec<u8>,
+    page: &Page,
+    map: &PlainMap,
+    has_marks: bool,
+) -> Result<(), Memory> {
+    push_north(text)?;
+    push_text(text, "k", &Spot::at(COLUMN, 1_500), 480, "Cadastral map")?;
+    push_scale(alloc, text, page.scale)?;
+    push_row_key(alloc, text, map)?;
+    if has_marks {
+        push_mark_key(text)?;
+    }
+    Ok(())
+}

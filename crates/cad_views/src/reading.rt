@@ -1,0 +1,43 @@
+//! A plan, read to its map.
+ghost use Rattle.std.specs.Prelude.{IfOk, IfErr, IfSome};
+ghost use Rattle.cad_files.specs.Building.{IsBuilt};
+
+use cad_files::{PlanFault, PlanRows, build, read_plan};
+use cad_map::PlainMap;
+use csv::ReaderBuilder;
+use std::alloc::Global;
+use std::io::Read;
+
+/// A plan: its rows, and the map of them.
+pub struct Plan {
+    pub rows: PlanRows,
+    pub map: PlainMap,
+}
+
+// Written out, so that the end of one is a single call in a caller's proof.
+impl Drop for Plan {
+    fn drop(self) {
+        let Plan {
+            rows: _rows,
+            map: _map,
+        } = self;
+    }
+}
+
+/// Reads a plan up to its `open` record, and builds its map.
+pub fn read_map<R: Read + Drop>(alloc: Global, reader: R) -> Result<Plan, PlanFault>
+    ensures { IfOk result (λ plan. IsBuilt plan.rows plan.map) }
+{
+    let mut reader = ReaderBuilder::new()
+        .has_headers(false)
+        .from_reader(alloc, reader);
+    let rows = match read_plan(alloc, &mut reader) {
+        Ok(rows) => rows,
+        Err(fault) => return Err(fault),
+    };
+    let map = match build(alloc, &rows) {
+        Ok(map) => map,
+        Err(fault) => return Err(fault),
+    };
+    Ok(Plan { rows, map })
+}

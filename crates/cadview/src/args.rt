@@ -1,0 +1,174 @@
+//! The program's arguments.
+ghost use Rattle.std.specs.Prelude.{◌≡◌};
+ghost use Rattle.clap.specs.Values.{kind_of};
+ghost use Rattle.cadview.specs.Told.{status_of_kind};
+
+use clap::error::ErrorKind;
+use clap::{Arg, ArgMatches, Command, Error};
+use std::alloc::{AllocError, Global};
+
+/// The program's version, as `--version` tells it.
+const VERSION: &str = "0.1.0";
+
+const ABOUT: &str = "\
+Shows a cadastral map: as a drawing, as tables with geometry, and what differs between two.";
+
+/// What stands below the commands in the text of `--help`.
+const AFTER_HELP: &str = "\
+A PLAN is what `cadedit` reads and prints: its records up to `open`. What is made goes to standard output.
+
+Status: 0 done, 2 a plan is at fault, 3 a plan can't be read or the output not written, 5 memory ran out, 64 the
+arguments aren't as above. Standard error says more.
+
+Example:
+  cadview svg plan.csv > plan.svg
+  cadview table plan.csv --layer parcels > parcels.csv
+  cadview diff old.csv new.csv
+
+docs/FORMATS.md has the tables and the differences.";
+
+/// Which rows of a map a table has.
+#[derive(Clone, Copy)]
+pub enum Layer {
+    Parcels,
+    Strings,
+    Points,
+}
+
+/// What the arguments ask for.
+#[derive(Clone, Copy)]
+pub enum View<'a> {
+    /// The drawing of a plan, with what changed since an older one, if one is named.
+    Svg {
+        plan: &'a str,
+        since: Option<&'a str>,
+    },
+    /// The table of a plan's rows of one kind.
+    Table {
+        plan: &'a str,
+        layer: Layer,
+    },
+    /// What differs between two plans.
+    Diff {
+        old: &'a str,
+        new: &'a str,
+    },
+}
+
+/// A plan that has to be named.
+fn plan_arg<'a>(alloc: Global, id: &'a str, name: &'a str, help: &'a str) -> Arg<'a> {
+    Arg::new(alloc, id)
+        .value_name(name)
+        .required(true)
+        .help(help)
+}
+
+/// `svg PLAN [--since OLD]`
+fn svg_command<'a>(alloc: Global) -> Result<Command<'a>, AllocError> {
+    let since = Arg::new(alloc, "since")
+        .long("since")
+        .value_name("OLD")
+        .help("An older plan: what came, went or changed since then stands out and is listed");
+    Command::new(alloc, "svg")
+        .about("Draws a plan as SVG, on an A3 sheet")
+        .arg(plan_arg(alloc, "plan", "PLAN", "The plan"))?
+        .arg(since)
+}
+
+/// `table PLAN [--layer LAYER]`
+fn table_command<'a>(alloc: Global) -> Result<Command<'a>, AllocError> {
+    let layer = Arg::new(alloc, "layer")
+        .long("layer")
+        .value_name("LAYER")
+        .value_parser(["parcels", "strings", "points"].as_slice())
+        .default_value("parcels")
+        .help("Which rows");
+    Command::new(alloc, "table")
+        .about("Writes rows as CSV, with their geometry as well-known text in metres")
+        .arg(plan_arg(alloc, "plan", "PLAN", "The plan"))?
+        .arg(layer)
+}
+
+/// `diff OLD NEW`
+fn diff_command<'a>(alloc: Global) -> Result<Command<'a>, AllocError> {
+    Command::new(alloc, "diff")
+        .about("Writes what differs between two plans as CSV: kind, number, what was, what is")
+        .arg(plan_arg(alloc, "old", "OLD", "The plan before"))?
+        .arg(plan_arg(alloc, "new", "NEW", "The plan after"))
+}
+
+/// The program's name, and the texts of its help.
+fn described<'a>(alloc: Global) -> Command<'a> {
+    Command::new(alloc, "cadview")
+        .version(VERSION)
+        .about(ABOUT)
+        .after_help(AFTER_HELP)
+        .subcommand_required(true)
+        .arg_required_else_help(true)
+}
+
+/// The program's command line.
+fn command_line<'a>(alloc: Global) -> Result<Command<'a>, AllocError> {
+    let command = described(alloc).subcommand(svg_command(alloc)?)?;
+    let command = command.subcommand(table_command(alloc)?)?;
+    command.subcommand(diff_command(alloc)?)
+}
+
+/// The layer with this name.
+fn layer_of(name: Option<&str>) -> Layer {
+    match name {
+        Some("strings") => Layer::Strings,
+        Some("points") => Layer::Points,
+        _ => Layer::Parcels,
+    }
+}
+
+/// The view that a subcommand's matches ask for.
+fn view_of<'a>(name: &str, matches: &ArgMatches<'a>) -> Option<View<'a>> {
+    match name {
+        "svg" => Some(View::Svg {
+            plan: matches.get_str("plan")?,
+            since: matches.get_str("since"),
+        }),
+        "table" => Some(View::Table {
+            plan: matches.get_str("plan")?,
+            layer: layer_of(matches.get_str("layer")),
+        }),
+        "diff" => Some(View::Diff {
+            old: matches.get_str("old")?,
+            new: matches.get_str("new")?,
+        }),
+        _ => None,
+    }
+}
+
+/// The view that the matches of the command line ask for.
+fn view_asked<'a>(matches: &ArgMatches<'a>) -> Option<View<'a>> {
+    let (name, inner) = matches.subcommand()?;
+    view_of(name, inner)
+}
+
+/// Reads the words of the command line, the program's name first. Fails as `clap` does, also for `--help` and `--version`.
+pub fn read_args<'a>(alloc: Global, words: &'a [&'a str]) -> Result<View<'a>, Error> {
+    let mut command = command_line(alloc)?;
+    let matches = command.try_get_matches_from_mut(words)?;
+    match view_asked(&matches) {
+        Some(view) => Ok(view),
+        None => Err(command.error(ErrorKind::MissingSubcommand, "a command is needed")?),
+    }
+}
+
+/// The status with which the program ends where its arguments aren't as they should be.
+pub const ARGUMENTS_STATUS: u8 = 64;
+
+/// The status with which the program ends after these arguments: 0 for help and the version, 5 where memory ran out, else
+/// [`ARGUMENTS_STATUS`].
+pub fn args_status(error: &Error) -> u8
+    ensures { result ≡ status_of_kind (kind_of error.now) }
+{
+    match error.kind() {
+        ErrorKind::DisplayHelp | ErrorKind::DisplayVersion => 0,
+        ErrorKind::OutOfMemory => 5,
+        _ => ARGUMENTS_STATUS,
+    }
+}

@@ -1,0 +1,174 @@
+//! What the program does with the words of its command line.
+ghost use Rattle.std.specs.Prelude.{◌≡◌, IfOk};
+ghost use Rattle.cad_files.specs.Building.{IsBuilt};
+ghost use Rattle.clap.specs.Values.{kind_of};
+ghost use Rattle.cadview.specs.Told.{status_of, status_of_kind};
+
+use crate::args::{Layer, View, args_status, read_args};
+use crate::faults::{ViewFault, status};
+use cad_files::{OutSink, PlanFault, Sink, write_all};
+use cad_rows::Memory;
+use cad_views::{Plan, difference_text, draw, parcel_table, point_table, read_map, string_table};
+use clap::Error;
+use clap::error::ErrorKind;
+use std::alloc::Global;
+use std::fs::{self, Files};
+use std::io::{self, BufWriter};
+
+/// Reads the words of the command line, the program's name first, and writes the view that they name to standard output. A
+/// fault is told on standard error. Gives the status with which the program ends.
+pub fn run_words<R: Files + Print + Eprint + AllocGlobal>(rt: &R, words: &[&str]) -> u8
+where
+    R::File: Drop,
+{
+    match read_args(rt.alloc(), words) {
+        Ok(view) => run_view(rt, &view),
+        Err(error) => tell_refused(rt, &error),
+    }
+}
+
+/// Writes a view, and gives the status.
+fn run_view<R: Files + Print + Eprint + AllocGlobal>(rt: &R, view: &View<'_>) -> u8
+where
+    R::File: Drop,
+{
+    let written = match text_of(rt, view) {
+        Ok(text) => write_out(rt, text.as_slice()),
+        Err(fault) => Err(fault),
+    };
+    match written {
+        Ok(()) => 0,
+        Err(fault) => tell(rt, &fault),
+    }
+}
+
+/// The plan in a file.
+fn plan_in<R: Files + AllocGlobal>(rt: &R, path: &str) -> Result<Plan, ViewFault>
+where
+    R::File: Drop,
+    ensures { IfOk result (λ plan. IsBuilt plan.rows plan.map) }
+{
+    let Ok(file) = fs::open(rt, path) else {
+        return Err(ViewFault::Read);
+    };
+    match read_map(rt.alloc(), file) {
+        Ok(plan) => Ok(plan),
+        Err(PlanFault::Read) => Err(ViewFault::Read),
+        Err(PlanFault::Memory) => Err(ViewFault::Memory),
+        Err(fault) => Err(ViewFault::Plan(fault)),
+    }
+}
+
+/// The text of a view.
+fn text_of<R: Files + AllocGlobal>(rt: &R, view: &View<'_>) -> Result<Vec<u8>, ViewFault>
+where
+    R::File: Drop,
+{
+    match view {
+        View::Svg { plan, since } => svg_text(rt, plan, *since),
+        View::Table { plan, layer } => table_of(rt, plan, *layer),
+        View::Diff { old, new } => diff_text(rt, old, new),
+    }
+}
+
+/// The drawing of the plan in a file, with what changed since an older one.
+fn svg_text<R: Files + AllocGlobal>(
+    rt: &R,
+    path: &str,
+    since: Option<&str>,
+) -> Result<Vec<u8>, ViewFault>
+where
+    R::File: Drop,
+{
+    let plan = plan_in(rt, path)?;
+    match since {
+        Some(older) => {
+            let old = plan_in(rt, older)?;
+            or_memory(draw(rt.alloc(), &plan.map, Some(&old.map)))
+        }
+        None => or_memory(draw(rt.alloc(), &plan.map, None)),
+    }
+}
+
+/// The table of the plan in a file.
+fn table_of<R: Files + AllocGlobal>(rt: &R, path: &str, layer: Layer) -> Result<Vec<u8>, ViewFault>
+where
+    R::File: Drop,
+{
+    let plan = plan_in(rt, path)?;
+    or_memory(table_text(rt, &plan, layer))
+}
+
+/// What differs between the plans in two files.
+fn diff_text<R: Files + AllocGlobal>(rt: &R, old: &str, new: &str) -> Result<Vec<u8>, ViewFault>
+where
+    R::File: Drop,
+{
+    let old = plan_in(rt, old)?;
+    diff_from(rt, &old, new)
+}
+
+/// What differs between a plan and the newer one in a file.
+fn diff_from<R: Files + AllocGlobal>(rt: &R, old: &Plan, new: &str) -> Result<Vec<u8>, ViewFault>
+where
+    R::File: Drop,
+{
+    let new = plan_in(rt, new)?;
+    or_memory(differences(rt.alloc(), old, &new))
+}
+
+/// What differs between two plans.
+fn differences(alloc: Global, old: &Plan, new: &Plan) -> Result<Vec<u8>, Memory> {
+    difference_text(alloc, &old.map, &new.map)
+}
+
+/// The table of a plan.
+fn table_text<R: AllocGlobal>(rt: &R, plan: &Plan, layer: Layer) -> Result<Vec<u8>, Memory>
+    requires { IsBuilt plan.now.rows plan.now.map }
+{
+    let alloc = rt.alloc();
+    match layer {
+        Layer::Parcels => parcel_table(alloc, &plan.map),
+        Layer::Strings => string_table(alloc, &plan.rows, &plan.map),
+        Layer::Points => point_table(alloc, &plan.map),
+    }
+}
+
+/// A text, or want of memory.
+fn or_memory(text: Result<Vec<u8>, Memory>) -> Result<Vec<u8>, ViewFault> {
+    match text {
+        Ok(text) => Ok(text),
+        Err(Memory) => Err(ViewFault::Memory),
+    }
+}
+
+/// Writes a text to standard output.
+fn write_out<R: Print + AllocGlobal>(rt: &R, text: &[u8]) -> Result<(), ViewFault> {
+    let Ok(out) = BufWriter::new(rt.alloc(), io::writer(rt)) else {
+        return Err(ViewFault::Memory);
+    };
+    let mut sink = OutSink::new(out);
+    if write_all(&mut sink, text).is_err() || sink.flush().is_err() {
+        return Err(ViewFault::Write);
+    }
+    Ok(())
+}
+
+/// Tells why the arguments weren't read. Gives the status, also where the text can't be written.
+fn tell_refused<R: Print + Eprint + AllocGlobal>(rt: &R, error: &Error) -> u8
+    ensures { result ≡ status_of_kind (kind_of error.now) }
+{
+    if error.kind() == ErrorKind::OutOfMemory {
+        return tell(rt, &ViewFault::Memory);
+    }
+    let _ = error.print(rt);
+    args_status(error)
+}
+
+/// Tells a fault on standard error. Gives the status with which the program ends, also where the line can't be written.
+pub fn tell<R: Eprint>(rt: &R, fault: &ViewFault) -> u8
+    ensures { result ≡ status_of fault.now }
+{
+    let _ = eprintln!(rt; "{fault}");
+    status(fault)
+}
