@@ -11,7 +11,7 @@ use Rattle.cad_map.specs.Map.{Map, far_end, strings_at, position_of}
 use Rattle.cad_map.proofs.CallerLemmas.{All-filter, All-follows, All-at_each, All-from_each, Contains-map, Contains-first, Contains-later, Contains-cases, list_all-same, Contains-filter, filter-Contains, Contains-one, map-Contains, IsSpoke, IsSpoke-all, far-star}
 use Rattle.cad_files.specs.Follower.{once_each, followers}
 use Rattle.cad_files.specs.Follower.{may_follow as may_follow_in}
-use Rattle.cad_files.specs.Arrival.{leaves_open, may_follow_there, IsOnly, HasNone, HasTwo, arrival_of}
+use Rattle.cad_files.specs.Arrival.{leaves_open, may_follow_there, IsOnly, HasNone, HasTwo, IsPlacedSpoke, arrival_of}
 use Rattle.cad_map.specs.Stars.{star, spokes_of}
 use Rattle.cad_files.specs.declared.followers.Arrival.{Arrival}
 use Rattle.cad_map.specs.declared.stars.Spoke.{Spoke}
@@ -89,10 +89,10 @@ module _ (m : Map) (s : Side) (ends : List Spoke) (far : map (λ e. e.far) ends 
 -- ---- What the stars of a map tell
 
 -- a spoke has the position of its far end
-star-seen : (m : Map) (p : ℕ) → AllByRecursion (λ e. e.position ≡ position_of m e.far) (star p (spokes_of m))
+pub star-seen : (m : Map) (p : ℕ) → AllByRecursion (IsPlacedSpoke m) (star p (spokes_of m))
 star-seen m p =
-    All-filter (λ e. e.position ≡ position_of m e.far) (λ e. e.at == p) (spokes_of m)
-    (All-follows (IsSpoke m) (λ e. e.position ≡ position_of m e.far) (λ e is. is.position) (spokes_of m) (IsSpoke-all m))
+    All-filter (IsPlacedSpoke m) (λ e. e.at == p) (spokes_of m)
+    (All-follows (IsSpoke m) (IsPlacedSpoke m) (λ e is. is.position) (spokes_of m) (IsSpoke-all m))
 
 module _ (m : Map) (from at : ℕ) (back here : Position) (ends : List Spoke) (is_back : back ≡ position_of m from) (is_here : here ≡ position_of m at) (are : ends ≡ star at (spokes_of m)) where
   abbrev seen_from : Arrival

@@ -12,6 +12,10 @@ use Rattle.cad_map.specs.declared.stars.Spoke.{Spoke}
 abbrev pub AreStarsOf : Map → Held Spoke → Type 0
 AreStarsOf m stars = (p : ℕ) → items_at stars p ≡ star p (spokes_of m)
 
+-- the spoke tells where its far end lies
+abbrev pub IsPlacedSpoke : Map → Spoke → Type 0
+IsPlacedSpoke m w = w.position ≡ position_of m w.far
+
 -- a side from one point to another, at its end
 abbrev pub arrival_of : Map → ℕ → ℕ → Arrival
 arrival_of m from at = record { from = from; back = position_of m from; at = position_of m at }

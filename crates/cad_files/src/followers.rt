@@ -1,9 +1,10 @@
 //! The point that follows a side of a plan.
 ghost use Rattle.std.specs.Prelude.{◌⊎◌, ◌≡◌, ◌∷◌, [], ◌==◌, false, length, IfSome, IfNone, Some};
-ghost use Rattle.std.specs.List.{list_all, Contains};
+ghost use Rattle.std.specs.List.{AllByRecursion, list_all, Contains};
+ghost use Rattle.cad_map.specs.Map.{position_of};
 ghost use Rattle.cad_map.specs.Stars.{star, spokes_of};
 ghost use Rattle.cad_files.specs.Follower.{followers};
-ghost use Rattle.cad_files.specs.Arrival.{AreStarsOf, leaves_open as leaves_open_in, may_follow_there as may_follow_among, is_barred as is_barred_in, is_other as is_other_than, IsOnly, HasNone, HasTwo};
+ghost use Rattle.cad_files.specs.Arrival.{AreStarsOf, leaves_open as leaves_open_in, may_follow_there as may_follow_among, is_barred as is_barred_in, is_other as is_other_than, IsOnly, HasNone, HasTwo, IsPlacedSpoke};
 
 use cad_map::{PlainMap, Spoke, Stars, position};
 use cad_rows::PointNo;
@@ -98,6 +99,19 @@ fn last_met(ends: &[Spoke], side: &Arrival) -> Option<Spoke>
 
 // ---- Followers
 
+// The position of a point. Mostly one of these spokes leads there, and tells it.
+fn position_beyond(plain: &PlainMap, ends: &[Spoke], point: PointNo) -> Pt
+    requires { AllByRecursion (IsPlacedSpoke plain.now) ends.now }
+    ensures { result ≡ position_of plain.now point }
+{
+    for end in ends {
+        if end.far == point {
+            return end.position;
+        }
+    }
+    position(plain, point)
+}
+
 // The spoke to the one follower, where three looks at each spoke tell it.
 fn sole_follower(ends: &[Spoke], side: &Arrival) -> Option<Spoke>
     ensures { IfSome result (IsOnly side.now ends.now ends.now) }
@@ -153,8 +167,8 @@ pub(crate) fn follower(plain: &PlainMap, stars: &Stars, from: PointNo, to: Point
     let ends = stars.ends(to);
     let side = Arrival {
         from,
-        back: position(plain, from),
-        at: position(plain, to),
+        back: position_beyond(plain, ends, from),
+        at: position_beyond(plain, stars.ends(from), to),
     };
     if let Some(spoke) = sole_follower(ends, &side) {
         return Some(spoke);

@@ -1,18 +1,29 @@
-use Rattle.std.proofs.Common.{◌∙◌}
-use Rattle.cad_files.proofs.FollowerFacts.{told-one, told-either, told-none}
+use Rattle.std.proofs.Common.{sym, subst, ◌∙◌, List}
+use Rattle.std.specs.List.{AllByRecursion}
+use Rattle.cad_map.specs.declared.stars.Spoke.{Spoke}
+use Rattle.cad_files.specs.Arrival.{IsPlacedSpoke}
+use Rattle.cad_files.proofs.FollowerFacts.{star-seen, told-one, told-either, told-none}
 use Rattle.cad_files.proofs.followers.follower.Goals as goal
+
+pub position_beyond-requires : goal.position_beyond-requires
+position_beyond-requires c =
+    subst (λ (l : List Spoke). AllByRecursion (IsPlacedSpoke c.args.plain.now) l) (sym (c.ends-ends.ensures ∙ c.requires c.args.to)) (star-seen c.args.plain.now c.args.to)
+
+pub position_beyond-requires-2 : goal.position_beyond-requires-2
+position_beyond-requires-2 c =
+    subst (λ (l : List Spoke). AllByRecursion (IsPlacedSpoke c.args.plain.now) l) (sym (c.ends.ensures ∙ c.requires c.args.from)) (star-seen c.args.plain.now c.args.from)
 
 pub returns-in-Some-clause-some : goal.returns-in-Some-clause-some
 returns-in-Some-clause-some c =
-    told-one c.args.plain.now c.args.from c.args.to c.position.result c.position-2.result c.ends-ends.result.now c.position.ensures c.position-2.ensures
+    told-one c.args.plain.now c.args.from c.args.to c.position_beyond.result c.position_beyond-2.result c.ends-ends.result.now c.position_beyond.ensures c.position_beyond-2.ensures
     (c.ends-ends.ensures ∙ c.requires c.args.to) c.in-Some.spoke c.in-Some.ensures
 
 pub returns-clause-some : goal.returns-clause-some
 returns-clause-some c =
-    told-either c.args.plain.now c.args.from c.args.to c.position.result c.position-2.result c.ends-ends.result.now c.position.ensures c.position-2.ensures
+    told-either c.args.plain.now c.args.from c.args.to c.position_beyond.result c.position_beyond-2.result c.ends-ends.result.now c.position_beyond.ensures c.position_beyond-2.ensures
     (c.ends-ends.ensures ∙ c.requires c.args.to) c.searched_follower.result c.searched_follower.ensures.some
 
 pub returns-clause-none : goal.returns-clause-none
 returns-clause-none c =
-    told-none c.args.plain.now c.args.from c.args.to c.position.result c.position-2.result c.ends-ends.result.now c.position.ensures c.position-2.ensures
+    told-none c.args.plain.now c.args.from c.args.to c.position_beyond.result c.position_beyond-2.result c.ends-ends.result.now c.position_beyond.ensures c.position_beyond-2.ensures
     (c.ends-ends.ensures ∙ c.requires c.args.to) c.searched_follower.result c.searched_follower.ensures.none
