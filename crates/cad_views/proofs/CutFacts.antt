@@ -1,8 +1,8 @@
 -- Rings that are cut while they are walked along.
 use Rattle.std.proofs.Common.{◌≡◌, ◌≢◌, ◌∙◌, refl, sym, ap, subst, ℕ, zero, suc, ◌+◌, ◌<◌, ◌≤◌, ◌==◌, Bool, true, false, List, [], ◌∷◌, ◌++◌, length, length-append, append_assoc, append-nil, drop-cons, get_or, take, drop, map, filter, Some, None, arith, if◌then◌else◌}
 use Rattle.std.specs.Prelude.{IsPermutation, flat_map, position}
-use Rattle.std.specs.List.{AllByRecursion, position_or_len}
-use Rattle.std.proofs.lemmas.Bool.{eqb-true, eqb-false}
+use Rattle.std.specs.List.{AllByRecursion, Contains, position_or_len}
+use Rattle.std.proofs.lemmas.Bool.{eqb-true, eqb-false, ne_eqb}
 use Rattle.std.proofs.lemmas.Bool.Decides.{nat_tests}
 use Rattle.std.proofs.lemmas.List.{take_more, take_all, take-append-drop, length-map, get_or-map}
 use Rattle.std.proofs.lemmas.List.Sums.{fails_before_first}
@@ -19,7 +19,8 @@ use Rattle.cad_map.specs.Boundaries.{is_face, sides_in}
 use Rattle.cad_map.specs.Map.{Map, all_sides, position_of, rings_at, rings_of, side_of, string_sides, sum_of_face}
 use Rattle.cad_map.specs.Valid.{EachPair, IsValid}
 use Rattle.cad_map.proofs.Boundaries.FaceSums.{up_to-few}
-use Rattle.cad_map.proofs.CallerLemmas.{All-push, All-append, All-follows, All-permuted, EachPair-append, EachPair-join, whole_valid}
+use Rattle.cad_map.proofs.CallerLemmas.{list_any-none, All-at_each, All-push, All-append, All-follows, All-permuted, EachPair-append, EachPair-join, whole_valid}
+use Rattle.indexmap.specs.IndexSet.{insert_key}
 use Rattle.cad_views.specs.Cut.{IsSimple, AreCutFrom, HasTwoEndsEach}
 use Rattle.cad_views.specs.Walked.{sides_to, first_of, IsWalked, HaveTwoEnds}
 
@@ -154,19 +155,25 @@ by-place : (P : ℕ → Type 0) (xs : List ℕ) → ((k : ℕ) → k < length xs
 by-place P [] each = tt
 by-place P (x ∷ xs) each = (each 0 (omega arith), by-place P xs (λ k h. each (suc k) (omega arith)))
 
-past-all : (xs : List ℕ) (p : ℕ) → position (λ q. q == p) xs ≡ None → length xs ≤ position_or_len (λ q. q == p) xs
+past-all : (xs : List ℕ) (p : ℕ) → position (λ q. p == q) xs ≡ None → length xs ≤ position_or_len (λ q. p == q) xs
 past-all xs p none = grind (arith, nat_tests)
 
-pub none-differs : (xs : List ℕ) (p : ℕ) → position (λ q. q == p) xs ≡ None → AllByRecursion (λ a. a ≢ p) xs
+pub none-differs : (xs : List ℕ) (p : ℕ) → position (λ q. p == q) xs ≡ None → AllByRecursion (λ a. a ≢ p) xs
 none-differs xs p none =
     let past = past-all xs p none in
-    by-place (λ a. a ≢ p) xs (λ k h. eqb-false (get_or xs k 0) p (fails_before_first (λ q. q == p) xs k 0 (omega arith)))
+    by-place (λ a. a ≢ p) xs (λ k h same. eqb-false p (get_or xs k 0) (fails_before_first (λ q. p == q) xs k 0 (omega arith)) (sym same))
 
-pub some-parts : (xs : List ℕ) (p i : ℕ) → position (λ q. q == p) xs ≡ Some i
+-- a point that isn't on the path goes last
+pub inserted-last : (xs : List ℕ) (p : ℕ) → position (λ q. p == q) xs ≡ None → insert_key (λ (a b : ℕ). a == b) xs p ≡ xs ++ p ∷ []
+inserted-last xs p none =
+    let other : (q : ℕ) → Contains xs q → (p == q) ≡ false = λ q there. ne_eqb p q (λ same. All-at_each (λ a. a ≢ p) xs q (none-differs xs p none) there (sym same)) in
+    ap (λ (b : Bool). if b then xs else (xs ++ p ∷ [])) (list_any-none (λ q. p == q) xs other)
+
+pub some-parts : (xs : List ℕ) (p i : ℕ) → position (λ q. p == q) xs ≡ Some i
     → (i < length xs) × (drop i xs ≡ p ∷ drop (suc i) xs) × (xs ≡ take i xs ++ p ∷ drop (suc i) xs) × (take (i + 1) xs ≡ take i xs ++ p ∷ [])
 some-parts xs p i some =
-    let found = position-Some (λ q. q == p) xs i 0 some in
-    let is : get_or xs i 0 ≡ p = eqb-true (get_or xs i 0) p found.1 in
+    let found = position-Some (λ q. p == q) xs i 0 some in
+    let is : get_or xs i 0 ≡ p = sym (eqb-true p (get_or xs i 0) found.1) in
     let within : i < length xs = found.0 in
     let back : drop i xs ≡ p ∷ drop (suc i) xs = drop-cons xs i 0 within ∙ ap (λ (q : ℕ). q ∷ drop (suc i) xs) is in
     (within, back, sym (take-append-drop i xs) ∙ ap (λ (l : List ℕ). take i xs ++ l) back, take_more xs i 0 within ∙ ap (λ (q : ℕ). take i xs ++ q ∷ []) is)

@@ -1,5 +1,5 @@
 //! Rings, cut where they pass a point twice.
-ghost use Rattle.std.specs.Prelude.{◌≡◌, ◌==◌, ℕ, List, [], ◌∷◌, ◌++◌, position, OnOk, IfOk, flat_map};
+ghost use Rattle.std.specs.Prelude.{◌≡◌, ℕ, List, [], ◌∷◌, ◌++◌, OnOk, IfOk, flat_map};
 ghost use Rattle.geo_exact.specs.Measure.{Measure, sum_over};
 ghost use Rattle.cad_rows.specs.declared.names.Face.{Face as FaceOf};
 ghost use Rattle.cad_rings.specs.Cycle.{Ring as RingOf, sides_of, placed};
@@ -11,46 +11,42 @@ ghost use Rattle.cad_views.specs.Walked.{IsWalked, HaveTwoEnds};
 use cad_map::PlainMap;
 use cad_rings::Ring;
 use cad_rows::{Face, Memory, PointNo};
+use indexmap::IndexSet;
 use std::alloc::Global;
-
-// The place of a point in a list, where it stands there.
-fn place_of(path: &[PointNo], point: PointNo) -> Option<usize>
-    ensures { result ≡ position (λ p. p == point) path.now }
-{
-    path.iter().position(|p| *p == point)
-}
 
 // Walks on to a point. Where it stands on the open path, the part of the path since then is closed to a ring.
 fn walk_to(
     alloc: Global,
-    path: &mut Vec<PointNo>,
+    path: &mut IndexSet<PointNo>,
     pieces: &mut Vec<Ring>,
     point: PointNo,
 ) -> Result<(), Memory>
-    requires { (done : List ℕ) × IsWalked done path.old.items pieces.old.items
+    requires { (done : List ℕ) × IsWalked done path.old.keys pieces.old.items
         × HaveTwoEnds done point }
-    ensures { OnOk result ((done : List ℕ) → IsWalked done path.old.items pieces.old.items
-        → IsWalked (done ++ point ∷ []) path.new.items pieces.new.items) }
+    ensures { OnOk result ((done : List ℕ) → IsWalked done path.old.keys pieces.old.items
+        → IsWalked (done ++ point ∷ []) path.new.keys pieces.new.items) }
 {
-    match place_of(path.as_slice(), point) {
+    match path.get_index_of(&point) {
         Some(place) => {
             let ring = Ring::from_points(alloc, &path.as_slice()[place..])?;
             pieces.push(ring)?;
             path.truncate(place + 1);
         }
-        None => path.push(point)?,
+        None => {
+            path.insert(point)?;
+        }
     }
     Ok(())
 }
 
 /// Cuts a ring where it passes a point twice, into rings that pass no point twice: together they have its sides and no
-/// others. `Err` where memory runs out.
+/// others. Takes a look into a table for each point. `Err` where memory runs out.
 pub fn cut_ring(alloc: Global, ring: &Ring) -> Result<Vec<Ring>, Memory>
     requires { HasTwoEndsEach ring.now }
     ensures { IfOk result (λ pieces. AreCutFrom (ring.now ∷ []) pieces.items) }
 {
     let mut pieces = Vec::new(alloc);
-    let mut path = Vec::new(alloc);
+    let mut path = IndexSet::new(alloc);
     let points = ring.points();
     for place in 0..ring.len() {
         walk_to(alloc, &mut path, &mut pieces, points[place])?;

@@ -7,7 +7,7 @@ use Rattle.cad_views.proofs.CutFacts.{walked-none, walked-all, front-apart, last
 use Rattle.cad_views.proofs.cut.cut_ring.Goals as goal
 
 pub loop-place-init : goal.loop-place-init
-loop-place-init c = rw (c.new-pieces.ensures.items, c.new-path.ensures.items) walked-none
+loop-place-init c = rw (c.new-pieces.ensures.items, c.new-path.ensures.empty) walked-none
 
 pub walk_to-requires : goal.walk_to-requires
 walk_to-requires c =
@@ -26,7 +26,7 @@ loop-place-preserved c =
     let place = c.loop-place.place in
     let p = c.index-points-place.result in
     let within : place < length points = let k = ap (λ (l : List ℕ). length l) c.points-points.ensures in let v = c.len-place-end.ensures.value in omega arith in
-    subst (λ (done : List ℕ). IsWalked done c.walk_to.new.path.items c.walk_to.new.pieces.items)
+    subst (λ (done : List ℕ). IsWalked done c.walk_to.new.path.keys c.walk_to.new.pieces.items)
     (sym (take_more points place p within ∙ ap (λ (q : ℕ). take place points ++ q ∷ []) (sym c.index-points-place.is)))
     (c.in_ok-walk_to.ensures (take place points) c.loop-place.invariant)
 
@@ -34,19 +34,19 @@ pub from_points-requires : goal.from_points-requires
 from_points-requires c =
     let points = c.points-points.result.now in
     let past : length points ≤ c.loop-place.place = let k = ap (λ (l : List ℕ). length l) c.points-points.ensures in let v = c.len-place-end.ensures.value in omega arith in
-    let walked = subst (λ (done : List ℕ). IsWalked done c.loop-place.path.items c.loop-place.pieces.items) (take_all c.loop-place.place points past ∙ c.points-points.ensures) c.loop-place.invariant in
+    let walked = subst (λ (done : List ℕ). IsWalked done c.loop-place.path.keys c.loop-place.pieces.items) (take_all c.loop-place.place points past ∙ c.points-points.ensures) c.loop-place.invariant in
     let two = c.len-place-end.ensures.at_least_two in
     let v = c.len-place-end.ensures.value in
-    subst (λ (l : List ℕ). 2 ≤ length l) (sym c.as_slice.ensures.value) (last-two c.args.ring.now c.loop-place.path.items c.loop-place.pieces.items walked (omega arith) c.requires)
+    subst (λ (l : List ℕ). 2 ≤ length l) (sym c.as_slice.ensures.keys) (last-two c.args.ring.now c.loop-place.path.keys c.loop-place.pieces.items walked (omega arith) c.requires)
 
 pub returns : goal.returns
 returns c =
     let points = c.points-points.result.now in
     let past : length points ≤ c.loop-place.place = let k = ap (λ (l : List ℕ). length l) c.points-points.ensures in let v = c.len-place-end.ensures.value in omega arith in
-    let walked = subst (λ (done : List ℕ). IsWalked done c.loop-place.path.items c.loop-place.pieces.items) (take_all c.loop-place.place points past ∙ c.points-points.ensures) c.loop-place.invariant in
+    let walked = subst (λ (done : List ℕ). IsWalked done c.loop-place.path.keys c.loop-place.pieces.items) (take_all c.loop-place.place points past ∙ c.points-points.ensures) c.loop-place.invariant in
     let at_least = c.len-place-end.ensures.at_least_two in
     let v = c.len-place-end.ensures.value in
-    let two = last-two c.args.ring.now c.loop-place.path.items c.loop-place.pieces.items walked (omega arith) c.requires in
+    let two = last-two c.args.ring.now c.loop-place.path.keys c.loop-place.pieces.items walked (omega arith) c.requires in
     subst (λ (ps : List Ring). AreCutFrom (c.args.ring.now ∷ []) ps)
-    (sym (c.in_ok-push.ensures.items ∙ ap (λ (r : Ring). c.loop-place.pieces.items ++ r ∷ []) (c.in_ok-from_points.ensures ∙ c.as_slice.ensures.value)))
-    (walked-all c.args.ring.now c.loop-place.path.items c.loop-place.pieces.items walked two)
+    (sym (c.in_ok-push.ensures.items ∙ ap (λ (r : Ring). c.loop-place.pieces.items ++ r ∷ []) (c.in_ok-from_points.ensures ∙ c.as_slice.ensures.keys)))
+    (walked-all c.args.ring.now c.loop-place.path.keys c.loop-place.pieces.items walked two)
