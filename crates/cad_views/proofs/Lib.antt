@@ -4,3 +4,4 @@ pub mod MetresFacts
 pub mod JoinFacts
 pub mod ToldFacts
 pub mod DifferenceFacts
+pub mod ReadingFacts

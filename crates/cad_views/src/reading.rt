@@ -1,6 +1,8 @@
 //! A plan, read to its map.
 ghost use Rattle.std.specs.Prelude.{IfOk, IfErr, IfSome};
+ghost use Rattle.csv.specs.Reading.{strip_bom};
 ghost use Rattle.cad_files.specs.Building.{IsBuilt};
+ghost use Rattle.cad_views.specs.Reading.{IsPlanOf, IsFaultOf};
 
 use cad_files::{PlanFault, PlanRows, build, read_plan};
 use cad_map::PlainMap;
@@ -26,7 +28,12 @@ impl Drop for Plan {
 
 /// Reads a plan up to its `open` record, and builds its map.
 pub fn read_map<R: Read + Drop>(alloc: Global, reader: R) -> Result<Plan, PlanFault>
-    ensures { IfOk result (λ plan. IsBuilt plan.rows plan.map) }
+    ensures built { IfOk result (λ plan. IsBuilt plan.rows plan.map) }
+    // What the text is, where the reader tells its bytes.
+    ensures read { IfSome (R.remaining reader)
+        (λ text. IfOk result (λ plan. IsPlanOf (strip_bom text) plan.rows)) }
+    ensures fault { IfSome (R.remaining reader)
+        (λ text. IfErr result (IsFaultOf (strip_bom text))) }
 {
     let mut reader = ReaderBuilder::new()
         .has_headers(false)
