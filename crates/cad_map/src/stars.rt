@@ -66,9 +66,7 @@ fn put_spoke(spokes: &mut KeyLists<Spoke>, spoke: Spoke) -> Result<(), Memory>
     ensures { OnOk result
         ((p : ℕ) → items_at spokes.new p ≡ items_at spokes.old p ++ star p (spoke ∷ [])) }
 {
-    let key = u64::from(spoke.at.get());
-    spokes.reserve(key, 1)?;
-    spokes.put(key, spoke);
+    spokes.push(u64::from(spoke.at.get()), spoke)?;
     Ok(())
 }
 

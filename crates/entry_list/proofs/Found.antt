@@ -170,6 +170,10 @@ module _ {V : Type 0} where
   none-from None h = refl
   none-from (Some y) h = absurd (true≢false h)
 
+  pub not-there : (x : Option (Option V)) → (IsSome x → ⊥) → x ≡ None
+  not-there None h = refl
+  not-there (Some y) h = absurd (h refl)
+
   entry-at : (i : ℕ) (es : Slots V) (o : Option V) → slice_get (values_of es) i ≡ Some o
       → (k : ℕ) × (slice_get es i ≡ Some (k, o))
   entry-at i [] o h = absurd (apart o h)

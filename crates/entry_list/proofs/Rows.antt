@@ -5,7 +5,7 @@ use Rattle.std.proofs.lemmas.Option.{slice_get_within}
 use Rattle.std.proofs.lemmas.List.Edits.{length-remove}
 use Rattle.indexmap.specs.Layout.{set_value_at}
 use Rattle.entry_list.specs.Totals.{total_before}
-use Rattle.entry_list.specs.Slots.{Slots, rows_of, marks_of, mark_of, IsRowSlot}
+use Rattle.entry_list.specs.Slots.{Slots, row_of, rows_of, marks_of, mark_of, IsRowSlot}
 use Rattle.entry_list.proofs.Lists.{entry-keys, entry-values, insert-more, one-more, remove-more, set-more, slice_get-keys, slice_get-values, some-pair}
 
 module _ {V : Type 0} where
@@ -137,10 +137,21 @@ module _ {V : Type 0} where
   marks-push [] n o = refl
   marks-push (e ∷ es) n o = ap (λ xs. mark_of e.1 ∷ xs) (marks-push es n o)
 
-  pub rows-push : (es : Slots V) (n : ℕ) → rows_of (es ++ (n, None) ∷ []) ≡ rows_of es
-  rows-push [] n = refl
-  rows-push ((k, None) ∷ es) n = rows-push es n
-  rows-push ((k, Some v) ∷ es) n = ap (λ xs. (k, v) ∷ xs) (rows-push es n)
+  -- a slot behind all others adds its row, if it has one, behind all others
+  pub rows-push : (es : Slots V) (n : ℕ) (o : Option V)
+      → rows_of (es ++ (n, o) ∷ []) ≡ rows_of es ++ row_of n o
+  rows-push [] n None = refl
+  rows-push [] n (Some v) = refl
+  rows-push ((k, None) ∷ es) n o = rows-push es n o
+  rows-push ((k, Some w) ∷ es) n o = ap (λ xs. (k, w) ∷ xs) (rows-push es n o)
+
+  -- and counts by its mark
+  pub length-push : (es : Slots V) (n : ℕ) (o : Option V)
+      → length (rows_of (es ++ (n, o) ∷ [])) ≡ length (rows_of es) + mark_of o
+  length-push [] n None = refl
+  length-push [] n (Some v) = refl
+  length-push ((k, None) ∷ es) n o = length-push es n o
+  length-push ((k, Some w) ∷ es) n o = omega (arith, length-push es n o)
 
   pub filled-length : (n i : ℕ) (es : Slots V) (v : V) → slice_get es i ≡ Some (n, None)
       → length (rows_of (set_value_at es i (Some v))) ≡ length (rows_of es) + 1

@@ -1,12 +1,13 @@
-//! Room for rows, and rows that go and come. Only `keep_slot` and `spare_slot` take memory.
+//! Room for rows, and rows that go and come. Only `keep_slot`, `spare_slot` and `push` take memory.
 ghost use Rattle.std.specs.Prelude.{◌≡◌, ◌≤◌, ◌++◌, ◌∷◌, [], length, Some, None, remove};
 ghost use Rattle.std.specs.Prelude.{slice_get, IfSome, IfNone, OnOk, OnErr, OnSome, IsOk, IsSome};
-ghost use Rattle.entry_list.specs.Slots.{rows_of, row_at, without_number, with_number};
+ghost use Rattle.entry_list.specs.Slots.{row_of, rows_of, row_at, without_number, with_number};
 ghost use Rattle.entry_list.specs.Slots.{HasSlot, KeepsSlots, StandsAt, AddsSlot, spare_key, PutsIn};
 ghost use Rattle.entry_list.specs.Slots.{IsEmptySlot, ReplacesRow, rows_before};
 ghost use Rattle.indexmap.specs.Layout.{set_value_at};
 
 use crate::list::EntryList;
+use crate::moves::mark_of;
 use std::alloc::AllocError;
 use std::mem;
 
@@ -30,14 +31,8 @@ impl<V> EntryList<V> {
         if self.slots.get_index_of(&number).is_some() {
             return Ok(());
         }
-        self.live.push(0)?;
-        match self.slots.insert(number, None) {
-            Ok(_) => Ok(()),
-            Err(full) => {
-                self.live.pop();
-                Err(AllocError::from(full))
-            }
-        }
+        self.add_slot(number, None)?;
+        Ok(())
     }
 
     /// Adds an empty slot behind all others under a key above 32 bits, for numbers that have none
@@ -111,6 +106,26 @@ impl<V> EntryList<V> {
         self.put_at(number, row, last);
     }
 
+    /// Puts a row of a number that has none behind all others, with a slot for it where it has none
+    /// yet. Where memory runs out the list stays.
+    pub fn push(&mut self, number: u64, row: V) -> Result<(), AllocError>
+    where
+        V: Drop,
+        requires absent { row_at number self.old ≡ None }
+        ensures rows { OnOk result (rows_of self.new ≡ rows_of self.old ++ (number, row) ∷ []) }
+        ensures slots { KeepsSlots self.old self.new }
+        ensures slot { OnOk result (HasSlot self.new number) }
+        ensures had_slot { HasSlot self.old number → IsOk result }
+        ensures err { OnErr result (self.new ≡ self.old) }
+    {
+        if self.slots.get_index_of(&number).is_some() {
+            self.put_last(number, row);
+            return Ok(());
+        }
+        self.add_slot(number, Some(row))?;
+        Ok(())
+    }
+
     /// Puts a row in the place of the one with its number, and gives that one. It takes no memory,
     /// and a look into the table.
     pub fn replace(&mut self, number: u64, row: V) -> V
@@ -125,6 +140,32 @@ impl<V> EntryList<V> {
         let slot = self.slot_of(number).unwrap();
         let cell = self.slots.get_index_mut(slot).unwrap();
         mem::replace(cell, Some(row)).unwrap()
+    }
+
+    // Adds a slot behind all others for a number that has none.
+    fn add_slot(&mut self, number: u64, row: Option<V>) -> Result<(), AllocError>
+    where
+        V: Drop,
+        requires { HasSlot self.old number → ⊥ }
+        ensures added { OnOk result (self.new ≡ self.old ++ (number, row) ∷ []) }
+        ensures rows { OnOk result (rows_of self.new ≡ rows_of self.old ++ row_of number row) }
+        ensures slots { KeepsSlots self.old self.new }
+        ensures slot { OnOk result (HasSlot self.new number) }
+        ensures err { OnErr result (self.new ≡ self.old) }
+    {
+        let _slots = self.slots.len();
+        let mark = mark_of(&row);
+        self.live.push(mark)?;
+        match self.slots.insert(number, row) {
+            Ok(_) => {
+                self.len += mark as usize;
+                Ok(())
+            }
+            Err(full) => {
+                self.live.pop();
+                Err(AllocError::from(full))
+            }
+        }
     }
 
     // Puts a row into a slot that has none.

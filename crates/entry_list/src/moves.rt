@@ -1,6 +1,6 @@
 //! Empty slots that are brought to where a row belongs.
 ghost use Rattle.std.specs.Prelude.{◌≡◌, ◌+◌, ◌<◌, ◌≤◌, ℕ, length, None, slice_index, true};
-ghost use Rattle.entry_list.specs.Slots.{rows_of, row_at, marks_of, rows_before, HasMark};
+ghost use Rattle.entry_list.specs.Slots.{rows_of, row_at, marks_of, mark_of as mark_of_row, rows_before, HasMark};
 ghost use Rattle.entry_list.specs.Slots.{HasSlot, KeepsSlots, IsEmptySlot};
 ghost use Rattle.indexmap.specs.IndexMap.{index_map_len};
 
@@ -96,6 +96,14 @@ impl<V> EntryList<V> {
     }
 }
 
+// The mark of a slot with this row, or with none.
+pub(crate) fn mark_of<V>(row: &Option<V>) -> u8
+    ensures mark { result ≡ mark_of_row row.now }
+    ensures small { result ≤ 1 }
+{
+    if row.is_some() { 1 } else { 0 }
+}
+
 // The mark of the slot.
 fn mark_at<V>(slots: &IndexMap<u64, Option<V>>, slot: usize) -> u8
     requires { slot < index_map_len slots.now }
@@ -103,7 +111,7 @@ fn mark_at<V>(slots: &IndexMap<u64, Option<V>>, slot: usize) -> u8
     ensures small { result ≤ 1 }
 {
     match slots.get_index(slot) {
-        Some((_, row)) => { if row.is_some() { 1 } else { 0 } }
+        Some((_, row)) => mark_of(row),
         None => 0,
     }
 }

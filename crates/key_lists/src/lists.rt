@@ -8,9 +8,9 @@ use std::marker::Model;
 
 /// Under each key a list of items; under a key that was never given room, the empty one.
 ///
-/// Only `reserve` takes memory, and it changes no item. A key keeps its list with its room, also
-/// where no item is left, so a change that is taken back needs no memory either. Each call but
-/// `reserve` takes a look into the table, and no time by the length of the list.
+/// Only `reserve` and `push` take memory, and `reserve` changes no item. A key keeps its list with
+/// its room, also where no item is left, so a change that is taken back needs no memory either. Each
+/// call but those two takes a look into the table, and no time by the length of the list.
 pub struct KeyLists<X: Copy> {
     lists: IndexMap<u64, Vec<X>>,
 }
@@ -72,6 +72,29 @@ impl<X: Copy> KeyLists<X> {
         list.reserve(more)?;
         self.lists.insert(key, list)?;
         Ok(())
+    }
+
+    /// Puts an item behind those under a key, in one look into the table. It takes memory where the
+    /// key has no room; where memory runs out, all items and all room stay as they are.
+    pub fn push(&mut self, key: u64, item: X) -> Result<(), AllocError>
+        ensures items { OnOk result (items_at self.new key ≡ items_at self.old key ++ item ∷ []) }
+        ensures others { KeepsOthers key self.old self.new }
+        ensures capacity { capacity_at self.old key ≤ capacity_at self.new key }
+        ensures had_room { HasRoomAt self.old key 1 → IsOk result }
+        ensures err { OnErr result (IsSame self.old self.new) }
+        ensures err_room { OnErr result (capacity_at self.new key ≡ capacity_at self.old key) }
+    {
+        if let Some(items) = self.lists.get_mut(&key) {
+            items.reserve(1)?;
+            items.push_reserved(item);
+            return Ok(());
+        }
+        let mut list = Vec::new(*self.lists.allocator());
+        list.push(item)?;
+        match self.lists.insert(key, list) {
+            Ok(_) => Ok(()),
+            Err(full) => Err(AllocError::from(full)),
+        }
     }
 
     /// Puts an item behind those under a key that has room for it. It takes no memory.

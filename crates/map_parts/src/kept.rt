@@ -31,8 +31,6 @@ pub(crate) fn keep_half(kept: &mut KeyLists<Half>, face: Face, half: Half) -> Re
     ensures others { OnOk result ((n : ℕ) → (face_place_of face ≡ n → ⊥)
         → items_at kept.new n ≡ items_at kept.old n) }
 {
-    let key = face_place(face);
-    kept.reserve(key, 1)?;
-    kept.put(key, half);
+    kept.push(face_place(face), half)?;
     Ok(())
 }

@@ -110,8 +110,7 @@ impl<R: Numbered> Rows<R> {
         ensures ok { OnOk result (rows_in self.new ≡ rows_in self.old ++ row ∷ []) }
         ensures err { OnErr result (rows_in self.new ≡ rows_in self.old) }
     {
-        self.keep_slot(row.number())?;
-        self.put_last(row);
+        self.list.push(u64::from(row.number()), row)?;
         Ok(())
     }
 

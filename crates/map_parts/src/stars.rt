@@ -57,9 +57,7 @@ fn add_spoke(
     ensures here { OnOk result (items_at stars.new at ≡ items_at stars.old at ++ spoke half far ∷ []) }
     ensures others { OnOk result ((p : ℕ) → (at ≡ p → ⊥) → items_at stars.new p ≡ items_at stars.old p) }
 {
-    let key = u64::from(at.get());
-    stars.reserve(key, 1)?;
-    stars.put(key, Spoke { half, far });
+    stars.push(u64::from(at.get()), Spoke { half, far })?;
     Ok(())
 }
 
