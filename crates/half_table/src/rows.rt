@@ -1,7 +1,7 @@
 //! The rows of a table: under the number of each string the links of its two halves.
 ghost use Rattle.std.specs.Prelude.{◌≡◌, true, Some, nat_eq};
 ghost use Rattle.indexmap.specs.IndexMap.{ContainsKey, Updates};
-ghost use Rattle.half_table.specs.Rows.{strings, links_of, has, next};
+ghost use Rattle.half_table.specs.Rows.{strings, links_of, has, next, prev};
 ghost use Rattle.half_table.specs.Writes.{ChangesLinks, ChangesNext, ChangesPrev, ChangesFace};
 
 use crate::half::Half;
@@ -29,35 +29,50 @@ pub(crate) fn next_half(rows: &Rows, h: &Half) -> Half
     }
 }
 
-/// Links a half to another next.
-pub(crate) fn set_next(rows: &mut Rows, h: &Half, to: &Half)
+/// Links a half to another next, and gives the one that it had.
+pub(crate) fn set_next(rows: &mut Rows, h: &Half, to: &Half) -> Half
     requires { has rows.old.entries h.now ≡ true }
-    ensures { ChangesNext h.now to.now rows.old.entries rows.new.entries }
+    ensures changes { ChangesNext h.now to.now rows.old.entries rows.new.entries }
+    ensures was { result ≡ next rows.old.entries h.now }
 {
-    if let Some(ends) = rows.get_mut(&h.string) {
-        let links = ends.at(h.forward);
-        *ends = ends.with(h.forward, Links { next: *to, ..links });
+    match rows.get_mut(&h.string) {
+        Some(ends) => {
+            let links = ends.at(h.forward);
+            *ends = ends.with(h.forward, Links { next: *to, ..links });
+            links.next
+        }
+        None => *h,
     }
 }
 
-/// Links a half to another prev.
-pub(crate) fn set_prev(rows: &mut Rows, h: &Half, to: &Half)
+/// Links a half to another prev, and gives the one that it had.
+pub(crate) fn set_prev(rows: &mut Rows, h: &Half, to: &Half) -> Half
     requires { has rows.old.entries h.now ≡ true }
-    ensures { ChangesPrev h.now to.now rows.old.entries rows.new.entries }
+    ensures changes { ChangesPrev h.now to.now rows.old.entries rows.new.entries }
+    ensures was { result ≡ prev rows.old.entries h.now }
 {
-    if let Some(ends) = rows.get_mut(&h.string) {
-        let links = ends.at(h.forward);
-        *ends = ends.with(h.forward, Links { prev: *to, ..links });
+    match rows.get_mut(&h.string) {
+        Some(ends) => {
+            let links = ends.at(h.forward);
+            *ends = ends.with(h.forward, Links { prev: *to, ..links });
+            links.prev
+        }
+        None => *h,
     }
 }
 
-/// Puts another face to the left of a half.
-pub(crate) fn set_face(rows: &mut Rows, h: &Half, to: &Face)
+/// Puts another face to the left of a half, and gives the half that follows.
+pub(crate) fn set_face(rows: &mut Rows, h: &Half, to: &Face) -> Half
     requires { has rows.old.entries h.now ≡ true }
-    ensures { ChangesFace h.now to.now rows.old.entries rows.new.entries }
+    ensures changes { ChangesFace h.now to.now rows.old.entries rows.new.entries }
+    ensures next { result ≡ next rows.new.entries h.now }
 {
-    if let Some(ends) = rows.get_mut(&h.string) {
-        let links = ends.at(h.forward);
-        *ends = ends.with(h.forward, Links { face: *to, ..links });
+    match rows.get_mut(&h.string) {
+        Some(ends) => {
+            let links = ends.at(h.forward);
+            *ends = ends.with(h.forward, Links { face: *to, ..links });
+            links.next
+        }
+        None => *h,
     }
 }

@@ -6,7 +6,7 @@ ghost use Rattle.half_table.specs.declared.links.Ends.{Ends as StringEnds};
 ghost use Rattle.half_table.specs.Rows.{HalfRows, has_halves, links_of, has, next, prev, origin_of, face, IsLinked, cycle, HasCycle};
 ghost use Rattle.half_table.specs.Surgery.{IsUnchanged, IsSpliced, SplicesBack, SplicesCycles, Relabels, AddsLoose, AddsCycle, IsLoose, loose_ends, RemovesLoose, RemovesCycle};
 
-use crate::changes::{exchange, put_loose, relabel_cycle, take_loose};
+use crate::changes::{exchange, follow, put_loose, relabel_cycle, take_loose};
 use crate::half::Half;
 use crate::links::Links;
 use crate::rows::{Rows, find_links};
@@ -185,6 +185,22 @@ impl<T: Tally> HalfTable<T> {
         ensures grows { self.old.work ≤ self.new.work }
     {
         exchange(&mut self.rows, &a, &b);
+        self.tick();
+    }
+
+    /// The half b comes to follow a: the splice of a with the half that b followed, by a look at each
+    /// of the four halves that it links anew.
+    pub fn follow(&mut self, a: Half, b: Half)
+        requires a_in { has self.old.rows a ≡ true }
+        requires b_in { has self.old.rows b ≡ true }
+        ensures spliced { IsSpliced a (prev self.old.rows b) self.old.rows self.new.rows }
+        ensures cycles { SplicesCycles a (prev self.old.rows b) self.old.rows self.new.rows }
+        ensures next { next self.new.rows a ≡ b }
+        ensures linked { IsLinked self.new.rows }
+        ensures work { self.new.work ≡ one_more self.old.work }
+        ensures grows { self.old.work ≤ self.new.work }
+    {
+        follow(&mut self.rows, &a, &b);
         self.tick();
     }
 

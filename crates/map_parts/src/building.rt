@@ -70,8 +70,7 @@ fn join<T: Tally>(table: &mut HalfTable<T>, first: &Half, second: &Half)
     ensures spliced { IsSpliced first.now (prev table.old.rows second.now) table.old.rows table.new.rows }
     ensures linked { IsLinked table.new.rows }
 {
-    let before = table.prev(*second);
-    table.splice(*first, before);
+    table.follow(*first, *second);
 }
 
 // Joins the half along a ring's side at a place to the half along the next side, by one splice, and

@@ -110,7 +110,8 @@ impl<R: Numbered> Rows<R> {
         ensures ok { OnOk result (rows_in self.new ≡ rows_in self.old ++ row ∷ []) }
         ensures err { OnErr result (rows_in self.new ≡ rows_in self.old) }
     {
-        self.list.push(u64::from(row.number()), row)?;
+        let number = u64::from(row.number());
+        self.list.push(number, row)?;
         Ok(())
     }
 

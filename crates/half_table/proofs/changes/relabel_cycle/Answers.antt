@@ -7,22 +7,22 @@ use Rattle.half_table.proofs.changes.relabel_cycle.Goals as goal
 
 pub loop-at-init : goal.loop-at-init
 loop-at-init g c =
-    begun c.args.rows.now.entries c.set_face.new.rows.entries c.args.h.now c.next_half-at.result c.args.face.now _ _ c.requires.linked c.requires.h_in
-    c.set_face.ensures c.tick.ensures c.next_half-at.ensures
+    begun c.args.rows.now.entries c.set_face-at.new.rows.entries c.args.h.now c.set_face-at.result c.args.face.now _ _ c.requires.linked c.requires.h_in
+    c.set_face-at.ensures.changes c.tick.ensures c.set_face-at.ensures.next
 
-pub set_face-requires-in-loop-at : goal.set_face-requires-in-loop-at
-set_face-requires-in-loop-at g c = c.loop-at.invariant.relabels.has c.loop-at.at ∙ c.loop-at.invariant.at_in
+pub set_face-at-requires-in-loop-at : goal.set_face-at-requires-in-loop-at
+set_face-at-requires-in-loop-at g c = c.loop-at.invariant.relabels.has c.loop-at.at ∙ c.loop-at.invariant.at_in
 
 pub loop-at-smaller : goal.loop-at-smaller
 loop-at-smaller g c =
     let other : is_half c.loop-at.at c.args.h.now ≡ false = sym c.is_same.ensures ∙ c.loop-at-test.true in
-    fewer _ _ _ _ _ _ _ c.loop-at.invariant c.next_half-at-in-loop-at.result c.set_face-in-loop-at.new.rows.entries other c.set_face-in-loop-at.ensures c.next_half-at-in-loop-at.ensures
+    fewer _ _ _ _ _ _ _ c.loop-at.invariant c.set_face-at-in-loop-at.result c.set_face-at-in-loop-at.new.rows.entries other c.set_face-at-in-loop-at.ensures.changes c.set_face-at-in-loop-at.ensures.next
 
 pub loop-at-preserved : goal.loop-at-preserved
 loop-at-preserved g c =
     let other : is_half c.loop-at.at c.args.h.now ≡ false = sym c.is_same.ensures ∙ c.loop-at-test.true in
-    further _ _ _ _ _ _ _ c.loop-at.invariant c.set_face-in-loop-at.new.rows.entries c.next_half-at-in-loop-at.result _ c.requires.linked other
-    c.set_face-in-loop-at.ensures c.tick-in-loop-at.ensures c.next_half-at-in-loop-at.ensures
+    further _ _ _ _ _ _ _ c.loop-at.invariant c.set_face-at-in-loop-at.new.rows.entries c.set_face-at-in-loop-at.result _ c.requires.linked other
+    c.set_face-at-in-loop-at.ensures.changes c.tick-in-loop-at.ensures c.set_face-at-in-loop-at.ensures.next
 
 pub returns-clause-relabels : goal.returns-clause-relabels
 returns-clause-relabels g c = (ended _ _ _ _ _ _ _ c.loop-at.invariant (sym c.is_same.ensures ∙ c.loop-at-test.false)).0

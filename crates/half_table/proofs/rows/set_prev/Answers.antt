@@ -6,8 +6,8 @@ use Rattle.half_table.specs.declared.links.Ends.{Ends}
 use Rattle.half_table.proofs.Changed.{written, prev-put}
 use Rattle.half_table.proofs.rows.set_prev.Goals as goal
 
-pub returns-in-Some : goal.returns-in-Some
-returns-in-Some c =
+pub returns-in-Some-clause-changes : goal.returns-in-Some-clause-changes
+returns-in-Some-clause-changes c =
     let old = c.args.rows.now.entries in
     let new = (c.get_mut.follows.lender c.with.result).entries in
     let h = c.args.h.now in
