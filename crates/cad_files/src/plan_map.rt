@@ -8,7 +8,7 @@ use crate::building::{find_sides, put_rows};
 use crate::cycles::rings_of;
 use crate::faults::PlanFault;
 use crate::rows::PlanRows;
-use cad_map::PlainMap;
+use cad_map::{Counts, PlainMap};
 use cad_valid::first_broken_swept;
 use std::alloc::Global;
 
@@ -22,7 +22,7 @@ pub fn build(alloc: Global, rows: &PlanRows) -> Result<PlainMap, PlanFault>
     ensures err { IfErr result (λ fault. fault ≢ faults.Memory → IsBuildFault rows.now fault) }
 {
     are_in_range(rows);
-    let mut plain = PlainMap::empty(alloc);
+    let mut plain = PlainMap::with_room(alloc, &counts_of(rows))?;
     match put_rows(&mut plain, rows) {
         Ok(()) => {}
         Err(fault) => return Err(fault),
@@ -37,6 +37,17 @@ pub fn build(alloc: Global, rows: &PlanRows) -> Result<PlainMap, PlanFault>
         return Err(PlanFault::Breaks(rule));
     }
     Ok(plain)
+}
+
+// How many rows of each kind there are.
+fn counts_of(rows: &PlanRows) -> Counts {
+    Counts {
+        sources: rows.sources.len(),
+        points: rows.points.len(),
+        parcels: rows.parcels.len(),
+        strings: rows.strings.len(),
+        retired: rows.retired.len(),
+    }
 }
 
 // The rows are in range, by their type.

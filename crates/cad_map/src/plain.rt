@@ -127,6 +127,21 @@ impl PlainMap {
         }
     }
 
+    /// The map without rows, and with room for so many of each kind, so that its tables need not grow
+    /// for them.
+    pub fn with_room(alloc: Global, counts: &Counts) -> Result<PlainMap, Memory>
+        ensures empty { IfOk result (λ made. made ≡ empty_map) }
+    {
+        Ok(PlainMap {
+            sources: Table::with_room(alloc, counts.sources)?,
+            points: Table::with_room(alloc, counts.points)?,
+            parcels: Table::with_room(alloc, counts.parcels)?,
+            strings: Table::with_room(alloc, counts.strings)?,
+            retired: Retired::new(alloc),
+            boundaries: Vec::new(alloc),
+        })
+    }
+
     /// What the map takes its memory from.
     pub fn allocator(&self) -> Global {
         self.points.allocator()

@@ -93,7 +93,7 @@ impl Stars {
         ensures { IfOk result
             (λ stars. (p : ℕ) → items_at stars p ≡ star p (spokes_of (M.map map.now))) }
     {
-        let mut spokes = KeyLists::new(alloc);
+        let mut spokes = KeyLists::with_room(alloc, map.counts().points)?;
         for place in 0..map.counts().strings {
             put_spokes(&mut spokes, map, place, map.string_at(place).unwrap())?;
         }

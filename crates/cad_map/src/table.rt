@@ -48,6 +48,15 @@ impl<R: Numbered> Table<R> {
         }
     }
 
+    /// No rows, and room for so many, so that the table need not grow for them.
+    pub fn with_room(alloc: Global, rows: usize) -> Result<Table<R>, Memory>
+        ensures { IfOk result (λ table. table ≡ []) }
+    {
+        Ok(Table {
+            rows: IndexMap::with_capacity(alloc, rows)?,
+        })
+    }
+
     /// What the table takes its memory from.
     pub fn allocator(&self) -> Global {
         *self.rows.allocator()

@@ -79,8 +79,9 @@ impl<T: Tally> Draft<T> {
         ensures grid { IfOk result (λ made. IsGridOf made.grid map.now) }
     {
         let rows = MapRows::of(alloc, map)?;
-        let mut table = HalfTable::new(alloc, tally);
-        let mut stars = KeyLists::new(alloc);
+        let counts = map.counts();
+        let mut table = HalfTable::with_room(alloc, counts.strings, tally)?;
+        let mut stars = KeyLists::with_room(alloc, counts.points)?;
         add_strings(map, &mut table, &mut stars)?;
         link_rings(map, &mut table, &stars);
         let kept = label_rings(alloc, map, &mut table, &stars)?;

@@ -1,12 +1,12 @@
 //! The list, and what is read of it.
 ghost use Rattle.std.specs.Prelude.{◌≡◌, [], length, None, slice_get, nat_eq};
-ghost use Rattle.std.specs.Prelude.{option_map, option_copied, IfSome, IfNone};
+ghost use Rattle.std.specs.Prelude.{option_map, option_copied, IfSome, IfNone, IfOk};
 ghost use Rattle.entry_list.specs.Slots.{rows_of, numbers_of, row_at, IsRowSlot};
 ghost use Rattle.std.specs.List.{IsDistinct};
 
 use crate::marks::Marks;
 use indexmap::IndexMap;
-use std::alloc::Global;
+use std::alloc::{AllocError, Global};
 use std::marker::Model;
 
 /// Rows under their numbers, in order of entry. The place of a row is how many rows stand before
@@ -57,6 +57,19 @@ impl<V> EntryList<V> {
             live: Marks::new(alloc),
             len: 0,
         }
+    }
+
+    /// No rows and no slots, and a table with room for so many, which then need not grow.
+    pub fn with_room(alloc: Global, rows: usize) -> Result<Self, AllocError>
+    where
+        V: Drop,
+        ensures none { IfOk result (λ list. list ≡ []) }
+    {
+        Ok(EntryList {
+            slots: IndexMap::with_capacity(alloc, rows)?,
+            live: Marks::new(alloc),
+            len: 0,
+        })
     }
 
     /// What the list takes its memory from.

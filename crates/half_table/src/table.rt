@@ -1,5 +1,5 @@
 //! The table of half-edges.
-ghost use Rattle.std.specs.Prelude.{◌≡◌, ◌≤◌, ◌++◌, Bool, [], ◌∷◌, true, false, List, Some, length, OnOk, OnErr};
+ghost use Rattle.std.specs.Prelude.{◌≡◌, ◌≤◌, ◌++◌, Bool, [], ◌∷◌, true, false, List, Some, length, IfOk, OnOk, OnErr};
 ghost use Rattle.half_table.specs.Count.{one_more, ticked};
 ghost use Rattle.half_table.specs.Half.{half_of, twin};
 ghost use Rattle.half_table.specs.declared.links.Ends.{Ends as StringEnds};
@@ -56,6 +56,17 @@ impl<T: Tally> HalfTable<T> {
             rows: IndexMap::new(alloc),
             tally,
         }
+    }
+
+    /// A table without strings, and with room for so many, so that it need not grow for them.
+    pub fn with_room(alloc: Global, strings: usize, tally: T) -> Result<HalfTable<T>, Memory>
+        ensures rows { IfOk result (λ table. table.rows ≡ []) }
+        ensures work { IfOk result (λ table. table.work ≡ T.counted tally) }
+    {
+        Ok(HalfTable {
+            rows: IndexMap::with_capacity(alloc, strings)?,
+            tally,
+        })
     }
 
     /// Whether the table holds the halves of a string.

@@ -1,5 +1,5 @@
 //! Lists under keys.
-ghost use Rattle.std.specs.Prelude.{◌≡◌, ◌≤◌, ◌<◌, ◌++◌, ◌∷◌, [], length, IsOk, OnOk, OnErr, slice_set, slice_get, Some, swap_remove};
+ghost use Rattle.std.specs.Prelude.{◌≡◌, ◌≤◌, ◌<◌, ◌++◌, ◌∷◌, [], length, IsOk, IfOk, OnOk, OnErr, slice_set, slice_get, Some, swap_remove};
 ghost use Rattle.key_lists.specs.Held.{items_at, capacity_at, HasRoomAt, KeepsOthers, IsSame};
 
 use indexmap::IndexMap;
@@ -38,6 +38,16 @@ impl<X: Copy> KeyLists<X> {
         KeyLists {
             lists: IndexMap::new(alloc),
         }
+    }
+
+    /// No items, and a table with room for so many keys, which then need not grow.
+    pub fn with_room(alloc: Global, keys: usize) -> Result<Self, AllocError>
+        ensures none { IfOk result (λ lists. lists ≡ []) }
+        ensures succeeds { keys ≡ 0 → IsOk result }
+    {
+        Ok(KeyLists {
+            lists: IndexMap::with_capacity(alloc, keys)?,
+        })
     }
 
     /// The items under a key.

@@ -1,5 +1,5 @@
 //! Rows in order of entry that go and come without memory.
-ghost use Rattle.std.specs.Prelude.{◌≡◌, ◌≤◌, ◌++◌, ◌∷◌, [], ℕ, None, Some, length, insert, slice_get, is_some, IsSome, IfSome, IfNone, OnOk, OnErr, OnSome};
+ghost use Rattle.std.specs.Prelude.{◌≡◌, ◌≤◌, ◌++◌, ◌∷◌, [], ℕ, None, Some, length, insert, slice_get, is_some, IsSome, IfSome, IfNone, IfOk, OnOk, OnErr, OnSome};
 ghost use Rattle.std.specs.Option.{option_copied};
 ghost use Rattle.entry_list.specs.Slots.{HasSlot, KeepsSlots};
 ghost use Rattle.cad_map.specs.Table.{row_with, without_row, with_row};
@@ -36,6 +36,15 @@ impl<R: Numbered> Rows<R> {
         Rows {
             list: EntryList::new(alloc),
         }
+    }
+
+    /// No rows, and room for so many, so that they need not grow for them.
+    pub fn with_room(alloc: Global, rows: usize) -> Result<Rows<R>, Memory>
+        ensures { IfOk result (λ made. made ≡ []) }
+    {
+        Ok(Rows {
+            list: EntryList::with_room(alloc, rows)?,
+        })
     }
 
     /// What the rows take their memory from.
