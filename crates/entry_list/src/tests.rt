@@ -95,6 +95,25 @@ fn reads(rt: HostRuntime) -> Result<(), Fail> {
     Ok(())
 }
 
+fn push(rt: &impl Abort, list: &mut EntryList<u8>, number: u64, row: u8) -> Result<(), AllocError> {
+    assert!(rt; list.get(number).is_none());
+    list.push(number, row)
+}
+
+#[test]
+fn pushed_with_a_slot_and_without(rt: HostRuntime) -> Result<(), Fail> {
+    let mut list = EntryList::with_room(rt.alloc(), 3)?;
+    push(&rt, &mut list, 5, 50)?;
+    push(&rt, &mut list, 3, 30)?;
+    push(&rt, &mut list, 4, 40)?;
+    assert_eq!(rt; list.take(5), Some((0, 50)));
+    push(&rt, &mut list, 5, 51)?;
+    assert_eq!(rt; first_four(&list), [3, 4, 5, 0]);
+    assert_eq!(rt; list.get(5).copied(), Some(51));
+    assert_eq!(rt; list.len(), 3);
+    Ok(())
+}
+
 #[test]
 fn back_in_its_own_slot(rt: HostRuntime) -> Result<(), Fail> {
     let mut list = EntryList::new(rt.alloc());

@@ -129,6 +129,22 @@ fn builds_a_triangular_island(rt: HostRuntime) -> Result<(), Fail> {
 }
 
 #[test]
+fn one_half_follows_another(rt: HostRuntime) -> Result<(), Fail> {
+    let alloc = rt.alloc();
+    let mut table = HalfTable::with_room(alloc, 2, Ticks::new())?;
+    add(&rt, &mut table, 11, 1, 2)?;
+    add(&rt, &mut table, 12, 2, 3)?;
+    let first = half(&rt, &table, 11, true);
+    let second = half(&rt, &table, 12, true);
+    table.follow(first, second);
+    let around = walked(&rt, alloc, &table, 12, false)?;
+    let wanted = [(12, false), (11, false), (11, true), (12, true)];
+    assert_eq!(rt; around.as_slice(), wanted.as_slice());
+    assert_eq!(rt; table.work(), 3);
+    Ok(())
+}
+
+#[test]
 fn reads_a_loose_string(rt: HostRuntime) -> Result<(), Fail> {
     let mut table = HalfTable::new(rt.alloc(), Ticks::new());
     add(&rt, &mut table, 33, 8, 6)?;

@@ -59,6 +59,19 @@ fn put_in_turn(rt: HostRuntime) -> Result<(), Fail> {
 }
 
 #[test]
+fn pushed_in_turn(rt: HostRuntime) -> Result<(), Fail> {
+    let mut lists = KeyLists::with_room(rt.alloc(), 2)?;
+    assert!(rt; lists.at(7).is_empty());
+    for item in 70..76 {
+        lists.push(7, item)?;
+    }
+    lists.push(8, 80)?;
+    assert_eq!(rt; lists.at(7), [70, 71, 72, 73, 74, 75].as_slice());
+    assert_eq!(rt; lists.at(8), [80].as_slice());
+    Ok(())
+}
+
+#[test]
 fn taken_and_set(rt: HostRuntime) -> Result<(), Fail> {
     let mut lists = KeyLists::new(rt.alloc());
     fill(&rt, &mut lists)?;
