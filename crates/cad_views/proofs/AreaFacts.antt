@@ -2,7 +2,7 @@
 use Rattle.std.proofs.Common.{◌≡◌, ℕ, zero, suc, ◌+◌, ◌<◌, ◌≤◌, ◌∙◌, refl, sym, ap, subst, List, [], ◌∷◌, length, take, map, get_or, arith, ℤ, ◌+ℤ◌, FitsSigned, unsigned_abs}
 use Rattle.std.specs.Int.{w128}
 use Rattle.std.specs.Prelude.{flat_map}
-use Rattle.geo_exact.specs.Measure.{IsBounded, doubled_area, sum_over}
+use Rattle.geo_exact.specs.Measure.{doubled_area, sum_over}
 use Rattle.geo_exact.proofs.CallerLemmas.{doubled_area-bounded}
 use Rattle.cad_rows.specs.declared.names.Face.{Face}
 use Rattle.cad_rings.specs.Cycle.{Ring, placed, sides_of}

@@ -17,7 +17,7 @@ use Rattle.cad_rings.proofs.CallerLemmas.{permuted_as, shuffled, sides_along-app
 use Rattle.cad_map.specs.declared.boundary.Boundary.{Boundary}
 use Rattle.cad_map.specs.Boundaries.{is_face, sides_in}
 use Rattle.cad_map.specs.Map.{Map, all_sides, position_of, rings_at, rings_of, side_of, string_sides, sum_of_face}
-use Rattle.cad_map.specs.Valid.{EachPair, IsValid}
+use Rattle.cad_map.specs.Valid.{IsValid}
 use Rattle.cad_map.proofs.Boundaries.FaceSums.{up_to-few}
 use Rattle.cad_map.proofs.CallerLemmas.{list_any-none, All-at_each, All-push, All-append, All-follows, All-permuted, EachPair-append, EachPair-join, whole_valid}
 use Rattle.indexmap.specs.IndexSet.{insert_key}

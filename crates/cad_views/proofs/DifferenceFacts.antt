@@ -1,6 +1,6 @@
 -- The names that two maps tell differently: each stands once, and none is left out.
 use Rattle.std.proofs.Common.{◌≡◌, ◌≢◌, ◌⊎◌, inl, inr, refl, sym, ap, subst, ◌∙◌, ℕ, List, [], ◌∷◌, ◌++◌, map, filter, Some, None, Option, Bool, true, false, not, true≢false, arith}
-use Rattle.std.specs.Prelude.{◌==◌, is_some, option_map, if◌then◌else◌}
+use Rattle.std.specs.Prelude.{◌==◌, is_some, option_map}
 use Rattle.std.specs.List.{AllByRecursion, Contains, list_any}
 use Rattle.std.proofs.lemmas.Bool.{eqb-true, not-true}
 use Rattle.std.proofs.lemmas.Bool.Decides.{Decides-eqb}

@@ -1,5 +1,5 @@
 -- What rings are cut into where they pass a point twice.
-use Rattle.std.specs.Prelude.{◌≢◌, ℕ, ◌≤◌, List, flat_map, IsPermutation, length}
+use Rattle.std.specs.Prelude.{◌≢◌, ◌≤◌, List, flat_map, IsPermutation, length}
 use Rattle.std.specs.List.{AllByRecursion}
 use Rattle.cad_rings.specs.Cycle.{Ring, Side, sides_of}
 use Rattle.cad_map.specs.Valid.{EachPair}

@@ -1,5 +1,5 @@
 -- The records of a map's rows with their geometry.
-use Rattle.std.specs.Prelude.{◌≡◌, ℕ, List, [], ◌∷◌, map, codes, decimal, ⊤}
+use Rattle.std.specs.Prelude.{◌≡◌, List, [], ◌∷◌, map, codes, decimal, ⊤}
 use Rattle.std.specs.Fmt.{signed_decimal}
 use Rattle.geo_exact.specs.Measure.{doubled_area}
 use Rattle.cad_rows.specs.declared.rows.PointRow.{PointRow}

@@ -1,4 +1,4 @@
-use Rattle.std.proofs.Common.{◌≡◌, ◌<◌, ◌≤◌, ◌+◌, ◌∙◌, sym, ap, subst, List, take, map, length, ℤ, ◌+ℤ◌, to_z, to_z-of_z, FitsSigned, unsigned_abs, arith}
+use Rattle.std.proofs.Common.{◌≤◌, ◌+◌, ◌∙◌, sym, subst, ℤ, ◌+ℤ◌, to_z, to_z-of_z, FitsSigned, unsigned_abs, arith}
 use Rattle.std.specs.Int.{w128}
 use Rattle.std.proofs.lemmas.Int.{ints}
 use Rattle.cad_views.proofs.AreaFacts.{ring-few, area-next, area-fits, area-all, area-small}

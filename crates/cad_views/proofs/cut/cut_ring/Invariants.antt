@@ -1,4 +1,4 @@
-use Rattle.std.proofs.Common.{◌≡◌, take}
+use Rattle.std.proofs.Common.{take}
 use Rattle.cad_views.specs.Walked.{IsWalked}
 use Rattle.cad_views.proofs.cut.cut_ring.Given as goal
 

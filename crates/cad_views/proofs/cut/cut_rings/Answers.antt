@@ -1,10 +1,8 @@
-use Rattle.std.proofs.Common.{◌≡◌, ◌<◌, ◌≤◌, ◌∙◌, refl, sym, ap, subst, List, ◌∷◌, [], ◌++◌, take, map, length, get_or, arith}
+use Rattle.std.proofs.Common.{◌≡◌, ◌<◌, ◌∙◌, sym, subst, List, ◌∷◌, [], ◌++◌, take, map, length, get_or}
 use Rattle.std.specs.List.{AllByRecursion}
-use Rattle.std.proofs.lemmas.List.{take_all, map_more, length-map}
-use Rattle.std.proofs.lemmas.List.Sorted.{IsPermutation-refl}
+use Rattle.std.proofs.lemmas.List.{take_all, length-map}
 use Rattle.cad_rings.specs.Cycle.{Ring}
 use Rattle.cad_map.specs.declared.boundary.Boundary.{Boundary}
-use Rattle.cad_map.proofs.CallerLemmas.{All-append}
 use Rattle.cad_views.specs.Cut.{AreCutFrom, HasTwoEndsEach}
 use Rattle.cad_views.proofs.CutFacts.{cut-none, cut-both, rings-apart, rings-more, apart-at}
 use Rattle.cad_views.proofs.cut.cut_rings.Goals as goal

@@ -1,4 +1,4 @@
-use Rattle.std.proofs.Common.{◌≡◌, take, map}
+use Rattle.std.proofs.Common.{take, map}
 use Rattle.cad_views.specs.Cut.{AreCutFrom}
 use Rattle.cad_map.specs.declared.boundary.Boundary.{Boundary}
 use Rattle.cad_views.proofs.cut.cut_rings.Given as goal

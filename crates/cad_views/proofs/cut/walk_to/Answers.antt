@@ -1,4 +1,4 @@
-use Rattle.std.proofs.Common.{◌≡◌, ◌≤◌, ◌-◌, ◌==◌, ◌∙◌, sym, ap, subst, ℕ, suc, List, ◌∷◌, [], ◌++◌, take, drop, length, length-drop, Some, arith}
+use Rattle.std.proofs.Common.{◌≡◌, ◌≤◌, ◌-◌, ◌∙◌, sym, ap, subst, ℕ, suc, List, ◌∷◌, [], ◌++◌, take, drop, length, length-drop, arith}
 use Rattle.std.proofs.lemmas.List.{take_all}
 use Rattle.cad_rings.specs.Cycle.{Ring}
 use Rattle.cad_views.specs.Walked.{IsWalked}

@@ -1,4 +1,4 @@
-use Rattle.std.proofs.Common.{◌≡◌, ◌∙◌, ap, sym, Bool, List, [], ◌∷◌, ◌++◌, take, filter, get_or, append_assoc, if◌then◌else◌}
+use Rattle.std.proofs.Common.{◌∙◌, ap, sym, Bool, List, [], ◌∷◌, ◌++◌, take, filter, append_assoc, if◌then◌else◌}
 use Rattle.std.proofs.lemmas.List.{take_all, append-nil}
 use Rattle.cad_rows.specs.declared.names.Name.{Name}
 use Rattle.cad_views.specs.Differences.{is_listed}

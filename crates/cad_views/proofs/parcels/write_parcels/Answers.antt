@@ -1,4 +1,4 @@
-use Rattle.std.proofs.Common.{◌≡◌, ◌<◌, ◌≤◌, sym, subst, List, [], ◌∷◌, ◌++◌, length, take, append-nil}
+use Rattle.std.proofs.Common.{◌≤◌, sym, subst, List, [], ◌∷◌, ◌++◌, length, take, append-nil}
 use Rattle.std.proofs.lemmas.List.{take_all}
 use Rattle.cad_rows.specs.declared.rows.ParcelRow.{ParcelRow}
 use Rattle.cad_map.proofs.CallerLemmas.{take-more}

@@ -1,7 +1,5 @@
-use Rattle.std.proofs.Common.{◌≡◌, sym, subst, List, take, map}
+use Rattle.std.proofs.Common.{◌≡◌, take}
 use Rattle.std.proofs.lemmas.List.{take_all}
-use Rattle.cad_files.specs.Texts.{HasAppended, text_of, record_text}
-use Rattle.cad_files.specs.declared.rows.PlanString.{PlanString}
 use Rattle.cad_views.specs.Tables.{string_row}
 use Rattle.cad_views.proofs.JoinFacts.{appended-map}
 use Rattle.cad_views.proofs.tables.write_strings.Goals as goal

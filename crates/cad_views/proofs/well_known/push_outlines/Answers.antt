@@ -1,4 +1,4 @@
-use Rattle.std.proofs.Common.{◌≡◌, ◌≤◌, ◌∙◌, ap, sym, subst, length, Bool, List, [], ◌∷◌, ◌++◌, take, filter, get_or, append_assoc, if◌then◌else◌}
+use Rattle.std.proofs.Common.{◌≤◌, ◌∙◌, ap, sym, subst, length, Bool, List, [], ◌∷◌, ◌++◌, take, filter, append_assoc, if◌then◌else◌}
 use Rattle.std.proofs.lemmas.List.{take_all, append-nil}
 use Rattle.cad_rings.specs.Cycle.{Ring}
 use Rattle.cad_map.specs.Outline.{is_outer}

@@ -1,4 +1,4 @@
-use Rattle.std.proofs.Common.{◌≡◌, ◌<◌, ◌≤◌, ◌∙◌, ap, sym, ℕ, List, [], ◌∷◌, ◌++◌, take, length, append_assoc, arith}
+use Rattle.std.proofs.Common.{◌≡◌, ◌≤◌, ◌∙◌, ap, ℕ, List, [], ◌∷◌, ◌++◌, take, length, append_assoc, arith}
 use Rattle.cad_views.specs.WellKnown.{coordinates_along, ring_text}
 use Rattle.cad_views.proofs.JoinFacts.{first-is}
 use Rattle.cad_views.proofs.well_known.push_ring.Goals as goal

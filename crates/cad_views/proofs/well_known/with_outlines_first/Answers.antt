@@ -1,4 +1,4 @@
-use Rattle.std.proofs.Common.{◌∙◌, ap, List, [], ◌++◌, filter, true, false}
+use Rattle.std.proofs.Common.{◌∙◌, ap, List, ◌++◌, filter, true, false}
 use Rattle.cad_rings.specs.Cycle.{Ring}
 use Rattle.cad_map.specs.Outline.{is_outer}
 use Rattle.cad_views.proofs.well_known.with_outlines_first.Goals as goal
