@@ -6,3 +6,4 @@ pub mod StringRows
 pub mod FirstNamed
 pub mod ChainRows
 pub mod FirstReasons
+pub mod ToldLists

@@ -31,8 +31,8 @@ pub(crate) fn first_on_string_refusal<M: MapView>(map: &M, points: &[PointNo]) -
     None
 }
 
-/// Whether no number stands twice.
-fn are_distinct<Kind>(numbers: &[Number<Kind>]) -> bool
+// Whether no number stands twice: each is compared with those behind it.
+fn differ_two_by_two<Kind>(numbers: &[Number<Kind>]) -> bool
     ensures { result ≡ are_distinct_numbers numbers.now }
 {
     for place in 0..numbers.len() {
@@ -43,8 +43,23 @@ fn are_distinct<Kind>(numbers: &[Number<Kind>]) -> bool
     true
 }
 
+/// Whether no number stands twice: as the list was told, or else two by two.
+fn are_distinct<Kind>(numbers: &Numbers<Number<Kind>>) -> bool
+    ensures { result ≡ are_distinct_numbers numbers.now }
+{
+    match numbers.distinct_as_told() {
+        Some(told) => told,
+        None => differ_two_by_two(numbers.as_slice()),
+    }
+}
+
 /// Whether the points are too few, the strings aren't as many as wanted, or a number stands twice.
-pub(crate) fn is_bad(points: &[PointNo], least: usize, strings: &[StringNo], wanted: usize) -> bool
+pub(crate) fn is_bad(
+    points: &Numbers<PointNo>,
+    least: usize,
+    strings: &Numbers<StringNo>,
+    wanted: usize,
+) -> bool
     ensures { result ≡ is_bad_chain points.now least strings.now wanted }
 {
     points.len() < least

@@ -91,13 +91,13 @@ pub(crate) fn bad_chain_refusal(edit: &Edit) -> Option<Refusal>
         Edit::Split { first, second, .. } => first.get() == second.get(),
         Edit::Divide { chain, strings, .. } => {
             let wanted = chain.len().saturating_sub(1);
-            is_bad(chain.as_slice(), 2, strings.as_slice(), wanted)
+            is_bad(chain, 2, strings, wanted)
         }
         Edit::Enclose {
             points,
             strings,
             ..
-        } => is_bad(points.as_slice(), 3, strings.as_slice(), points.len()),
+        } => is_bad(points, 3, strings, points.len()),
         _ => false,
     };
     if is_bad {

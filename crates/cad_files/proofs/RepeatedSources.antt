@@ -1,6 +1,7 @@
--- The first repeated number, told by its place, and whether a number stands twice.
-use Rattle.std.proofs.Common.{◌≡◌, ◌≢◌, ◌∙◌, ℕ, ◌<◌, List, [], get_or, ap, sym, refl, true, is_some, Option, Some, None, arith}
-use Rattle.std.specs.Prelude.{IfSome, IfNone}
+-- Whether a number stands twice: as the first repeated place tells it, and as a list is told it.
+use Rattle.std.proofs.Common.{◌≡◌, ◌≢◌, ◌∙◌, ℕ, ◌<◌, List, [], get_or, ap, sym, refl, true, false, true≢false, Bool, not, is_some, Option, Some, None, arith}
+use Rattle.std.specs.Prelude.{IfSome, IfNone, IsTrue, ◌↔◌}
+use Rattle.std.specs.List.{AllPairs}
 use Rattle.std.proofs.lemmas.List.{get_or-take, get_or_default, length-take}
 use Rattle.sweep.specs.Repeats.{AreDistinct, IsFirstRepeat}
 use Rattle.cad_map.specs.Valid.{EachPair}
@@ -28,3 +29,26 @@ repeated-told list (Some place) some none = go (repeated [] list) refl
     go : (r : Option ℕ) → repeated [] list ≡ r → true ≡ is_some (repeated [] list)
     go (Some n) is = ap is_some (sym is)
     go None is = absurd (not_distinct list place some (distinct list is))
+
+is-none : (r : Option ℕ) → not (is_some r) ≡ true → r ≡ None
+is-none None h = refl
+is-none (Some n) h = absurd (true≢false (sym h))
+
+-- what a list may be told
+pub unrepeated : (list : List ℕ) → IsTrue (not (is_some (repeated [] list))) ↔ AllPairs (λ x y. x ≢ y) list
+unrepeated list = (
+  λ h. AllPairs-from_EachPair (λ (x y : ℕ). x ≢ y) list (distinct list (is-none (repeated [] list) h)),
+  λ each. ap (λ r. not (is_some r)) (distinct-once list (EachPair-from_AllPairs (λ (x y : ℕ). x ≢ y) list each)),
+)
+
+-- what a list was told
+pub told-repeated : (list : List ℕ) (told : Bool) → (IsTrue told ↔ AllPairs (λ x y. x ≢ y) list)
+    → not told ≡ is_some (repeated [] list)
+told-repeated list told is = by told (is_some (repeated [] list)) is (unrepeated list)
+  where
+    by : (told again : Bool) → (IsTrue told ↔ AllPairs (λ x y. x ≢ y) list)
+        → (IsTrue (not again) ↔ AllPairs (λ x y. x ≢ y) list) → not told ≡ again
+    by true true t a = a.1 (t.0 refl)
+    by true false t a = refl
+    by false true t a = refl
+    by false false t a = sym (t.1 (a.0 refl))

@@ -24,13 +24,9 @@ fn first_part(text: &[u8]) -> (&[u8], Option<&[u8]>)
     (text, None)
 }
 
-/// Numbers with one space between them. `None` where the field is no such list. An error where memory
-/// runs out.
+// Numbers with one space between them, with no word of whether one stands twice.
 #[tactic(auto, unfolding(crate::specs::Fields::numbers_of))]
-pub(crate) fn number_list<Kind>(
-    alloc: Global,
-    text: &[u8],
-) -> Result<Option<Numbers<Number<Kind>>>, Memory>
+fn untold_list<Kind>(alloc: Global, text: &[u8]) -> Result<Option<Numbers<Number<Kind>>>, Memory>
     ensures { IfOk result (λ list. list ≡ numbers_of text.now) }
 {
     let mut numbers = Numbers::new(alloc);
@@ -52,7 +48,7 @@ pub(crate) fn number_list<Kind>(
 }
 
 // Whether a number is one of these.
-fn is_among(no: u32, list: &[SourceNo]) -> bool
+fn is_among<Kind>(no: u32, list: &[Number<Kind>]) -> bool
     ensures { result ≡ list_any (λ k. k == no) list.now }
 {
     for other in list {
@@ -67,7 +63,7 @@ fn is_among(no: u32, list: &[SourceNo]) -> bool
 const FEW: usize = 16;
 
 // Whether a number stands twice: each is compared with those before it.
-fn is_repeated_among_few(list: &[SourceNo]) -> bool
+fn is_repeated_among_few<Kind>(list: &[Number<Kind>]) -> bool
     ensures { result ≡ is_some (repeated [] list.now) }
 {
     for i in 0..list.len() {
@@ -79,18 +75,18 @@ fn is_repeated_among_few(list: &[SourceNo]) -> bool
 }
 
 // These numbers as keys to sort by.
-fn sort_keys(alloc: Global, list: &[SourceNo]) -> Result<Vec<u64>, Memory>
+fn sort_keys<Kind>(alloc: Global, list: &[Number<Kind>]) -> Result<Vec<u64>, Memory>
     ensures { IfOk result (λ keys. keys.items ≡ list.now) }
 {
     let mut keys = Vec::with_capacity(alloc, list.len())?;
-    for source in list {
-        keys.push(u64::from(source.get()))?;
+    for number in list {
+        keys.push(u64::from(number.get()))?;
     }
     Ok(keys)
 }
 
 // Whether a number stands twice. An error where memory runs out.
-fn has_repeated(alloc: Global, list: &[SourceNo]) -> Result<bool, Memory>
+fn has_repeated<Kind>(alloc: Global, list: &[Number<Kind>]) -> Result<bool, Memory>
     ensures { IfOk result (λ again. again ≡ is_some (repeated [] list.now)) }
 {
     if list.len() <= FEW {
@@ -98,6 +94,31 @@ fn has_repeated(alloc: Global, list: &[SourceNo]) -> Result<bool, Memory>
     }
     let keys = sort_keys(alloc, list)?;
     Ok(first_repeated(alloc, keys.as_slice())?.is_some())
+}
+
+/// Numbers with one space between them, told whether one stands twice. `None` where the field is no such
+/// list. An error where memory runs out.
+pub(crate) fn number_list<Kind>(
+    alloc: Global,
+    text: &[u8],
+) -> Result<Option<Numbers<Number<Kind>>>, Memory>
+    ensures { IfOk result (λ list. list ≡ numbers_of text.now) }
+{
+    let Some(list) = untold_list(alloc, text)? else {
+        return Ok(None);
+    };
+    let again = has_repeated(alloc, list.as_slice())?;
+    Ok(Some(list.told(!again)))
+}
+
+// Whether a number stands twice: as the list was told, or else by a sort. An error where memory runs out.
+fn is_repeated<Kind>(alloc: Global, list: &Numbers<Number<Kind>>) -> Result<bool, Memory>
+    ensures { IfOk result (λ again. again ≡ is_some (repeated [] list.now)) }
+{
+    match list.distinct_as_told() {
+        Some(told) => Ok(!told),
+        None => has_repeated(alloc, list.as_slice()),
+    }
 }
 
 /// Sources of which none stands twice.
@@ -123,7 +144,7 @@ impl DistinctSources {
         ensures { IfOk result (λ sources. sources
             ≡ (if is_some (repeated [] list) then None else Some list)) }
     {
-        if has_repeated(alloc, list.as_slice())? {
+        if is_repeated(alloc, &list)? {
             return Ok(None);
         }
         Ok(Some(DistinctSources { list }))

@@ -56,6 +56,7 @@ pub use Rattle.cad_map.proofs.Mergers.MergedRows.{CanMerge, faces-differ, merge-
 -- the chain that two faces share: it is found by steps along the rings, and it is the only one
 pub use Rattle.cad_map.proofs.SharedChains.FoundChains.{IsChainInRings, along-passed, around-back, common-along, ring-there, shared_chain-found}
 unfoldable pub use Rattle.cad_map.proofs.SharedChains.FoundChains.{along-found, around-found}
+pub use Rattle.cad_map.proofs.SharedChains.ChainsOfRings.{distinct-from_pairs}
 pub use Rattle.cad_map.proofs.SharedChains.Steps.{points_along}
 pub use Rattle.cad_map.proofs.SharedChains.StepsOfRings.{IsWalked, first-is, has_first, next-there, points_along-ring, round-least, side-place, side-same, steps-round, walked-same}
 pub use Rattle.cad_map.proofs.SharedChains.WholeSides.{comes_from, next-in_all, next-is, one_boundary, opposite-in_all, ring-walked}

@@ -1,22 +1,28 @@
 //! Lists of numbers.
-ghost use Rattle.std.specs.Prelude.{◌≡◌, ◌++◌, ◌∷◌, [], length, slice_get, ◌↔◌, IsTrue, OnOk, OnErr, IfOk};
+ghost use Rattle.std.specs.Prelude.{◌≡◌, ◌≢◌, ◌++◌, ◌∷◌, [], length, slice_get, ◌↔◌, IsTrue, OnOk, OnErr, IfOk, IfSome};
+ghost use Rattle.std.specs.List.{AllPairs};
 
 use crate::memory::Memory;
 use std::alloc::Global;
 use std::marker::Model;
 
-/// A list of numbers, in order.
+/// A list of numbers, in order. It may have been told whether one stands twice.
 #[derive(Debug, Drop)]
 pub struct Numbers<N> {
     items: Vec<N>,
+    distinct: Option<bool>,
 }
 
 impl<N> Model for Numbers<N> {
-    ghost use Rattle.std.specs.Prelude.{List};
+    ghost use Rattle.std.specs.Prelude.{List, IfSome, IsTrue, ◌↔◌, ◌≢◌};
+    ghost use Rattle.std.specs.List.{AllPairs};
 
     ghost Value = { List N };
 
     ghost view = { λ a. a.items.items };
+
+    ghost invariant = { λ a. IfSome a.distinct
+        (λ told. IsTrue told ↔ AllPairs (λ x y. x ≢ y) a.items.items) };
 }
 
 impl<N: Copy> Numbers<N> {
@@ -26,7 +32,26 @@ impl<N: Copy> Numbers<N> {
     {
         Numbers {
             items: Vec::new(alloc),
+            distinct: None,
         }
+    }
+
+    /// The same list, which is told whether no two of its numbers are equal.
+    pub fn told(self, distinct: bool) -> Self
+        requires { IsTrue distinct ↔ AllPairs (λ x y. x ≢ y) self }
+        ensures { result ≡ self }
+    {
+        Numbers {
+            items: self.items,
+            distinct: Some(distinct),
+        }
+    }
+
+    /// Whether no two numbers are equal, as the list was told. `None` where it wasn't told, or has grown since.
+    pub fn distinct_as_told(&self) -> Option<bool>
+        ensures { IfSome result (λ told. IsTrue told ↔ AllPairs (λ x y. x ≢ y) self.now) }
+    {
+        self.distinct
     }
 
     /// Puts a number last. Where memory runs out the list stays as it was.
@@ -35,6 +60,7 @@ impl<N: Copy> Numbers<N> {
         ensures err { OnErr result (self.new ≡ self.old) }
     {
         self.items.push(no)?;
+        self.distinct = None;
         Ok(())
     }
 
@@ -72,6 +98,9 @@ impl<N: Copy> Numbers<N> {
     {
         let alloc = *self.items.allocator();
         let items = Vec::from_slice(alloc, self.items.as_slice())?;
-        Ok(Numbers { items })
+        Ok(Numbers {
+            items,
+            distinct: self.distinct,
+        })
     }
 }

@@ -28,7 +28,7 @@ use Rattle.cad_map.proofs.SharedChains.StepsOfRings.{IsWalked, walked-same, side
 
 -- ---- Numbers none of which stands twice, in the other order
 
-distinct-from_pairs : (xs : List ℕ) → EachPair (λ a b. a ≢ b) xs → are_distinct xs ≡ true
+pub distinct-from_pairs : (xs : List ℕ) → EachPair (λ a b. a ≢ b) xs → are_distinct xs ≡ true
 distinct-from_pairs [] pairs = refl
 distinct-from_pairs (x ∷ xs) pairs = rw (list_any-none (λ y. x == y) xs other) (distinct-from_pairs xs pairs.1)
   where

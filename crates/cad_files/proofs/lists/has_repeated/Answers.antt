@@ -3,7 +3,7 @@ use Rattle.cad_files.proofs.RepeatedSources.{repeated-told}
 use Rattle.cad_files.proofs.lists.has_repeated.Goals as goal
 
 pub returns : goal.returns
-returns c =
+returns g c =
     let list : List ℕ = c.args.list.now in
     let keys : List ℕ = c.as_slice.result.now in
     let same : keys ≡ list = c.as_slice.ensures.value ∙ c.in_ok-keys.ensures in

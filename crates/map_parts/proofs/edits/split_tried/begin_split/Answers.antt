@@ -1,4 +1,4 @@
-use Rattle.std.proofs.Common.{◌∙◌, ◌+◌, ap, sym, length}
+use Rattle.std.proofs.Common.{◌∙◌, ◌+◌, ap, sym, length, arith}
 use Rattle.half_table.specs.Count.{ticked, one_more}
 use Rattle.half_table.specs.Half.{forward_of, backward_of}
 use Rattle.half_table.specs.Rows.{cycle}
@@ -40,3 +40,7 @@ returns-clause-work g c =
     let ring = length (cycle done (forward_of c.args.first.number)) + length (cycle done (backward_of c.args.second.number)) + 5 in
     c.split.ensures.work ∙ ap (ticked ring) (c.in_default.ensures.work ∙ ap one_more c.in_ok-add_loose.ensures.work)
     ∙ sym (ticked-add 2 ring c.args.table.now.work)
+
+pub returns-in-Err-clause-err_work : goal.returns-in-Err-clause-err_work
+returns-in-Err-clause-err_work g c =
+    (2, omega arith, c.remove_loose.ensures.work ∙ ap one_more (ap (λ t. t.work) c.in-Err.ensures.err ∙ c.in_ok-add_loose.ensures.work))

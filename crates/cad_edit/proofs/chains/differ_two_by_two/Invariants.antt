@@ -1,6 +1,6 @@
 use Rattle.std.proofs.Common.{◌≡◌, drop}
 use Rattle.cad_map.specs.Chain.{are_distinct}
-use Rattle.cad_edit.proofs.chains.are_distinct.Given as goal
+use Rattle.cad_edit.proofs.chains.differ_two_by_two.Given as goal
 
 -- the numbers that are left decide
 abbrev pub invariant-loop-place : goal.invariant-loop-place
