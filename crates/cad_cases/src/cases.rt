@@ -4,6 +4,7 @@ use cad_files::{MemSink, PlanFault};
 use cad_history::Depth;
 use cad_job::{JobFault, run_job};
 use cad_rows::Number;
+use number_hash::NumberHash;
 use std::alloc::Global;
 use std::process::Abort;
 use std::test::Fail;
@@ -99,7 +100,13 @@ fn check_case<R: Abort + AllocGlobal>(rt: &R, depth: Depth, case: &Case) -> Resu
     let job = lines(rt.alloc(), case.job)?;
     let answers = lines(rt.alloc(), case.answers)?;
     let mut sink = MemSink::new(rt.alloc(), u64::MAX);
-    let ended = run_job(rt.alloc(), job.as_slice(), &mut sink, depth);
+    let ended = run_job(
+        rt.alloc(),
+        NumberHash::fixed(),
+        job.as_slice(),
+        &mut sink,
+        depth,
+    );
     assert!(rt; ended == case.end, "how {} ends", case.name);
     assert!(rt;
         sink.bytes() == answers.as_slice(),

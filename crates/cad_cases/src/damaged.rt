@@ -3,6 +3,7 @@ use crate::bases::{ISLAND, OPEN, PLAN, SQUARE};
 use crate::cases::{answered, check, deep, faulty, lines};
 use cad_files::{MemSink, PlanFault};
 use cad_job::{JobFault, run_job};
+use number_hash::NumberHash;
 use std::alloc::Global;
 use std::process::Abort;
 use std::test::Fail;
@@ -35,7 +36,7 @@ fn check_bytes<R: Abort + AllocGlobal>(
     end: &Result<(), JobFault>,
 ) -> Result<(), Fail> {
     let mut sink = MemSink::new(rt.alloc(), u64::MAX);
-    let ended = run_job(rt.alloc(), job, &mut sink, deep(rt));
+    let ended = run_job(rt.alloc(), NumberHash::fixed(), job, &mut sink, deep(rt));
     assert_eq!(rt; ended, *end);
     assert!(rt; sink.bytes() == answers);
     Ok(())

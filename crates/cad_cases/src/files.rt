@@ -9,6 +9,7 @@ use cad_rows::{
     Edit, Face, Item, Memory, Name, ParcelNo, PointNo, Refusal, Rule, SourceNo, StringNo,
 };
 use csv::{ByteRecord, ReaderBuilder};
+use number_hash::NumberHash;
 use std::alloc::{AllocError, Global};
 use std::process::Abort;
 use std::test::Fail;
@@ -38,7 +39,7 @@ fn plan_or_fault(alloc: Global, plan: &str) -> Result<Vec<u8>, AllocError> {
         Ok(rows) => rows,
         Err(fault) => return text_of(alloc, fault),
     };
-    let map = match build(alloc, &rows) {
+    let map = match build(alloc, NumberHash::fixed(), &rows) {
         Ok(map) => map,
         Err(fault) => return text_of(alloc, fault),
     };
@@ -481,7 +482,7 @@ fn copied(alloc: Global, plan: &str) -> Result<Vec<u8>, Memory> {
     let Ok(rows) = plan_rows(alloc, plan) else {
         return Err(Memory);
     };
-    let Ok(map) = build(alloc, &rows) else {
+    let Ok(map) = build(alloc, NumberHash::fixed(), &rows) else {
         return Err(Memory);
     };
     let copied = PlainMap::of_view(alloc, &map)?;

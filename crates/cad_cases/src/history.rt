@@ -11,6 +11,7 @@ use cad_history::{Answer, Command, Depth, Editor, run};
 use cad_map::{MapStore, PlainMap};
 use cad_rows::Memory;
 use csv::{ByteRecord, ReaderBuilder};
+use number_hash::NumberHash;
 use std::alloc::Global;
 use std::test::Fail;
 
@@ -31,7 +32,7 @@ pub(crate) fn map_of(alloc: Global, plan: &[u8]) -> Result<PlainMap, Fail>
         .has_headers(false)
         .from_reader(alloc, plan);
     let rows = read_plan(alloc, &mut reader).ok().ok_or("a plan")?;
-    match build(alloc, &rows) {
+    match build(alloc, NumberHash::fixed(), &rows) {
         Ok(map) => Ok(map),
         Err(_) => Err(Fail::from("a map")),
     }

@@ -5,6 +5,7 @@ use crate::cases::{deep, lines};
 use crate::stores::run_plain;
 use cad_files::MemSink;
 use cad_job::run_job;
+use number_hash::NumberHash;
 use std::alloc::Global;
 use std::process::Abort;
 use std::test::Fail;
@@ -144,7 +145,13 @@ fn written_by_both<R: Abort + AllocGlobal>(
     job.extend_from_slice(last.as_slice())?;
     let mut halves = MemSink::new(rt.alloc(), u64::MAX);
     let mut plain = MemSink::new(rt.alloc(), u64::MAX);
-    let ended = run_job(rt.alloc(), job.as_slice(), &mut halves, deep(rt));
+    let ended = run_job(
+        rt.alloc(),
+        NumberHash::seeded(7),
+        job.as_slice(),
+        &mut halves,
+        deep(rt),
+    );
     assert_eq!(rt; ended, Ok(()));
     let ended = run_plain(rt.alloc(), job.as_slice(), &mut plain, deep(rt));
     assert_eq!(rt; ended, Ok(()));

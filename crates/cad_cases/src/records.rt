@@ -4,6 +4,7 @@ use cad_files::{MemSink, PlanFault};
 use cad_history::Depth;
 use cad_job::{JobFault, run_job};
 use cad_rows::{Name, PointNo, Rule, SourceNo};
+use number_hash::NumberHash;
 use std::test::Fail;
 
 #[test]
@@ -108,7 +109,13 @@ fn faults_that_name_a_row(rt: HostRuntime) -> Result<(), Fail> {
     ] {
         let depth = Depth::new(AMPLE_DEPTH).expect(&rt, "a depth");
         let mut sink = MemSink::new(rt.alloc(), u64::MAX);
-        let end = run_job(rt.alloc(), job.as_bytes(), &mut sink, depth);
+        let end = run_job(
+            rt.alloc(),
+            NumberHash::fixed(),
+            job.as_bytes(),
+            &mut sink,
+            depth,
+        );
         assert_eq!(rt; end, Err(JobFault::Plan(fault)), "{job}");
         assert!(rt; sink.bytes().is_empty(), "{job}");
     }
@@ -167,7 +174,7 @@ fn lines_of_all_kinds(rt: HostRuntime) -> Result<(), Fail> {
     ] {
         let depth = Depth::new(AMPLE_DEPTH).expect(&rt, "a depth");
         let mut sink = MemSink::new(rt.alloc(), u64::MAX);
-        let got = run_job(rt.alloc(), job, &mut sink, depth);
+        let got = run_job(rt.alloc(), NumberHash::fixed(), job, &mut sink, depth);
         assert_eq!(rt; got, end);
         assert!(rt; sink.bytes() == answers);
     }

@@ -1,6 +1,7 @@
 use cad_map::{MapView, PlainMap, Stars};
 use cad_rows::{Memory, Numbers, PointNo, PointRow, StringNo, StringRow};
 use geo_exact::Pt;
+use number_hash::NumberHash;
 use std::alloc::Global;
 use std::process::Abort;
 use std::test::Fail;
@@ -68,7 +69,7 @@ fn check_ends(rt: &impl Abort, stars: &Stars, at: u32, wanted: [(u32, i64, i64, 
 #[test]
 fn strings_stand_at_their_points_in_order(rt: HostRuntime) -> Result<(), Fail> {
     let map = strings_alone(&rt, rt.alloc())?;
-    let stars = Stars::of(rt.alloc(), &map)?;
+    let stars = Stars::of(rt.alloc(), NumberHash::fixed(), &map)?;
     check_ends(&rt, &stars, 1, [(2, 30, -4, 0), (3, 0, 0, 2)]);
     // a string from a point to itself stands there once
     check_ends(&rt, &stars, 3, [(3, 0, 0, 1), (1, 0, 0, 2)]);

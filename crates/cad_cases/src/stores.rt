@@ -4,6 +4,7 @@ use cad_files::{MemSink, build, read_plan};
 use cad_history::Depth;
 use cad_job::{JobFault, run_script};
 use csv::ReaderBuilder;
+use number_hash::NumberHash;
 use std::alloc::Global;
 
 /// Runs a job as `run_job` does, but on the plain store.
@@ -20,7 +21,7 @@ pub(crate) fn run_plain(
         Ok(rows) => rows,
         Err(fault) => return Err(JobFault::Plan(fault)),
     };
-    let map = match build(alloc, &rows) {
+    let map = match build(alloc, NumberHash::fixed(), &rows) {
         Ok(map) => map,
         Err(fault) => return Err(JobFault::Plan(fault)),
     };

@@ -161,7 +161,7 @@ pub(crate) fn find_sides(
     if let Some(name) = missing_row(plain, rows) {
         return Err(PlanFault::Unknown(name));
     }
-    let stars = Stars::of(alloc, plain)?;
+    let stars = Stars::of(alloc, plain.hash(), plain)?;
     if let Some(string) = first_dangling(&stars, rows.strings.as_slice()) {
         return Err(PlanFault::Dangling(string));
     }

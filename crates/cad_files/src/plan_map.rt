@@ -10,19 +10,20 @@ use crate::faults::PlanFault;
 use crate::rows::PlanRows;
 use cad_map::{Counts, PlainMap};
 use cad_valid::first_broken_swept;
+use number_hash::NumberHash;
 use std::alloc::Global;
 
 /// Builds the map of a plan's rows: the rows in their order, and the rings that its strings make, found by followers as
 /// in de Berg et al., Computational Geometry, chapter 2.
 ///
 /// A fault is the first in the rows, or the first rule that their map breaks. Up to that rule it takes n log n steps for n
-/// strings, and at a point of d strings d squared.
-pub fn build(alloc: Global, rows: &PlanRows) -> Result<PlainMap, PlanFault>
+/// strings, and at a point of d strings d squared. The map's tables find numbers by the given hash.
+pub fn build(alloc: Global, hash: NumberHash, rows: &PlanRows) -> Result<PlainMap, PlanFault>
     ensures ok { IfOk result (IsBuilt rows.now) }
     ensures err { IfErr result (λ fault. fault ≢ faults.Memory → IsBuildFault rows.now fault) }
 {
     are_in_range(rows);
-    let mut plain = PlainMap::with_room(alloc, &counts_of(rows))?;
+    let mut plain = PlainMap::with_room(alloc, hash, &counts_of(rows))?;
     match put_rows(&mut plain, rows) {
         Ok(()) => {}
         Err(fault) => return Err(fault),

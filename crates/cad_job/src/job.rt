@@ -27,6 +27,7 @@ use cad_rows::{Memory, Refusal};
 use cad_surgery::HalfMap;
 use csv::{ByteRecord, Reader, ReaderBuilder};
 use half_table::Ticks;
+use number_hash::NumberHash;
 use std::alloc::Global;
 use std::io::Read;
 
@@ -42,9 +43,10 @@ fn fault_of_plan(fault: PlanFault) -> JobFault
 }
 
 /// Reads a plan and a script, and writes the answer to each record of the script. At most so many edits can be
-/// undone as the depth says.
+/// undone as the depth says. The hash is the one by which the map's tables find numbers: no answer depends on it.
 pub fn run_job<R: Read + Drop, S: Sink>(
     alloc: Global,
+    hash: NumberHash,
     reader: R,
     sink: &mut S,
     depth: Depth,
@@ -66,7 +68,7 @@ pub fn run_job<R: Read + Drop, S: Sink>(
         Ok(rows) => rows,
         Err(fault) => return Err(fault_of_plan(fault)),
     };
-    let store = match store_of(alloc, &rows) {
+    let store = match store_of(alloc, hash, &rows) {
         Ok(store) => store,
         Err(fault) => return Err(fault_of_plan(fault)),
     };
@@ -74,11 +76,11 @@ pub fn run_job<R: Read + Drop, S: Sink>(
 }
 
 /// The map of a plan's rows on half-edges, on which a script is done. A fault is that of [`build`].
-fn store_of(alloc: Global, rows: &PlanRows) -> Result<HalfMap<Ticks>, PlanFault>
+fn store_of(alloc: Global, hash: NumberHash, rows: &PlanRows) -> Result<HalfMap<Ticks>, PlanFault>
     ensures ok { IfOk result (λ store. IsBuilt rows.now (map_of store)) }
     ensures err { IfErr result (λ fault. fault ≢ faults.Memory → IsBuildFault rows.now fault) }
 {
-    let map = build(alloc, rows)?;
+    let map = build(alloc, hash, rows)?;
     match HalfMap::of(alloc, &map, Ticks::new()) {
         Ok(store) => Ok(store),
         Err(_) => Err(PlanFault::Memory),

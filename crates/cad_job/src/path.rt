@@ -6,10 +6,12 @@ use crate::faults::JobFault;
 use crate::job::run_job;
 use cad_files::Sink;
 use cad_history::Depth;
+use number_hash::NumberHash;
 use std::fs::{self, Files};
+use std::random::RandomSource;
 
 /// Does the job in the file at this path. `Read` where the file can't be opened.
-pub fn run_path<R: Files + AllocGlobal, S: Sink>(
+pub fn run_path<R: Files + RandomSource + AllocGlobal, S: Sink>(
     rt: &R,
     path: &str,
     sink: &mut S,
@@ -23,7 +25,7 @@ where
     ensures quiet { OnOk result (S.failures sink.new ≡ S.failures sink.old) }
 {
     match fs::open(rt, path) {
-        Ok(file) => run_job(rt.alloc(), file, sink, depth),
+        Ok(file) => run_job(rt.alloc(), NumberHash::drawn(rt), file, sink, depth),
         Err(_) => Err(JobFault::Read),
     }
 }

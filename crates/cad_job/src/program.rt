@@ -10,13 +10,18 @@ use crate::path::run_path;
 use cad_files::OutSink;
 use clap::Error;
 use clap::error::ErrorKind;
+use number_hash::NumberHash;
 use std::fs::Files;
 use std::io::{self, BufWriter};
+use std::random::RandomSource;
 
 /// Reads the words of the command line, the program's name first, and does the job that they name: that in a file, or
 /// on standard input. Its answers go to standard output, and a fault is told on standard error. Gives the status with
 /// which the program ends.
-pub fn run_words<R: Files + Input + Print + Eprint + AllocGlobal>(rt: &R, words: &[&str]) -> u8
+pub fn run_words<R: Files + RandomSource + Input + Print + Eprint + AllocGlobal>(
+    rt: &R,
+    words: &[&str],
+) -> u8
 where
     R::File: Drop,
 {
@@ -27,7 +32,10 @@ where
 }
 
 /// Does the job that the arguments name.
-fn run_args<R: Files + Input + Print + Eprint + AllocGlobal>(rt: &R, args: &Args<'_>) -> u8
+fn run_args<R: Files + RandomSource + Input + Print + Eprint + AllocGlobal>(
+    rt: &R,
+    args: &Args<'_>,
+) -> u8
 where
     R::File: Drop,
 {
@@ -38,7 +46,10 @@ where
 }
 
 /// How the job that the arguments name ends.
-fn job_of<R: Files + Input + Print + AllocGlobal>(rt: &R, args: &Args<'_>) -> Result<(), JobFault>
+fn job_of<R: Files + RandomSource + Input + Print + AllocGlobal>(
+    rt: &R,
+    args: &Args<'_>,
+) -> Result<(), JobFault>
 where
     R::File: Drop,
 {
@@ -49,7 +60,13 @@ where
     let mut sink = OutSink::new(out);
     match args.file {
         Some(path) => run_path(rt, path, &mut sink, args.depth),
-        None => run_job(alloc, rt.reader(), &mut sink, args.depth),
+        None => run_job(
+            alloc,
+            NumberHash::drawn(rt),
+            rt.reader(),
+            &mut sink,
+            args.depth,
+        ),
     }
 }
 

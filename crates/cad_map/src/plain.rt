@@ -15,6 +15,7 @@ use crate::table::{Numbered, Table};
 use cad_rows::{
     Face, Memory, ParcelNo, ParcelRow, PointNo, PointRow, SourceNo, SourceRow, StringNo, StringRow,
 };
+use number_hash::NumberHash;
 use std::alloc::Global;
 use std::marker::Model;
 
@@ -112,32 +113,33 @@ impl Model for PlainMap {
 }
 
 impl PlainMap {
-    /// The map without rows.
+    /// The map without rows, whose tables find numbers by the fixed hash: for maps that no stranger wrote.
     pub fn empty(alloc: Global) -> PlainMap
         ensures empty { result ≡ empty_map }
         ensures valid { IsValid result }
     {
+        let hash = NumberHash::fixed();
         PlainMap {
-            sources: Table::new(alloc),
-            points: Table::new(alloc),
-            parcels: Table::new(alloc),
-            strings: Table::new(alloc),
-            retired: Retired::new(alloc),
+            sources: Table::new(alloc, hash),
+            points: Table::new(alloc, hash),
+            parcels: Table::new(alloc, hash),
+            strings: Table::new(alloc, hash),
+            retired: Retired::new(alloc, hash),
             boundaries: Vec::new(alloc),
         }
     }
 
     /// The map without rows, and with room for so many of each kind, so that its tables need not grow
-    /// for them.
-    pub fn with_room(alloc: Global, counts: &Counts) -> Result<PlainMap, Memory>
+    /// for them; they will find numbers by this hash.
+    pub fn with_room(alloc: Global, hash: NumberHash, counts: &Counts) -> Result<PlainMap, Memory>
         ensures empty { IfOk result (λ made. made ≡ empty_map) }
     {
         Ok(PlainMap {
-            sources: Table::with_room(alloc, counts.sources)?,
-            points: Table::with_room(alloc, counts.points)?,
-            parcels: Table::with_room(alloc, counts.parcels)?,
-            strings: Table::with_room(alloc, counts.strings)?,
-            retired: Retired::new(alloc),
+            sources: Table::with_room(alloc, hash, counts.sources)?,
+            points: Table::with_room(alloc, hash, counts.points)?,
+            parcels: Table::with_room(alloc, hash, counts.parcels)?,
+            strings: Table::with_room(alloc, hash, counts.strings)?,
+            retired: Retired::new(alloc, hash),
             boundaries: Vec::new(alloc),
         })
     }
@@ -145,6 +147,11 @@ impl PlainMap {
     /// What the map takes its memory from.
     pub fn allocator(&self) -> Global {
         self.points.allocator()
+    }
+
+    /// How the map's tables find numbers.
+    pub fn hash(&self) -> NumberHash {
+        self.points.hash()
     }
 
     /// An equal map.

@@ -4,6 +4,7 @@ ghost use Rattle.std.specs.List.{list_any};
 
 use cad_rows::{Memory, Numbers, ParcelNo};
 use indexmap::IndexSet;
+use number_hash::NumberHash;
 use std::alloc::Global;
 use std::marker::Model;
 
@@ -12,7 +13,7 @@ use std::marker::Model;
 pub(crate) struct Retired {
     list: Numbers<ParcelNo>,
     // The same numbers, each once.
-    found: IndexSet<u32>,
+    found: IndexSet<u32, NumberHash>,
 }
 
 impl Model for Retired {
@@ -28,12 +29,12 @@ impl Model for Retired {
 }
 
 impl Retired {
-    pub(crate) fn new(alloc: Global) -> Retired
+    pub(crate) fn new(alloc: Global, hash: NumberHash) -> Retired
         ensures { result ≡ [] }
     {
         Retired {
             list: Numbers::new(alloc),
-            found: IndexSet::new(alloc),
+            found: IndexSet::with_hasher(alloc, hash),
         }
     }
 
@@ -73,7 +74,7 @@ impl Retired {
     pub(crate) fn copy(&self) -> Result<Retired, Memory>
         ensures { IfOk result (λ copied. copied ≡ self.now) }
     {
-        let mut copied = Retired::new(*self.found.allocator());
+        let mut copied = Retired::new(*self.found.allocator(), *self.found.hasher());
         for place in 0..self.len() {
             copied.push(self.get(place).unwrap())?;
         }

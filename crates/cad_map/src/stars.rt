@@ -9,6 +9,7 @@ use crate::store::MapView;
 use cad_rows::{Memory, PointNo, StringRow};
 use geo_exact::Pt;
 use key_lists::KeyLists;
+use number_hash::NumberHash;
 use std::alloc::Global;
 use std::marker::Model;
 
@@ -88,12 +89,13 @@ fn put_spokes<M: MapView>(
 }
 
 impl Stars {
-    /// The strings of each point of this map. It takes a few steps a string.
-    pub fn of<M: MapView>(alloc: Global, map: &M) -> Result<Stars, Memory>
+    /// The strings of each point of this map, which are found by the given hash. It takes a few steps a
+    /// string.
+    pub fn of<M: MapView>(alloc: Global, hash: NumberHash, map: &M) -> Result<Stars, Memory>
         ensures { IfOk result
             (λ stars. (p : ℕ) → items_at stars p ≡ star p (spokes_of (M.map map.now))) }
     {
-        let mut spokes = KeyLists::with_room(alloc, map.counts().points)?;
+        let mut spokes = KeyLists::with_room(alloc, hash, map.counts().points)?;
         for place in 0..map.counts().strings {
             put_spokes(&mut spokes, map, place, map.string_at(place).unwrap())?;
         }

@@ -5,6 +5,7 @@ ghost use Rattle.cad_map.specs.Table.{row_with, without_row, with_row};
 
 use cad_rows::Memory;
 use indexmap::IndexMap;
+use number_hash::NumberHash;
 use std::alloc::Global;
 use std::marker::Model;
 
@@ -24,7 +25,7 @@ pub trait Numbered: Drop {
 /// Rows in order of entry. No two have the same number.
 #[derive(Drop)]
 pub struct Table<R: Numbered> {
-    rows: IndexMap<u32, R>,
+    rows: IndexMap<u32, R, NumberHash>,
 }
 
 impl<R: Numbered> Model for Table<R> {
@@ -40,26 +41,32 @@ impl<R: Numbered> Model for Table<R> {
 }
 
 impl<R: Numbered> Table<R> {
-    pub fn new(alloc: Global) -> Table<R>
+    /// No rows. Their numbers will be found by this hash.
+    pub fn new(alloc: Global, hash: NumberHash) -> Table<R>
         ensures { result ≡ [] }
     {
         Table {
-            rows: IndexMap::new(alloc),
+            rows: IndexMap::with_hasher(alloc, hash),
         }
     }
 
     /// No rows, and room for so many, so that the table need not grow for them.
-    pub fn with_room(alloc: Global, rows: usize) -> Result<Table<R>, Memory>
+    pub fn with_room(alloc: Global, hash: NumberHash, rows: usize) -> Result<Table<R>, Memory>
         ensures { IfOk result (λ table. table ≡ []) }
     {
         Ok(Table {
-            rows: IndexMap::with_capacity(alloc, rows)?,
+            rows: IndexMap::with_capacity_and_hasher(alloc, rows, hash)?,
         })
     }
 
     /// What the table takes its memory from.
     pub fn allocator(&self) -> Global {
         *self.rows.allocator()
+    }
+
+    /// How the table finds numbers.
+    pub fn hash(&self) -> NumberHash {
+        *self.rows.hasher()
     }
 
     pub fn len(&self) -> usize
@@ -114,7 +121,7 @@ impl<R: Numbered> Table<R> {
     pub fn copy(&self) -> Result<Table<R>, Memory>
         ensures { IfOk result (λ copied. copied ≡ self.now) }
     {
-        let mut copied = Table::new(*self.rows.allocator());
+        let mut copied = Table::new(*self.rows.allocator(), self.hash());
         for place in 0..self.len() {
             let row = self.at(place).unwrap();
             copied.put(row.copied()?)?;

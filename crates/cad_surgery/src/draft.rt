@@ -80,8 +80,8 @@ impl<T: Tally> Draft<T> {
     {
         let rows = MapRows::of(alloc, map)?;
         let counts = map.counts();
-        let mut table = HalfTable::with_room(alloc, counts.strings, tally)?;
-        let mut stars = KeyLists::with_room(alloc, counts.points)?;
+        let mut table = HalfTable::with_room(alloc, map.hash(), counts.strings, tally)?;
+        let mut stars = KeyLists::with_room(alloc, map.hash(), counts.points)?;
         add_strings(map, &mut table, &mut stars)?;
         link_rings(map, &mut table, &stars);
         let kept = label_rings(alloc, map, &mut table, &stars)?;

@@ -12,12 +12,13 @@ use cad_map::PlainMap;
 use cad_rings::Ring;
 use cad_rows::{Face, Memory, PointNo};
 use indexmap::IndexSet;
+use number_hash::NumberHash;
 use std::alloc::Global;
 
 // Walks on to a point. Where it stands on the open path, the part of the path since then is closed to a ring.
 fn walk_to(
     alloc: Global,
-    path: &mut IndexSet<PointNo>,
+    path: &mut IndexSet<PointNo, NumberHash>,
     pieces: &mut Vec<Ring>,
     point: PointNo,
 ) -> Result<(), Memory>
@@ -40,13 +41,14 @@ fn walk_to(
 }
 
 /// Cuts a ring where it passes a point twice, into rings that pass no point twice: together they have its sides and no
-/// others. Takes a look into a table for each point. `Err` where memory runs out.
-pub fn cut_ring(alloc: Global, ring: &Ring) -> Result<Vec<Ring>, Memory>
+/// others. Takes a look into a table for each point, which it finds by the given hash. `Err`
+/// where memory runs out.
+pub fn cut_ring(alloc: Global, hash: NumberHash, ring: &Ring) -> Result<Vec<Ring>, Memory>
     requires { HasTwoEndsEach ring.now }
     ensures { IfOk result (λ pieces. AreCutFrom (ring.now ∷ []) pieces.items) }
 {
     let mut pieces = Vec::new(alloc);
-    let mut path = IndexSet::new(alloc);
+    let mut path = IndexSet::with_hasher(alloc, hash);
     let points = ring.points();
     for place in 0..ring.len() {
         walk_to(alloc, &mut path, &mut pieces, points[place])?;
@@ -63,7 +65,7 @@ pub fn cut_rings(alloc: Global, map: &PlainMap, face: Face) -> Result<Vec<Ring>,
     let mut pieces = Vec::new(alloc);
     let rings = map.run_of(face);
     for place in 0..rings.len() {
-        let mut cut = cut_ring(alloc, &rings[place].ring)?;
+        let mut cut = cut_ring(alloc, map.hash(), &rings[place].ring)?;
         pieces.append(&mut cut)?;
     }
     Ok(pieces)

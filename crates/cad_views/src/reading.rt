@@ -7,6 +7,7 @@ ghost use Rattle.cad_views.specs.Reading.{IsPlanOf, IsFaultOf};
 use cad_files::{PlanFault, PlanRows, build, read_plan};
 use cad_map::PlainMap;
 use csv::ReaderBuilder;
+use number_hash::NumberHash;
 use std::alloc::Global;
 use std::io::Read;
 
@@ -26,8 +27,12 @@ impl Drop for Plan {
     }
 }
 
-/// Reads a plan up to its `open` record, and builds its map.
-pub fn read_map<R: Read + Drop>(alloc: Global, reader: R) -> Result<Plan, PlanFault>
+/// Reads a plan up to its `open` record, and builds its map, whose tables find numbers by the given hash.
+pub fn read_map<R: Read + Drop>(
+    alloc: Global,
+    hash: NumberHash,
+    reader: R,
+) -> Result<Plan, PlanFault>
     ensures built { IfOk result (λ plan. IsBuilt plan.rows plan.map) }
     // What the text is, where the reader tells its bytes.
     ensures read { IfSome (R.remaining reader)
@@ -42,7 +47,7 @@ pub fn read_map<R: Read + Drop>(alloc: Global, reader: R) -> Result<Plan, PlanFa
         Ok(rows) => rows,
         Err(fault) => return Err(fault),
     };
-    let map = match build(alloc, &rows) {
+    let map = match build(alloc, hash, &rows) {
         Ok(map) => map,
         Err(fault) => return Err(fault),
     };

@@ -16,6 +16,7 @@ use crate::near::NearEntries;
 use crate::segments::Segments;
 use cad_rows::{Memory, PointNo, StringNo};
 use geo_exact::Pt;
+use number_hash::NumberHash;
 use std::alloc::Global;
 use std::marker::Model;
 
@@ -56,16 +57,16 @@ impl Model for CellGrid {
 }
 
 impl CellGrid {
-    /// A grid that holds nothing. The side of its cells is in millimetres, from 1,000 to
-    /// 1,000,000,000.
-    pub fn new(alloc: Global, side: u64) -> Result<CellGrid, Memory>
+    /// A grid that holds nothing and will find cells by this hash. The side of a cell is in
+    /// millimetres, from 1,000 to 1,000,000,000.
+    pub fn new(alloc: Global, hash: NumberHash, side: u64) -> Result<CellGrid, Memory>
         requires { IsSide side }
         ensures strings { IfOk result (λ grid. HoldsNone grid.strings) }
         ensures points { IfOk result (λ grid. HoldsNone grid.points) }
     {
         Ok(CellGrid {
-            strings: Segments::new(alloc, side),
-            points: Segments::new(alloc, side),
+            strings: Segments::new(alloc, hash, side),
+            points: Segments::new(alloc, hash, side),
         })
     }
 

@@ -5,6 +5,7 @@ ghost use Rattle.cell_grid.specs.Near.{list_in_turn};
 
 use crate::entry::Entry;
 use indexmap::IndexMap;
+use number_hash::NumberHash;
 use std::alloc::{AllocError, Global};
 use std::marker::Model;
 
@@ -14,7 +15,7 @@ use std::marker::Model;
 /// where no entry is left.
 #[derive(Drop)]
 pub(crate) struct CellLists {
-    lists: IndexMap<u64, Vec<Entry>>,
+    lists: IndexMap<u64, Vec<Entry>, NumberHash>,
 }
 
 impl Model for CellLists {
@@ -27,11 +28,11 @@ impl Model for CellLists {
 
 impl CellLists {
     /// No entries, and no room in any cell.
-    pub(crate) fn new(alloc: Global) -> CellLists
+    pub(crate) fn new(alloc: Global, hash: NumberHash) -> CellLists
         ensures { result ≡ [] }
     {
         CellLists {
-            lists: IndexMap::new(alloc),
+            lists: IndexMap::with_hasher(alloc, hash),
         }
     }
 

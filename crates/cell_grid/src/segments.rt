@@ -11,6 +11,7 @@ use crate::block::{Block, block_of};
 use crate::entry::{Entry, is_same};
 use crate::lists::CellLists;
 use cad_rows::Memory;
+use number_hash::NumberHash;
 use std::alloc::Global;
 
 /// A segment whose box touches more cells than this stands among the long ones: a list that every
@@ -80,14 +81,14 @@ fn take_each(lists: &mut CellLists, block: &Block, entry: &Entry)
 
 impl Segments {
     /// No segments, in cells of so many millimetres.
-    pub(crate) fn new(alloc: Global, side: u64) -> Segments
+    pub(crate) fn new(alloc: Global, hash: NumberHash, side: u64) -> Segments
         ensures side { result.side ≡ side }
         ensures spread { AreSpread result }
         ensures empty { HoldsNone (kept result) }
     {
         Segments {
             side,
-            lists: CellLists::new(alloc),
+            lists: CellLists::new(alloc, hash),
             long: Vec::new(alloc),
         }
     }

@@ -4,6 +4,7 @@ ghost use Rattle.cell_grid.specs.Grid.{HoldsString, HoldsPoint};
 use super::*;
 use cad_rows::{Memory, PointNo, StringNo};
 use geo_exact::Pt;
+use number_hash::NumberHash;
 use std::process::Abort;
 use std::test::Fail;
 
@@ -153,7 +154,7 @@ const ALL: [bool; 7] = [true, true, true, true, true, true, true];
 
 #[test]
 fn strings_and_points_of_a_square(rt: HostRuntime) -> Result<(), Fail> {
-    let mut grid = CellGrid::new(rt.alloc(), 1000)?;
+    let mut grid = CellGrid::new(rt.alloc(), NumberHash::fixed(), 1000)?;
     fill(&rt, &mut grid)?;
     assert_eq!(rt; strings_near(&rt, &grid, SOUTHWEST, NORTHEAST), ALL);
     assert_eq!(rt; points_near(&rt, &grid, SOUTHWEST, NORTHEAST), ALL);
@@ -170,7 +171,7 @@ fn strings_and_points_of_a_square(rt: HostRuntime) -> Result<(), Fail> {
 
 #[test]
 fn far_away(rt: HostRuntime) -> Result<(), Fail> {
-    let mut grid = CellGrid::new(rt.alloc(), 1000)?;
+    let mut grid = CellGrid::new(rt.alloc(), NumberHash::fixed(), 1000)?;
     fill(&rt, &mut grid)?;
     let no = string(&rt, 41);
     let a = position(&rt, (-1_000_000, 0));
@@ -191,7 +192,7 @@ fn far_away(rt: HostRuntime) -> Result<(), Fail> {
 
 #[test]
 fn long_string_from_its_middle(rt: HostRuntime) -> Result<(), Fail> {
-    let mut grid = CellGrid::new(rt.alloc(), 1000)?;
+    let mut grid = CellGrid::new(rt.alloc(), NumberHash::fixed(), 1000)?;
     let no = string(&rt, 51);
     let a = position(&rt, (0, 0));
     let b = position(&rt, (100_000, 100_000));
@@ -205,7 +206,7 @@ fn long_string_from_its_middle(rt: HostRuntime) -> Result<(), Fail> {
 
 #[test]
 fn taken_out(rt: HostRuntime) -> Result<(), Fail> {
-    let mut grid = CellGrid::new(rt.alloc(), 1000)?;
+    let mut grid = CellGrid::new(rt.alloc(), NumberHash::fixed(), 1000)?;
     fill(&rt, &mut grid)?;
     let a = position(&rt, (-2500, 500));
     let b = position(&rt, (2500, 600));
@@ -225,7 +226,7 @@ fn taken_out(rt: HostRuntime) -> Result<(), Fail> {
 
 #[test]
 fn strings_across_many_cells(rt: HostRuntime) -> Result<(), Fail> {
-    let mut grid = CellGrid::new(rt.alloc(), 1000)?;
+    let mut grid = CellGrid::new(rt.alloc(), NumberHash::fixed(), 1000)?;
     let a = position(&rt, (0, 0));
     let below = position(&rt, (30_000, -5));
     let above = position(&rt, (30_000, 5));

@@ -6,6 +6,7 @@ ghost use Rattle.std.specs.List.{IsDistinct};
 
 use crate::marks::Marks;
 use indexmap::IndexMap;
+use number_hash::NumberHash;
 use std::alloc::{AllocError, Global};
 use std::marker::Model;
 
@@ -21,7 +22,7 @@ use std::marker::Model;
 /// To look a row up by its number takes a look into the table; a place, and the row at a place,
 /// take time by the number of blocks and the length of one.
 pub struct EntryList<V> {
-    pub(crate) slots: IndexMap<u64, Option<V>>,
+    pub(crate) slots: IndexMap<u64, Option<V>, NumberHash>,
     pub(crate) live: Marks,
     pub(crate) len: usize,
 }
@@ -48,25 +49,25 @@ impl<V> Model for EntryList<V> {
 }
 
 impl<V> EntryList<V> {
-    /// No rows and no slots.
-    pub fn new(alloc: Global) -> Self
+    /// No rows and no slots. The numbers will be found by this hash.
+    pub fn new(alloc: Global, hash: NumberHash) -> Self
         ensures { result ≡ [] }
     {
         EntryList {
-            slots: IndexMap::new(alloc),
+            slots: IndexMap::with_hasher(alloc, hash),
             live: Marks::new(alloc),
             len: 0,
         }
     }
 
     /// No rows and no slots, and a table with room for so many, which then need not grow.
-    pub fn with_room(alloc: Global, rows: usize) -> Result<Self, AllocError>
+    pub fn with_room(alloc: Global, hash: NumberHash, rows: usize) -> Result<Self, AllocError>
     where
         V: Drop,
         ensures none { IfOk result (λ list. list ≡ []) }
     {
         Ok(EntryList {
-            slots: IndexMap::with_capacity(alloc, rows)?,
+            slots: IndexMap::with_capacity_and_hasher(alloc, rows, hash)?,
             live: Marks::new(alloc),
             len: 0,
         })

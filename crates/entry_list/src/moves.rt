@@ -7,6 +7,7 @@ ghost use Rattle.indexmap.specs.IndexMap.{index_map_len};
 use crate::list::EntryList;
 use crate::marks::Marks;
 use indexmap::IndexMap;
+use number_hash::NumberHash;
 
 impl<V> EntryList<V> {
     // Brings the number's empty slot to where a row at the place belongs, and gives the slot.
@@ -105,7 +106,7 @@ pub(crate) fn mark_of<V>(row: &Option<V>) -> u8
 }
 
 // The mark of the slot.
-fn mark_at<V>(slots: &IndexMap<u64, Option<V>>, slot: usize) -> u8
+fn mark_at<V>(slots: &IndexMap<u64, Option<V>, NumberHash>, slot: usize) -> u8
     requires { slot < index_map_len slots.now }
     ensures mark { result ≡ slice_index (marks_of slots.now.entries) slot }
     ensures small { result ≤ 1 }
@@ -117,7 +118,12 @@ fn mark_at<V>(slots: &IndexMap<u64, Option<V>>, slot: usize) -> u8
 }
 
 // Sets the marks from the first to the last slot; those before and behind are right.
-fn mark_between<V>(slots: &IndexMap<u64, Option<V>>, live: &mut Marks, first: usize, last: usize)
+fn mark_between<V>(
+    slots: &IndexMap<u64, Option<V>, NumberHash>,
+    live: &mut Marks,
+    first: usize,
+    last: usize,
+)
     requires size { length live.old ≡ index_map_len slots.now }
     requires within { last < index_map_len slots.now }
     requires before { (k : ℕ) → k < first → HasMark slots.now.entries live.old k }

@@ -2,6 +2,7 @@ ghost use Rattle.std.specs.Prelude.{OnOk};
 ghost use Rattle.entry_list.specs.Slots.{HasSlot};
 
 use super::*;
+use number_hash::NumberHash;
 use std::alloc::AllocError;
 use std::process::Abort;
 use std::test::Fail;
@@ -82,7 +83,7 @@ fn fill(rt: &impl Abort, list: &mut EntryList<u8>) -> Result<(), AllocError> {
 
 #[test]
 fn reads(rt: HostRuntime) -> Result<(), Fail> {
-    let mut list = EntryList::new(rt.alloc());
+    let mut list = EntryList::new(rt.alloc(), NumberHash::fixed());
     assert_eq!(rt; list.len(), 0);
     fill(&rt, &mut list)?;
     assert_eq!(rt; list.len(), 4);
@@ -102,7 +103,7 @@ fn push(rt: &impl Abort, list: &mut EntryList<u8>, number: u64, row: u8) -> Resu
 
 #[test]
 fn pushed_with_a_slot_and_without(rt: HostRuntime) -> Result<(), Fail> {
-    let mut list = EntryList::with_room(rt.alloc(), 3)?;
+    let mut list = EntryList::with_room(rt.alloc(), NumberHash::fixed(), 3)?;
     push(&rt, &mut list, 5, 50)?;
     push(&rt, &mut list, 3, 30)?;
     push(&rt, &mut list, 4, 40)?;
@@ -116,7 +117,7 @@ fn pushed_with_a_slot_and_without(rt: HostRuntime) -> Result<(), Fail> {
 
 #[test]
 fn back_in_its_own_slot(rt: HostRuntime) -> Result<(), Fail> {
-    let mut list = EntryList::new(rt.alloc());
+    let mut list = EntryList::new(rt.alloc(), NumberHash::fixed());
     fill(&rt, &mut list)?;
     assert_eq!(rt; list.take(2), Some((1, 20)));
     assert_eq!(rt; list.take(2), None);
@@ -129,7 +130,7 @@ fn back_in_its_own_slot(rt: HostRuntime) -> Result<(), Fail> {
 
 #[test]
 fn moved_to_another_place(rt: HostRuntime) -> Result<(), Fail> {
-    let mut list = EntryList::new(rt.alloc());
+    let mut list = EntryList::new(rt.alloc(), NumberHash::fixed());
     fill(&rt, &mut list)?;
     assert_eq!(rt; list.take(2), Some((1, 20)));
     put_behind(&rt, &mut list, 2, 22)?;
@@ -144,7 +145,7 @@ fn moved_to_another_place(rt: HostRuntime) -> Result<(), Fail> {
 
 #[test]
 fn in_a_spare_slot(rt: HostRuntime) -> Result<(), Fail> {
-    let mut list = EntryList::new(rt.alloc());
+    let mut list = EntryList::new(rt.alloc(), NumberHash::fixed());
     fill(&rt, &mut list)?;
     spare(&rt, &mut list)?;
     spare(&rt, &mut list)?;
@@ -159,7 +160,7 @@ fn in_a_spare_slot(rt: HostRuntime) -> Result<(), Fail> {
 
 #[test]
 fn replaced_in_place(rt: HostRuntime) -> Result<(), Fail> {
-    let mut list = EntryList::new(rt.alloc());
+    let mut list = EntryList::new(rt.alloc(), NumberHash::fixed());
     fill(&rt, &mut list)?;
     assert!(rt; list.get(3).is_some());
     assert_eq!(rt; list.replace(3, 33), 30);
@@ -189,7 +190,7 @@ fn take_and_put(rt: &impl Abort, list: &mut EntryList<u64>, number: u64) {
 
 #[test]
 fn many_taken_out_and_put_back(rt: HostRuntime) -> Result<(), Fail> {
-    let mut list = EntryList::new(rt.alloc());
+    let mut list = EntryList::new(rt.alloc(), NumberHash::fixed());
     fill_many(&rt, &mut list)?;
     for step in 0..MANY {
         take_and_put(&rt, &mut list, step * 77_777 % MANY);

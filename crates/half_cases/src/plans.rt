@@ -7,6 +7,7 @@ use cad_history::Command;
 use cad_map::PlainMap;
 use cad_rows::Edit;
 use csv::{ByteRecord, ReaderBuilder};
+use number_hash::NumberHash;
 use std::alloc::Global;
 use std::test::Fail;
 
@@ -87,7 +88,7 @@ pub(crate) fn map_of(alloc: Global, plan: &str) -> Result<PlainMap, Fail>
         .has_headers(false)
         .from_reader(alloc, plan.as_bytes());
     let rows = read_plan(alloc, &mut reader).ok().ok_or("a plan")?;
-    match build(alloc, &rows) {
+    match build(alloc, NumberHash::fixed(), &rows) {
         Ok(map) => Ok(map),
         Err(_) => Err(Fail::from("a map")),
     }

@@ -8,8 +8,9 @@ use crate::half::Half;
 use crate::links::{Ends, Links};
 use cad_rows::{Face, StringNo};
 use indexmap::IndexMap;
+use number_hash::NumberHash;
 
-pub(crate) type Rows = IndexMap<StringNo, Ends>;
+pub(crate) type Rows = IndexMap<StringNo, Ends, NumberHash>;
 
 /// The links of a half.
 pub(crate) fn find_links(rows: &Rows, h: &Half) -> Option<Links>

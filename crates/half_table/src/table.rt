@@ -14,6 +14,7 @@ use crate::tally::Tally;
 use crate::walk::{Walk, walk_rows};
 use cad_rows::{Face, Memory, PointNo, StringNo};
 use indexmap::IndexMap;
+use number_hash::NumberHash;
 use std::alloc::Global;
 use std::marker::Model;
 
@@ -46,25 +47,30 @@ impl<T: Tally> Model for HalfTable<T> {
 }
 
 impl<T: Tally> HalfTable<T> {
-    /// A table without strings.
-    pub fn new(alloc: Global, tally: T) -> HalfTable<T>
+    /// A table without strings, which it will find by this hash.
+    pub fn new(alloc: Global, hash: NumberHash, tally: T) -> HalfTable<T>
         ensures rows { result.rows ≡ [] }
         ensures linked { IsLinked result.rows }
         ensures work { result.work ≡ T.counted tally }
     {
         HalfTable {
-            rows: IndexMap::new(alloc),
+            rows: IndexMap::with_hasher(alloc, hash),
             tally,
         }
     }
 
     /// A table without strings, and with room for so many, so that it need not grow for them.
-    pub fn with_room(alloc: Global, strings: usize, tally: T) -> Result<HalfTable<T>, Memory>
+    pub fn with_room(
+        alloc: Global,
+        hash: NumberHash,
+        strings: usize,
+        tally: T,
+    ) -> Result<HalfTable<T>, Memory>
         ensures rows { IfOk result (λ table. table.rows ≡ []) }
         ensures work { IfOk result (λ table. table.work ≡ T.counted tally) }
     {
         Ok(HalfTable {
-            rows: IndexMap::with_capacity(alloc, strings)?,
+            rows: IndexMap::with_capacity_and_hasher(alloc, strings, hash)?,
             tally,
         })
     }

@@ -4,6 +4,7 @@ ghost use Rattle.half_table.specs.Rows.{has};
 use crate::half::is_same;
 use crate::{Half, HalfTable, Ticks};
 use cad_rows::{Face, ParcelNo, PointNo, StringNo};
+use number_hash::NumberHash;
 use std::alloc::Global;
 use std::process::Abort;
 use std::test::Fail;
@@ -80,7 +81,7 @@ fn walked(
 #[test]
 fn splices_two_loose_strings(rt: HostRuntime) -> Result<(), Fail> {
     let alloc = rt.alloc();
-    let mut table = HalfTable::new(alloc, Ticks::new());
+    let mut table = HalfTable::new(alloc, NumberHash::fixed(), Ticks::new());
     add(&rt, &mut table, 11, 1, 2)?;
     add(&rt, &mut table, 12, 2, 3)?;
     assert_eq!(rt; table.work(), 2);
@@ -101,7 +102,7 @@ fn splices_two_loose_strings(rt: HostRuntime) -> Result<(), Fail> {
 #[test]
 fn builds_a_triangular_island(rt: HostRuntime) -> Result<(), Fail> {
     let alloc = rt.alloc();
-    let mut table = HalfTable::new(alloc, Ticks::new());
+    let mut table = HalfTable::new(alloc, NumberHash::fixed(), Ticks::new());
     add(&rt, &mut table, 31, 6, 7)?;
     add(&rt, &mut table, 32, 7, 8)?;
     add(&rt, &mut table, 33, 8, 6)?;
@@ -131,7 +132,7 @@ fn builds_a_triangular_island(rt: HostRuntime) -> Result<(), Fail> {
 #[test]
 fn one_half_follows_another(rt: HostRuntime) -> Result<(), Fail> {
     let alloc = rt.alloc();
-    let mut table = HalfTable::with_room(alloc, 2, Ticks::new())?;
+    let mut table = HalfTable::with_room(alloc, NumberHash::fixed(), 2, Ticks::new())?;
     add(&rt, &mut table, 11, 1, 2)?;
     add(&rt, &mut table, 12, 2, 3)?;
     let first = half(&rt, &table, 11, true);
@@ -146,7 +147,7 @@ fn one_half_follows_another(rt: HostRuntime) -> Result<(), Fail> {
 
 #[test]
 fn reads_a_loose_string(rt: HostRuntime) -> Result<(), Fail> {
-    let mut table = HalfTable::new(rt.alloc(), Ticks::new());
+    let mut table = HalfTable::new(rt.alloc(), NumberHash::fixed(), Ticks::new());
     add(&rt, &mut table, 33, 8, 6)?;
     let back = table.twin(half(&rt, &table, 33, true));
     assert!(rt; !back.forward);

@@ -3,6 +3,7 @@ ghost use Rattle.std.specs.Prelude.{◌≡◌, ◌≤◌, ◌<◌, ◌++◌, ◌
 ghost use Rattle.key_lists.specs.Held.{items_at, capacity_at, HasRoomAt, KeepsOthers, IsSame};
 
 use indexmap::IndexMap;
+use number_hash::NumberHash;
 use std::alloc::{AllocError, Global};
 use std::marker::Model;
 
@@ -12,7 +13,7 @@ use std::marker::Model;
 /// its room, also where no item is left, so a change that is taken back needs no memory either. Each
 /// call but those two takes a look into the table, and no time by the length of the list.
 pub struct KeyLists<X: Copy> {
-    lists: IndexMap<u64, Vec<X>>,
+    lists: IndexMap<u64, Vec<X>, NumberHash>,
 }
 
 // Written out, so that the end of one is a single call in a caller's proof.
@@ -31,22 +32,22 @@ impl<X: Copy> Model for KeyLists<X> {
 }
 
 impl<X: Copy> KeyLists<X> {
-    /// No items, and no room under any key.
-    pub fn new(alloc: Global) -> Self
+    /// No items, and no room under any key. The keys will be found by this hash.
+    pub fn new(alloc: Global, hash: NumberHash) -> Self
         ensures { result ≡ [] }
     {
         KeyLists {
-            lists: IndexMap::new(alloc),
+            lists: IndexMap::with_hasher(alloc, hash),
         }
     }
 
     /// No items, and a table with room for so many keys, which then need not grow.
-    pub fn with_room(alloc: Global, keys: usize) -> Result<Self, AllocError>
+    pub fn with_room(alloc: Global, hash: NumberHash, keys: usize) -> Result<Self, AllocError>
         ensures none { IfOk result (λ lists. lists ≡ []) }
         ensures succeeds { keys ≡ 0 → IsOk result }
     {
         Ok(KeyLists {
-            lists: IndexMap::with_capacity(alloc, keys)?,
+            lists: IndexMap::with_capacity_and_hasher(alloc, keys, hash)?,
         })
     }
 

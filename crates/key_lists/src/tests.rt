@@ -2,6 +2,7 @@ ghost use Rattle.std.specs.Prelude.{OnOk};
 ghost use Rattle.key_lists.specs.Held.{HasRoomAt};
 
 use super::*;
+use number_hash::NumberHash;
 use std::alloc::AllocError;
 use std::process::Abort;
 use std::test::Fail;
@@ -49,7 +50,7 @@ fn fill(rt: &impl Abort, lists: &mut KeyLists<u32>) -> Result<(), AllocError> {
 
 #[test]
 fn put_in_turn(rt: HostRuntime) -> Result<(), Fail> {
-    let mut lists = KeyLists::new(rt.alloc());
+    let mut lists = KeyLists::new(rt.alloc(), NumberHash::fixed());
     assert!(rt; lists.at(7).is_empty());
     fill(&rt, &mut lists)?;
     assert_eq!(rt; lists.at(7), [70, 71, 72, 73, 74, 75].as_slice());
@@ -60,7 +61,7 @@ fn put_in_turn(rt: HostRuntime) -> Result<(), Fail> {
 
 #[test]
 fn pushed_in_turn(rt: HostRuntime) -> Result<(), Fail> {
-    let mut lists = KeyLists::with_room(rt.alloc(), 2)?;
+    let mut lists = KeyLists::with_room(rt.alloc(), NumberHash::fixed(), 2)?;
     assert!(rt; lists.at(7).is_empty());
     for item in 70..76 {
         lists.push(7, item)?;
@@ -73,7 +74,7 @@ fn pushed_in_turn(rt: HostRuntime) -> Result<(), Fail> {
 
 #[test]
 fn taken_and_set(rt: HostRuntime) -> Result<(), Fail> {
-    let mut lists = KeyLists::new(rt.alloc());
+    let mut lists = KeyLists::new(rt.alloc(), NumberHash::fixed());
     fill(&rt, &mut lists)?;
     assert_eq!(rt; lists.at(7).len(), 6);
     assert_eq!(rt; lists.take(7, 1), 71);
@@ -88,7 +89,7 @@ fn taken_and_set(rt: HostRuntime) -> Result<(), Fail> {
 
 #[test]
 fn refused_for_want_of_address_space(rt: HostRuntime) -> Result<(), Fail> {
-    let mut lists = KeyLists::new(rt.alloc());
+    let mut lists = KeyLists::new(rt.alloc(), NumberHash::fixed());
     fill(&rt, &mut lists)?;
     assert!(rt; lists.reserve(7, usize::MAX).is_err());
     assert!(rt; lists.reserve(9, usize::MAX).is_err());

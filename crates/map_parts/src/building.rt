@@ -193,7 +193,7 @@ pub fn label_rings<T: Tally>(
     ensures kept { IfOk result (λ kept. (rows : HalfRows) → HoldsStrings map.now rows stars.now
         → HoldsRings map.now rows kept map.now.boundaries) }
 {
-    let mut kept = KeyLists::new(alloc);
+    let mut kept = KeyLists::new(alloc, map.hash());
     for boundary in map.boundaries() {
         let half = label_ring(map, table, stars, boundary);
         keep_half(&mut kept, boundary.face, half)?;

@@ -68,7 +68,7 @@ fn source_rows(alloc: Global, map: &PlainMap) -> Result<Rows<SourceRow>, Memory>
     requires { HasSoundRows map.now }
     ensures { IfOk result (λ rows. rows_in rows ≡ map.now.sources) }
 {
-    let mut rows = Rows::with_room(alloc, map.counts().sources)?;
+    let mut rows = Rows::with_room(alloc, map.hash(), map.counts().sources)?;
     for place in 0..map.counts().sources {
         let row = map.source_at(place).unwrap();
         rows.push(row.copy()?)?;
@@ -80,7 +80,7 @@ fn point_rows(alloc: Global, map: &PlainMap) -> Result<Rows<PointRow>, Memory>
     requires { HasSoundRows map.now }
     ensures { IfOk result (λ rows. rows_in rows ≡ map.now.points) }
 {
-    let mut rows = Rows::with_room(alloc, map.counts().points)?;
+    let mut rows = Rows::with_room(alloc, map.hash(), map.counts().points)?;
     for place in 0..map.counts().points {
         let row = map.point_at(place).unwrap();
         rows.push(row.copy()?)?;
@@ -92,7 +92,7 @@ fn parcel_rows(alloc: Global, map: &PlainMap) -> Result<Rows<ParcelRow>, Memory>
     requires { HasSoundRows map.now }
     ensures { IfOk result (λ rows. rows_in rows ≡ map.now.parcels) }
 {
-    let mut rows = Rows::with_room(alloc, map.counts().parcels)?;
+    let mut rows = Rows::with_room(alloc, map.hash(), map.counts().parcels)?;
     for place in 0..map.counts().parcels {
         let row = map.parcel_at(place).unwrap();
         rows.push(row.copy()?)?;
@@ -104,7 +104,7 @@ fn string_rows(alloc: Global, map: &PlainMap) -> Result<Rows<StringRow>, Memory>
     requires { HasSoundRows map.now }
     ensures { IfOk result (λ rows. rows_in rows ≡ map.now.strings) }
 {
-    let mut rows = Rows::with_room(alloc, map.counts().strings)?;
+    let mut rows = Rows::with_room(alloc, map.hash(), map.counts().strings)?;
     for place in 0..map.counts().strings {
         let row = map.string_at(place).unwrap();
         rows.push(row.copy()?)?;
@@ -116,7 +116,7 @@ fn retired_rows(alloc: Global, map: &PlainMap) -> Result<Rows<RetiredRow>, Memor
     requires { HasSoundRows map.now }
     ensures { IfOk result (λ rows. map_of (λ r. r.number) (rows_in rows) ≡ map.now.retired) }
 {
-    let mut rows = Rows::with_room(alloc, map.counts().retired)?;
+    let mut rows = Rows::with_room(alloc, map.hash(), map.counts().retired)?;
     for place in 0..map.counts().retired {
         let number = map.retired_at(place).unwrap();
         rows.push(RetiredRow { number })?;

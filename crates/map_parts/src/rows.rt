@@ -8,6 +8,7 @@ ghost use Rattle.map_parts.specs.Rows.{rows_in};
 use cad_map::Numbered;
 use cad_rows::Memory;
 use entry_list::EntryList;
+use number_hash::NumberHash;
 use std::alloc::Global;
 use std::marker::Model;
 
@@ -30,20 +31,21 @@ impl<R: Numbered> Model for Rows<R> {
 }
 
 impl<R: Numbered> Rows<R> {
-    pub fn new(alloc: Global) -> Rows<R>
+    /// No rows. Their numbers will be found by this hash.
+    pub fn new(alloc: Global, hash: NumberHash) -> Rows<R>
         ensures { result ≡ [] }
     {
         Rows {
-            list: EntryList::new(alloc),
+            list: EntryList::new(alloc, hash),
         }
     }
 
     /// No rows, and room for so many, so that they need not grow for them.
-    pub fn with_room(alloc: Global, rows: usize) -> Result<Rows<R>, Memory>
+    pub fn with_room(alloc: Global, hash: NumberHash, rows: usize) -> Result<Rows<R>, Memory>
         ensures { IfOk result (λ made. made ≡ []) }
     {
         Ok(Rows {
-            list: EntryList::with_room(alloc, rows)?,
+            list: EntryList::with_room(alloc, hash, rows)?,
         })
     }
 

@@ -4,6 +4,7 @@ ghost use Rattle.cad_files.specs.Building.{IsBuilt};
 
 use cad_files::PlanFault;
 use cad_views::{Plan, read_map};
+use number_hash::NumberHash;
 use std::alloc::Global;
 
 /// A parcel of 100 m by 100 m, whose lower left corner is the origin, and a point that stands alone.
@@ -83,5 +84,5 @@ open,,,,,,
 pub(crate) fn plan(alloc: Global, text: &str) -> Result<Plan, PlanFault>
     ensures { IfOk result (λ plan. IsBuilt plan.rows plan.map) }
 {
-    read_map(alloc, text.as_bytes())
+    read_map(alloc, NumberHash::fixed(), text.as_bytes())
 }

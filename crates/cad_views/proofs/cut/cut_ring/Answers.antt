@@ -7,7 +7,7 @@ use Rattle.cad_views.proofs.CutFacts.{walked-none, walked-all, front-apart, last
 use Rattle.cad_views.proofs.cut.cut_ring.Goals as goal
 
 pub loop-place-init : goal.loop-place-init
-loop-place-init c = rw (c.new-pieces.ensures.items, c.new-path.ensures.empty) walked-none
+loop-place-init c = rw (c.new-pieces.ensures.items, c.with_hasher-path.ensures.empty) walked-none
 
 pub walk_to-requires : goal.walk_to-requires
 walk_to-requires c =
