@@ -1,6 +1,11 @@
 //! The program's arguments.
-ghost use Rattle.std.specs.Prelude.{◌≡◌};
+ghost use Rattle.std.specs.Prelude.{◌≡◌, IfErr, IfNone, IfOk, IfSome, false, map};
 ghost use Rattle.clap.specs.Values.{kind_of};
+ghost use Rattle.clap.specs.Words.{app_of, found_of, rows_of, rule_of, subcommand_rows_of};
+ghost use Rattle.cadview.specs.Arguments.{AsksFor, IsCadview, IsTable, MatchesAskFor};
+ghost use Rattle.cadview.specs.Arguments.{SubcommandAsksFor, cadview_alone, diff, layer_name};
+ghost use Rattle.cadview.specs.Arguments.{IsRefused, MatchesAskForNone, NamesNoLayer};
+ghost use Rattle.cadview.specs.Arguments.{SubcommandAsksForNone, plan_rule, svg};
 ghost use Rattle.cadview.specs.Told.{status_of_kind};
 
 use clap::error::ErrorKind;
@@ -8,7 +13,7 @@ use clap::{Arg, ArgMatches, Command, Error};
 use std::alloc::{AllocError, Global};
 
 /// The program's version, as `--version` tells it.
-const VERSION: &str = "0.1.0";
+const VERSION: &str = "0.1.1";
 
 const ABOUT: &str = "\
 Shows a cadastral map: as a drawing, as tables with geometry, and what differs between two.";
@@ -56,7 +61,10 @@ pub enum View<'a> {
 }
 
 /// A plan that has to be named.
-fn plan_arg<'a>(alloc: Global, id: &'a str, name: &'a str, help: &'a str) -> Arg<'a> {
+fn plan_arg<'a>(alloc: Global, id: &'a str, name: &'a str, help: &'a str) -> Arg<'a>
+    ensures rule { rule_of result ≡ plan_rule id.entry.now }
+    ensures local { result.global ≡ false }
+{
     Arg::new(alloc, id)
         .value_name(name)
         .required(true)
@@ -64,7 +72,9 @@ fn plan_arg<'a>(alloc: Global, id: &'a str, name: &'a str, help: &'a str) -> Arg
 }
 
 /// `svg PLAN [--since OLD]`
-fn svg_command<'a>(alloc: Global) -> Result<Command<'a>, AllocError> {
+fn svg_command<'a>(alloc: Global) -> Result<Command<'a>, AllocError>
+    ensures { IfOk result (λ c. app_of c ≡ svg) }
+{
     let since = Arg::new(alloc, "since")
         .long("since")
         .value_name("OLD")
@@ -76,7 +86,9 @@ fn svg_command<'a>(alloc: Global) -> Result<Command<'a>, AllocError> {
 }
 
 /// `table PLAN [--layer LAYER]`
-fn table_command<'a>(alloc: Global) -> Result<Command<'a>, AllocError> {
+fn table_command<'a>(alloc: Global) -> Result<Command<'a>, AllocError>
+    ensures { IfOk result (λ c. IsTable (app_of c)) }
+{
     let layer = Arg::new(alloc, "layer")
         .long("layer")
         .value_name("LAYER")
@@ -90,7 +102,9 @@ fn table_command<'a>(alloc: Global) -> Result<Command<'a>, AllocError> {
 }
 
 /// `diff OLD NEW`
-fn diff_command<'a>(alloc: Global) -> Result<Command<'a>, AllocError> {
+fn diff_command<'a>(alloc: Global) -> Result<Command<'a>, AllocError>
+    ensures { IfOk result (λ c. app_of c ≡ diff) }
+{
     Command::new(alloc, "diff")
         .about("Writes what differs between two plans as CSV: kind, number, what was, what is")
         .arg(plan_arg(alloc, "old", "OLD", "The plan before"))?
@@ -98,7 +112,9 @@ fn diff_command<'a>(alloc: Global) -> Result<Command<'a>, AllocError> {
 }
 
 /// The program's name, and the texts of its help.
-fn described<'a>(alloc: Global) -> Command<'a> {
+fn described<'a>(alloc: Global) -> Command<'a>
+    ensures { app_of result ≡ cadview_alone }
+{
     Command::new(alloc, "cadview")
         .version(VERSION)
         .about(ABOUT)
@@ -108,23 +124,32 @@ fn described<'a>(alloc: Global) -> Command<'a> {
 }
 
 /// The program's command line.
-fn command_line<'a>(alloc: Global) -> Result<Command<'a>, AllocError> {
+fn command_line<'a>(alloc: Global) -> Result<Command<'a>, AllocError>
+    ensures { IfOk result (λ c. IsCadview (app_of c)) }
+{
     let command = described(alloc).subcommand(svg_command(alloc)?)?;
     let command = command.subcommand(table_command(alloc)?)?;
     command.subcommand(diff_command(alloc)?)
 }
 
 /// The layer with this name.
-fn layer_of(name: Option<&str>) -> Layer {
+fn layer_of(name: &str) -> Option<Layer>
+    ensures some { IfSome result (λ layer. name.now ≡ layer_name layer) }
+    ensures none { IfNone result (NamesNoLayer name.now) }
+{
     match name {
-        Some("strings") => Layer::Strings,
-        Some("points") => Layer::Points,
-        _ => Layer::Parcels,
+        "parcels" => Some(Layer::Parcels),
+        "strings" => Some(Layer::Strings),
+        "points" => Some(Layer::Points),
+        _ => None,
     }
 }
 
 /// The view that a subcommand's matches ask for.
-fn view_of<'a>(name: &str, matches: &ArgMatches<'a>) -> Option<View<'a>> {
+fn view_of<'a>(name: &str, matches: &ArgMatches<'a>) -> Option<View<'a>>
+    ensures some { IfSome result (MatchesAskFor name.now (rows_of (found_of matches.now))) }
+    ensures none { IfNone result (MatchesAskForNone name.now (rows_of (found_of matches.now))) }
+{
     match name {
         "svg" => Some(View::Svg {
             plan: matches.get_str("plan")?,
@@ -132,7 +157,7 @@ fn view_of<'a>(name: &str, matches: &ArgMatches<'a>) -> Option<View<'a>> {
         }),
         "table" => Some(View::Table {
             plan: matches.get_str("plan")?,
-            layer: layer_of(matches.get_str("layer")),
+            layer: layer_of(matches.get_str("layer")?)?,
         }),
         "diff" => Some(View::Diff {
             old: matches.get_str("old")?,
@@ -143,13 +168,19 @@ fn view_of<'a>(name: &str, matches: &ArgMatches<'a>) -> Option<View<'a>> {
 }
 
 /// The view that the matches of the command line ask for.
-fn view_asked<'a>(matches: &ArgMatches<'a>) -> Option<View<'a>> {
+fn view_asked<'a>(matches: &ArgMatches<'a>) -> Option<View<'a>>
+    ensures some { IfSome result (SubcommandAsksFor (subcommand_rows_of matches.now)) }
+    ensures none { IfNone result (SubcommandAsksForNone (subcommand_rows_of matches.now)) }
+{
     let (name, inner) = matches.subcommand()?;
     view_of(name, inner)
 }
 
 /// Reads the words of the command line, the program's name first. Fails as `clap` does, also for `--help` and `--version`.
-pub fn read_args<'a>(alloc: Global, words: &'a [&'a str]) -> Result<View<'a>, Error> {
+pub fn read_args<'a>(alloc: Global, words: &'a [&'a str]) -> Result<View<'a>, Error>
+    ensures ok { IfOk result (AsksFor (map (λ w. w.now) words.entry.now)) }
+    ensures err { IfErr result (λ e. IsRefused (map (λ w. w.now) words.entry.now) (kind_of e)) }
+{
     let mut command = command_line(alloc)?;
     let matches = command.try_get_matches_from_mut(words)?;
     match view_asked(&matches) {

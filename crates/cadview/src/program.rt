@@ -1,8 +1,11 @@
 //! What the program does with the words of its command line.
-ghost use Rattle.std.specs.Prelude.{◌≡◌, IfOk};
+ghost use Rattle.std.specs.Prelude.{◌≡◌, map, IfOk, IfErr, Ok, IsErrOf};
 ghost use Rattle.cad_files.specs.Building.{IsBuilt};
 ghost use Rattle.clap.specs.Values.{kind_of};
 ghost use Rattle.cadview.specs.Told.{status_of, status_of_kind};
+ghost use Rattle.cadview.specs.Views.{IsDifference, IsTable, IsTextOf, OfPlan};
+ghost use Rattle.cadview.specs.Views.{IsStatusOfView, IsStatusOfWords};
+ghost use Rattle.cadview.specs.declared.faults.ViewFault.TheVariants as faults;
 
 use crate::args::{Layer, View, args_status, read_args};
 use crate::faults::{ViewFault, status};
@@ -11,15 +14,21 @@ use cad_rows::Memory;
 use cad_views::{Plan, difference_text, draw, parcel_table, point_table, read_map, string_table};
 use clap::Error;
 use clap::error::ErrorKind;
+use number_hash::NumberHash;
 use std::alloc::Global;
 use std::fs::{self, Files};
 use std::io::{self, BufWriter};
+use std::random::RandomSource;
 
 /// Reads the words of the command line, the program's name first, and writes the view that they name to standard output. A
 /// fault is told on standard error. Gives the status with which the program ends.
-pub fn run_words<R: Files + Print + Eprint + AllocGlobal>(rt: &R, words: &[&str]) -> u8
+pub fn run_words<R: Files + RandomSource + Print + Eprint + AllocGlobal>(
+    rt: &R,
+    words: &[&str],
+) -> u8
 where
     R::File: Drop,
+    ensures { IsStatusOfWords (map (λ w. w.now) words.now) result }
 {
     match read_args(rt.alloc(), words) {
         Ok(view) => run_view(rt, &view),
@@ -28,9 +37,10 @@ where
 }
 
 /// Writes a view, and gives the status.
-fn run_view<R: Files + Print + Eprint + AllocGlobal>(rt: &R, view: &View<'_>) -> u8
+fn run_view<R: Files + RandomSource + Print + Eprint + AllocGlobal>(rt: &R, view: &View<'_>) -> u8
 where
     R::File: Drop,
+    ensures { IsStatusOfView result }
 {
     let written = match text_of(rt, view) {
         Ok(text) => write_out(rt, text.as_slice()),
@@ -43,7 +53,7 @@ where
 }
 
 /// The plan in a file.
-fn plan_in<R: Files + AllocGlobal>(rt: &R, path: &str) -> Result<Plan, ViewFault>
+fn plan_in<R: Files + RandomSource + AllocGlobal>(rt: &R, path: &str) -> Result<Plan, ViewFault>
 where
     R::File: Drop,
     ensures { IfOk result (λ plan. IsBuilt plan.rows plan.map) }
@@ -51,7 +61,7 @@ where
     let Ok(file) = fs::open(rt, path) else {
         return Err(ViewFault::Read);
     };
-    match read_map(rt.alloc(), file) {
+    match read_map(rt.alloc(), NumberHash::drawn(rt), file) {
         Ok(plan) => Ok(plan),
         Err(PlanFault::Read) => Err(ViewFault::Read),
         Err(PlanFault::Memory) => Err(ViewFault::Memory),
@@ -60,9 +70,13 @@ where
 }
 
 /// The text of a view.
-fn text_of<R: Files + AllocGlobal>(rt: &R, view: &View<'_>) -> Result<Vec<u8>, ViewFault>
+fn text_of<R: Files + RandomSource + AllocGlobal>(
+    rt: &R,
+    view: &View<'_>,
+) -> Result<Vec<u8>, ViewFault>
 where
     R::File: Drop,
+    ensures { IfOk result (λ text. IsTextOf view.now text.items) }
 {
     match view {
         View::Svg { plan, since } => svg_text(rt, plan, *since),
@@ -72,7 +86,7 @@ where
 }
 
 /// The drawing of the plan in a file, with what changed since an older one.
-fn svg_text<R: Files + AllocGlobal>(
+fn svg_text<R: Files + RandomSource + AllocGlobal>(
     rt: &R,
     path: &str,
     since: Option<&str>,
@@ -91,40 +105,58 @@ where
 }
 
 /// The table of the plan in a file.
-fn table_of<R: Files + AllocGlobal>(rt: &R, path: &str, layer: Layer) -> Result<Vec<u8>, ViewFault>
+fn table_of<R: Files + RandomSource + AllocGlobal>(
+    rt: &R,
+    path: &str,
+    layer: Layer,
+) -> Result<Vec<u8>, ViewFault>
 where
     R::File: Drop,
+    ensures { IfOk result (λ text. OfPlan (λ m. IsTable layer m text.items)) }
 {
     let plan = plan_in(rt, path)?;
     or_memory(table_text(rt, &plan, layer))
 }
 
 /// What differs between the plans in two files.
-fn diff_text<R: Files + AllocGlobal>(rt: &R, old: &str, new: &str) -> Result<Vec<u8>, ViewFault>
+fn diff_text<R: Files + RandomSource + AllocGlobal>(
+    rt: &R,
+    old: &str,
+    new: &str,
+) -> Result<Vec<u8>, ViewFault>
 where
     R::File: Drop,
+    ensures { IfOk result (λ text. OfPlan (λ m. OfPlan (λ m'. IsDifference m m' text.items))) }
 {
     let old = plan_in(rt, old)?;
     diff_from(rt, &old, new)
 }
 
 /// What differs between a plan and the newer one in a file.
-fn diff_from<R: Files + AllocGlobal>(rt: &R, old: &Plan, new: &str) -> Result<Vec<u8>, ViewFault>
+fn diff_from<R: Files + RandomSource + AllocGlobal>(
+    rt: &R,
+    old: &Plan,
+    new: &str,
+) -> Result<Vec<u8>, ViewFault>
 where
     R::File: Drop,
+    ensures { IfOk result (λ text. OfPlan (λ m. IsDifference old.now.map m text.items)) }
 {
     let new = plan_in(rt, new)?;
     or_memory(differences(rt.alloc(), old, &new))
 }
 
 /// What differs between two plans.
-fn differences(alloc: Global, old: &Plan, new: &Plan) -> Result<Vec<u8>, Memory> {
+fn differences(alloc: Global, old: &Plan, new: &Plan) -> Result<Vec<u8>, Memory>
+    ensures { IfOk result (λ text. IsDifference old.now.map new.now.map text.items) }
+{
     difference_text(alloc, &old.map, &new.map)
 }
 
 /// The table of a plan.
 fn table_text<R: AllocGlobal>(rt: &R, plan: &Plan, layer: Layer) -> Result<Vec<u8>, Memory>
     requires { IsBuilt plan.now.rows plan.now.map }
+    ensures { IfOk result (λ text. IsTable layer plan.now.map text.items) }
 {
     let alloc = rt.alloc();
     match layer {
@@ -135,7 +167,10 @@ fn table_text<R: AllocGlobal>(rt: &R, plan: &Plan, layer: Layer) -> Result<Vec<u
 }
 
 /// A text, or want of memory.
-fn or_memory(text: Result<Vec<u8>, Memory>) -> Result<Vec<u8>, ViewFault> {
+fn or_memory(text: Result<Vec<u8>, Memory>) -> Result<Vec<u8>, ViewFault>
+    ensures ok { IfOk text (λ told. result ≡ Ok told) }
+    ensures err { IfErr text (λ memory. IsErrOf result faults.Memory) }
+{
     match text {
         Ok(text) => Ok(text),
         Err(Memory) => Err(ViewFault::Memory),
