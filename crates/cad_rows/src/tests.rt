@@ -71,3 +71,16 @@ fn copies(rt: HostRuntime) -> Result<(), Fail> {
     assert!(rt; row.number == source && row.text.as_str() == "A");
     Ok(())
 }
+
+/// A list and its copy still say what the list was told; one that has grown says nothing of it.
+#[test]
+fn what_a_list_was_told(rt: HostRuntime) -> Result<(), Fail> {
+    let alloc = rt.alloc();
+    let number = PointNo::new(3).expect(&rt, "a number");
+    let mut list: Numbers<PointNo> = Numbers::new(alloc).told(true);
+    assert!(rt; list.distinct_as_told() == Some(true));
+    assert!(rt; list.copy()?.distinct_as_told() == Some(true));
+    list.push(number)?;
+    assert!(rt; list.distinct_as_told().is_none());
+    Ok(())
+}
