@@ -4,6 +4,7 @@ ghost use Rattle.std.specs.Int.{to_le_bytes, w64};
 ghost use Rattle.std.specs.Hash.FoldHasher.{initial, write};
 ghost use Rattle.number_hash.specs.Start.{start_of};
 
+use crate::hasher::NumberHasher;
 use std::hash::{BuildHasher, FoldHasher, Hasher};
 use std::random::RandomSource;
 
@@ -47,11 +48,14 @@ impl NumberHash {
 }
 
 impl BuildHasher for NumberHash {
-    type Hasher = FoldHasher;
+    type Hasher = NumberHasher;
 
-    ghost build_hasher = { start_of };
+    ghost build_hasher = { λ hash. record { start = start_of hash; number = 0 } };
 
-    fn build_hasher(&self) -> FoldHasher {
-        self.start
+    fn build_hasher(&self) -> NumberHasher {
+        NumberHasher {
+            start: self.start,
+            number: 0,
+        }
     }
 }

@@ -2,8 +2,10 @@
 #![tactic(auto)]
 
 mod hash;
+mod hasher;
 
 pub use hash::NumberHash;
+pub use hasher::NumberHasher;
 
 #[cfg(test)]
 mod tests;
