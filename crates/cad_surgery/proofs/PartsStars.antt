@@ -7,7 +7,7 @@ use Rattle.std.proofs.lemmas.Cmp.{nat_eq_equiv}
 use Rattle.std.proofs.lemmas.List.Sorted.{IsPermutation-sym, Contains-permutation, length_permutation}
 use Rattle.cad_rows.specs.declared.names.Face.{Face}
 use Rattle.cad_rows.specs.declared.rows.StringRow.{StringRow}
-use Rattle.cad_rings.specs.Cycle.{Side, has_side}
+use Rattle.cad_rings.specs.Cycle.{Side, opposite, has_side}
 use Rattle.cad_map.specs.Map.{Map, is_end, degree, string_of, all_sides, side_of}
 use Rattle.cad_map.specs.Views.{HasSide, IsNoSide, ComesAfter, HasFaces, HasNoFaces}
 use Rattle.cad_map.proofs.CallerLemmas.{Contains-cases, Contains-first, Contains-later, Contains-flat_map, Contains-in_part, All-at_each, find-Contains, has_side-Contains}
@@ -23,7 +23,8 @@ use Rattle.map_parts.specs.Stars.{half_along}
 use Rattle.map_parts.specs.Views.{view_half, view_face, view_next, view_faces}
 use Rattle.map_parts.specs.Labels.{IsAlong}
 use Rattle.map_parts.proofs.StarHalves.{along-some, half-told}
-use Rattle.map_parts.proofs.PartsRings.{ends-of, shown-string, half-side, half-corner, side-half}
+use Rattle.half_table.proofs.Halves.{twin-twin}
+use Rattle.map_parts.proofs.PartsRings.{half-there, ends-of, shown-string, half-side, half-corner, side-half}
 
 -- a star has one spoke for each string at its point
 pub length-star : (p : ℕ) (strings : List StringRow) → length (spokes_at p strings) ≡ length (filter (λ s. is_end s p) strings)
@@ -44,16 +45,45 @@ module _ (d : Parts) (is : FitTogether d) where
   pub star-degree : (p : ℕ) → length (items_at d.stars p) ≡ degree (map_of d) p
   star-degree p = length_permutation (spokes_at p d.strings) (items_at d.stars p) (is.stars p) ∙ length-star p d.strings
 
+  -- the twin of a half along the opposite side is along the side
+  twin-along : (s : Side) (k : Half) → IsAlong (rows_of d) rows (opposite s) k → IsAlong (rows_of d) rows s (twin k)
+  twin-along s k back = record {
+    there = half-there d is.ends (twin k) back.shown;
+    shown = back.shown;
+    side =
+        let to = ap (λ (t : Side). t.0) back.side in
+        let from = ap (λ (t : Side). t.1) back.side in
+        λ i. (from i, (ap (origin_of rows) (twin-twin k) ∙ to) i);
+  }
+
   pub half-some : (s : Side) (o : Option Half) → o ≡ view_half d s → IfSome o (IsAlong (rows_of d) d.table.rows s)
-  half-some s o told = along-some d is.ends is.two_ends is.stars s o told
+  half-some s o told = by (half_along d.stars (opposite s)) refl o told
+    where
+      by : (f : Option Half) → half_along d.stars (opposite s) ≡ f → (o : Option Half) → o ≡ option_map twin f → IfSome o (IsAlong (rows_of d) d.table.rows s)
+      by f found None told = tt
+      by None found (Some h) told = cc
+      by (Some k) found (Some h) told =
+          let same : twin k ≡ h = cc in
+          let back = along-some d is.ends is.two_ends is.stars (opposite s) (Some k) (sym found) in
+          subst (IsAlong (rows_of d) d.table.rows s) same (twin-along s k back)
 
   pub half-none : (s : Side) (o : Option Half) → o ≡ view_half d s → IfNone o (IsNoSide (map_of d) s)
   half-none s (Some h) told = tt
   half-none s None told = by (has_side s (all_sides (map_of d))) refl
     where
+      none : (f : Option Half) → None ≡ option_map twin f → f ≡ None
+      none None told = refl
+      none (Some k) told = cc
+
       by : (b : Bool) → has_side s (all_sides (map_of d)) ≡ b → b ≡ false
       by false has = refl
-      by true has = let it = side-half d is s (has_side-Contains s (all_sides (map_of d)) has) in absurd (half-told d is.ends is.two_ends is.stars s it.0 it.1 it.2 None told refl)
+      by true has =
+          let it = side-half d is s (has_side-Contains s (all_sides (map_of d)) has) in
+          let h = it.0 in
+          let from = ap (λ (t : Side). t.0) it.2 in
+          let to = ap (λ (t : Side). t.1) it.2 in
+          let back : side_by rows (twin h) ≡ opposite s = λ i. (to i, (ap (origin_of rows) (twin-twin h) ∙ from) i) in
+          absurd (half-told d is.ends is.two_ends is.stars (opposite s) (twin h) it.1 back None (sym (none (half_along d.stars (opposite s)) told)) refl)
 
   pub along-face : (s : Side) (h : Half) → IsAlong (rows_of d) d.table.rows s h → HasSide (map_of d) (face rows h) s
   along-face s h along = subst (HasSide (map_of d) (face rows h)) along.side (half-side d is h along.shown)

@@ -11,7 +11,7 @@ use Rattle.half_table.specs.declared.links.Links.{Links}
 use Rattle.half_table.specs.declared.links.Ends.{Ends}
 use Rattle.half_table.specs.Half.{is_half}
 use Rattle.half_table.specs.Rows.{HalfRows, links_at, links_of, strings}
-use Rattle.half_table.specs.Writes.{changed_at, with_links_at, ChangesLinks, ChangesNext, ChangesPrev, ChangesFace}
+use Rattle.half_table.specs.Writes.{changed_at, with_links_at, ChangesLinks, ChangesNext, ChangesPrev, ChangesFace, Relinks}
 use Rattle.half_table.proofs.Halves.{is_half-self, cases_half}
 
 -- the links on the other side stay
@@ -113,6 +113,18 @@ module _ (old new : HalfRows) (h : Half) (l : Links) (held : links_of old h ≡ 
         has = λ g. left old new h l t held c.links is_some g refl;
         next = λ g. left old new h l t held c.links (next_at g) g refl;
         prev = λ g. left old new h l t held c.links (prev_at g) g refl;
+        origin = λ g. left old new h l t held c.links origin_at g refl;
+        face = λ g. made old new h l t held c.links face_at g;
+      }
+
+  pub links-put : (before after : Half) (to : Face) → ChangesLinks h (record { origin = l.origin; next = after; prev = before; face = to }) old new → Relinks h before after to old new
+  links-put before after to c =
+      let t : Links = record { origin = l.origin; next = after; prev = before; face = to } in
+      record {
+        strings = c.strings;
+        has = λ g. left old new h l t held c.links is_some g refl;
+        next = λ g. made old new h l t held c.links (next_at g) g;
+        prev = λ g. made old new h l t held c.links (prev_at g) g;
         origin = λ g. left old new h l t held c.links origin_at g refl;
         face = λ g. made old new h l t held c.links face_at g;
       }

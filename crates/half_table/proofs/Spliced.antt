@@ -9,7 +9,7 @@ use Rattle.half_table.specs.Cycle.{exchanged}
 use Rattle.half_table.specs.Rows.{HalfRows, links_of, has, next, prev, IsLinked}
 use Rattle.half_table.specs.Writes.{ChangesNext, ChangesPrev}
 use Rattle.half_table.specs.Surgery.{IsSpliced}
-use Rattle.half_table.proofs.Halves.{cases_half, exchanged-first, exchanged-second, exchanged-other, exchanged-undone, exchanged-turned}
+use Rattle.half_table.proofs.Halves.{cases_half, exchanged-first, exchanged-second, exchanged-other, exchanged-undone}
 
 pub next-links : (rows : HalfRows) (h : Half) (l : Links) → links_of rows h ≡ Some l → l.next ≡ next rows h
 next-links rows h l e = sym (ap (λ o. option_map_or (λ (l : Links). l.next) o h) e)
@@ -35,29 +35,6 @@ spliced o r1 r2 r3 r4 a b A B is_A is_B linked c1 c2 c3 c4 = record {
     face = λ g. c4.face g ∙ c3.face g ∙ c2.face g ∙ c1.face g;
   };
 }
-
--- a half that comes to follow another: the splice with the half that it followed
-pub followed : (o r1 r2 r3 r4 : HalfRows) (a b p n : Half) → p ≡ prev o b → n ≡ next o a → IsLinked o
-    → ChangesPrev b a o r1 → ChangesNext a b r1 r2 → ChangesNext p n r2 r3 → ChangesPrev n p r3 r4 → IsSpliced a (prev o b) o r4
-followed o r1 r2 r3 r4 a b p n is_p is_n linked c1 c2 c3 c4 = subst (λ x. IsSpliced a x o r4) is_p record {
-  next = λ g. c4.next g ∙ c3.next g ∙ ap (λ v. if is_half g p then n else v) (c2.next g ∙ ap (λ v. if is_half g a then b else v) (c1.next g))
-      ∙ (λ i. if is_half g p then is_n i else (if is_half g a then is_b i else next o g)) ∙ exchanged-turned (next o) p a g;
-  prev = λ g. c4.prev g ∙ ap (λ v. if is_half g n then p else v) (c3.prev g ∙ c2.prev g ∙ c1.prev g)
-      ∙ (λ i. if is_half g (is_n i) then sym (linked.prev_next p) i else (if is_half g (is_b i) then sym (linked.prev_next a) i else prev o g));
-  halves = record {
-    strings = c4.strings ∙ c3.strings ∙ c2.strings ∙ c1.strings;
-    has = λ g. c4.has g ∙ c3.has g ∙ c2.has g ∙ c1.has g;
-    origin = λ g. c4.origin g ∙ c3.origin g ∙ c2.origin g ∙ c1.origin g;
-    face = λ g. c4.face g ∙ c3.face g ∙ c2.face g ∙ c1.face g;
-  };
-}
-  where
-    is_b : b ≡ next o p
-    is_b = sym (ap (next o) is_p ∙ linked.next_prev b)
-
--- the half that is followed is there
-pub prev-in : (o : HalfRows) (b : Half) → IsLinked o → has o b ≡ true → has o (prev o b) ≡ true
-prev-in o b linked b_in = sym (linked.inside (prev o b)) ∙ ap (has o) (linked.next_prev b) ∙ b_in
 
 -- what follows what is kept in step
 pub spliced-linked : (old new : HalfRows) (a b : Half) → IsLinked old → has old a ≡ true → has old b ≡ true → IsSpliced a b old new → IsLinked new

@@ -50,3 +50,12 @@ pub record ChangesFace (h : Half) (to : Face) (old new : HalfRows) : Type 0 wher
   pub prev : (g : Half) → prev new g ≡ prev old g
   pub origin : (g : Half) → origin_of new g ≡ origin_of old g
   pub face : (g : Half) → face new g ≡ set_at h to (face old) g
+
+-- what h follows, what follows it and its face are written anew, and nothing else
+pub record Relinks (h before after : Half) (to : Face) (old new : HalfRows) : Type 0 where
+  pub strings : strings new ≡ strings old
+  pub has : (g : Half) → has new g ≡ has old g
+  pub next : (g : Half) → next new g ≡ set_at h after (next old) g
+  pub prev : (g : Half) → prev new g ≡ set_at h before (prev old) g
+  pub origin : (g : Half) → origin_of new g ≡ origin_of old g
+  pub face : (g : Half) → face new g ≡ set_at h to (face old) g

@@ -2,7 +2,7 @@
 ghost use Rattle.std.specs.Prelude.{◌≡◌, ◌≤◌, ◌++◌, ◌∷◌, [], true, false, length, OnOk, OnErr};
 ghost use Rattle.half_table.specs.Count.{ticked};
 ghost use Rattle.half_table.specs.Half.{half_of};
-ghost use Rattle.half_table.specs.Rows.{HalfRows, has_halves, has, next, prev, cycle, IsLinked};
+ghost use Rattle.half_table.specs.Rows.{HalfRows, has_halves, has, cycle, IsLinked};
 ghost use Rattle.half_table.specs.declared.links.Ends.{Ends as StringEnds};
 ghost use Rattle.half_table.specs.Surgery.{IsUnchanged, IsSpliced, SplicesBack, SplicesCycles, Relabels, AddsLoose, AddsCycle, IsLoose, links_to, loose_ends, RemovesLoose, RemovesCycle};
 
@@ -28,24 +28,6 @@ pub(crate) fn exchange(rows: &mut Rows, a: &Half, b: &Half)
     set_next(rows, a, &after_b);
     set_prev(rows, &after_b, a);
     set_prev(rows, &after_a, b);
-}
-
-/// The half b comes to follow a, and what followed a the one that b followed.
-pub(crate) fn follow(rows: &mut Rows, a: &Half, b: &Half)
-    requires a_in { has rows.old.entries a.now ≡ true }
-    requires b_in { has rows.old.entries b.now ≡ true }
-    requires linked { IsLinked rows.old.entries }
-    ensures spliced { IsSpliced
-        a.now (prev rows.old.entries b.now) rows.old.entries rows.new.entries }
-    ensures cycles { SplicesCycles
-        a.now (prev rows.old.entries b.now) rows.old.entries rows.new.entries }
-    ensures linked { IsLinked rows.new.entries }
-    ensures next { next rows.new.entries a.now ≡ b.now }
-{
-    let before = set_prev(rows, b, a);
-    let after = set_next(rows, a, b);
-    set_next(rows, &before, &after);
-    set_prev(rows, &after, &before);
 }
 
 /// Every half of the cycle of `h` gets the face.

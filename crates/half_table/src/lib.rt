@@ -5,12 +5,14 @@
 mod changes;
 mod half;
 mod links;
+mod open;
 mod rows;
 mod table;
 mod tally;
 mod walk;
 
 pub use half::Half;
+pub use open::OpenTable;
 pub use table::HalfTable;
 pub use tally::{Tally, Ticks};
 pub use walk::Walk;

@@ -2,7 +2,7 @@
 ghost use Rattle.std.specs.Prelude.{◌≡◌, true, Some, nat_eq};
 ghost use Rattle.indexmap.specs.IndexMap.{ContainsKey, Updates};
 ghost use Rattle.half_table.specs.Rows.{strings, links_of, has, next, prev};
-ghost use Rattle.half_table.specs.Writes.{ChangesLinks, ChangesNext, ChangesPrev, ChangesFace};
+ghost use Rattle.half_table.specs.Writes.{ChangesLinks, ChangesNext, ChangesPrev, ChangesFace, Relinks};
 
 use crate::half::Half;
 use crate::links::{Ends, Links};
@@ -75,5 +75,24 @@ pub(crate) fn set_face(rows: &mut Rows, h: &Half, to: &Face) -> Half
             links.next
         }
         None => *h,
+    }
+}
+
+/// Writes what a half follows, what follows it and the face to its left. Its origin stays.
+pub(crate) fn set_links(rows: &mut Rows, h: &Half, prev: &Half, next: &Half, face: &Face)
+    requires { has rows.old.entries h.now ≡ true }
+    ensures { Relinks h.now prev.now next.now face.now rows.old.entries rows.new.entries }
+{
+    if let Some(ends) = rows.get_mut(&h.string) {
+        let origin = ends.at(h.forward).origin;
+        *ends = ends.with(
+            h.forward,
+            Links {
+                origin,
+                next: *next,
+                prev: *prev,
+                face: *face,
+            },
+        );
     }
 }

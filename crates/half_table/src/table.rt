@@ -6,9 +6,10 @@ ghost use Rattle.half_table.specs.declared.links.Ends.{Ends as StringEnds};
 ghost use Rattle.half_table.specs.Rows.{HalfRows, has_halves, links_of, has, next, prev, origin_of, face, IsLinked, cycle, HasCycle};
 ghost use Rattle.half_table.specs.Surgery.{IsUnchanged, IsSpliced, SplicesBack, SplicesCycles, Relabels, AddsLoose, AddsCycle, IsLoose, loose_ends, RemovesLoose, RemovesCycle};
 
-use crate::changes::{exchange, follow, put_loose, relabel_cycle, take_loose};
+use crate::changes::{exchange, put_loose, relabel_cycle, take_loose};
 use crate::half::Half;
 use crate::links::Links;
+use crate::open::OpenTable;
 use crate::rows::{Rows, find_links};
 use crate::tally::Tally;
 use crate::walk::{Walk, walk_rows};
@@ -22,8 +23,8 @@ use std::marker::Model;
 /// next, prev and incident face. The twin of a half-edge is the other one of its string. A tally
 /// counts the work on the table.
 pub struct HalfTable<T: Tally> {
-    rows: Rows,
-    tally: T,
+    pub(crate) rows: Rows,
+    pub(crate) tally: T,
 }
 
 // Written out, so that the end of one is a single call in a caller's proof.
@@ -73,6 +74,15 @@ impl<T: Tally> HalfTable<T> {
             rows: IndexMap::with_capacity_and_hasher(alloc, strings, hash)?,
             tally,
         })
+    }
+
+    /// The same table, whose halves can then be linked one after another.
+    pub fn open(self) -> OpenTable<T>
+        ensures same { result ≡ self }
+        ensures linked { IsLinked result.rows }
+    {
+        let HalfTable { rows, tally } = self;
+        OpenTable { rows, tally }
     }
 
     /// Whether the table holds the halves of a string.
@@ -202,22 +212,6 @@ impl<T: Tally> HalfTable<T> {
         ensures grows { self.old.work ≤ self.new.work }
     {
         exchange(&mut self.rows, &a, &b);
-        self.tick();
-    }
-
-    /// The half b comes to follow a: the splice of a with the half that b followed, by a look at each
-    /// of the four halves that it links anew.
-    pub fn follow(&mut self, a: Half, b: Half)
-        requires a_in { has self.old.rows a ≡ true }
-        requires b_in { has self.old.rows b ≡ true }
-        ensures spliced { IsSpliced a (prev self.old.rows b) self.old.rows self.new.rows }
-        ensures cycles { SplicesCycles a (prev self.old.rows b) self.old.rows self.new.rows }
-        ensures next { next self.new.rows a ≡ b }
-        ensures linked { IsLinked self.new.rows }
-        ensures work { self.new.work ≡ one_more self.old.work }
-        ensures grows { self.old.work ≤ self.new.work }
-    {
-        follow(&mut self.rows, &a, &b);
         self.tick();
     }
 

@@ -63,6 +63,17 @@ fn splice(rt: &impl Abort, table: &mut HalfTable<Ticks>, a: (u32, bool), b: (u32
     table.splice(a, b);
 }
 
+/// Links a half as it was, and gives it a face.
+fn linked_again(table: HalfTable<Ticks>, at: &Half, face: Face) -> HalfTable<Ticks>
+    requires { has table.rows at.now ≡ true }
+{
+    let before = table.prev(*at);
+    let after = table.next(*at);
+    let mut open = table.open();
+    open.link(*at, before, after, face);
+    open.close()
+}
+
 /// The numbers and directions of the halves from one on.
 fn walked(
     rt: &impl Abort,
@@ -130,18 +141,21 @@ fn builds_a_triangular_island(rt: HostRuntime) -> Result<(), Fail> {
 }
 
 #[test]
-fn one_half_follows_another(rt: HostRuntime) -> Result<(), Fail> {
+fn a_half_is_linked_in_an_open_table(rt: HostRuntime) -> Result<(), Fail> {
     let alloc = rt.alloc();
     let mut table = HalfTable::with_room(alloc, NumberHash::fixed(), 2, Ticks::new())?;
     add(&rt, &mut table, 11, 1, 2)?;
     add(&rt, &mut table, 12, 2, 3)?;
-    let first = half(&rt, &table, 11, true);
-    let second = half(&rt, &table, 12, true);
-    table.follow(first, second);
+    splice(&rt, &mut table, (11, true), (12, false));
+    let inner = Face::Parcel(ParcelNo::new(2).ok_or("number")?);
+    let at = half(&rt, &table, 12, true);
+    let table = linked_again(table, &at, inner);
     let around = walked(&rt, alloc, &table, 12, false)?;
     let wanted = [(12, false), (11, false), (11, true), (12, true)];
     assert_eq!(rt; around.as_slice(), wanted.as_slice());
-    assert_eq!(rt; table.work(), 3);
+    assert!(rt; table.face(half(&rt, &table, 12, true)) == inner);
+    assert!(rt; table.face(half(&rt, &table, 12, false)) == Face::Outside);
+    assert_eq!(rt; table.work(), 4);
     Ok(())
 }
 

@@ -1,10 +1,7 @@
 -- Where all halves are linked, the table goes with the map; and a cycle that gets the face of its ring.
-use Rattle.std.proofs.Common.{◌≡◌, ◌≢◌, ℕ, ◌+◌, ◌<◌, ◌≤◌, slice_get, ◌⊎◌, Bool, true, false, List, [], ◌∷◌, map, length, refl, sym, ap, ◌∙◌, subst, arith, inl, inr, Option, Some, None, true≢false}
-use Rattle.std.proofs.lemmas.Bool.{cases_lt}
-use Rattle.std.proofs.lemmas.Option.{slice_get-get_or}
-use Rattle.std.specs.Prelude.{unwrap_or, ◌||◌, if◌then◌else◌}
+use Rattle.std.proofs.Common.{◌≡◌, ◌≢◌, ℕ, ◌≤◌, Bool, true, false, List, [], ◌∷◌, map, length, refl, sym, ap, ◌∙◌, subst, arith, Option, Some, None, true≢false}
+use Rattle.std.specs.Prelude.{unwrap_or, ◌||◌}
 use Rattle.std.specs.List.{Contains}
-use Rattle.std.proofs.lemmas.Option.{same_Some}
 use Rattle.cad_rows.specs.declared.names.Face.{Face}
 use Rattle.cad_rings.specs.Cycle.{Ring, Side, sides_of, opposite, IsSameRing}
 use Rattle.cad_rings.proofs.CallerLemmas.{IsSameRing-sym}
@@ -13,8 +10,7 @@ use Rattle.cad_map.specs.Map.{Map, all_sides, string_sides, side_of, point_after
 use Rattle.cad_map.specs.Rings.{HasWholeRings}
 use Rattle.cad_map.specs.Steps.{next_side}
 use Rattle.cad_map.specs.Views.{ComesAfter, HasSide}
-use Rattle.cad_map.proofs.CallerLemmas.{All-follows, Contains-first, Contains-at, Contains-later, Contains-map, Contains-flat_map, Contains-in_part, list_any-Contains, map-Contains, Contains-has_side, point_after-some, point_after-none, side-same}
-use Rattle.cad_laws.proofs.CallerLemmas.{one-ring}
+use Rattle.cad_map.proofs.CallerLemmas.{All-follows, Contains-first, Contains-later, Contains-map, Contains-flat_map, Contains-in_part, map-Contains, Contains-has_side, point_after-some, point_after-none, side-same}
 use Rattle.std.proofs.lemmas.List.Sorted.{Contains-permutation}
 use Rattle.map_parts.proofs.WholeStrings.{two-ends, strings-once}
 use Rattle.half_table.specs.declared.half.Half.{Half}
@@ -22,17 +18,17 @@ use Rattle.half_table.specs.Half.{is_half, twin, half_of}
 use Rattle.half_table.specs.Cycle.{holds}
 use Rattle.half_table.specs.Rows.{HalfRows, IsLinked, next, origin_of, face, cycle}
 use Rattle.half_table.specs.Surgery.{Relabels}
-use Rattle.half_table.proofs.Halves.{is_half-self, is_half-same}
+use Rattle.half_table.proofs.Halves.{is_half-same}
 use Rattle.map_parts.specs.declared.stars.Spoke.{Spoke}
 use Rattle.key_lists.specs.Held.{Held}
 use Rattle.cad_laws.specs.Local.{IsShown, side_by, IsLocal}
-use Rattle.map_parts.specs.Building.{HoldsStrings, IsLinkedAt}
-use Rattle.map_parts.specs.Labels.{IsOnRing, IsLabelled, KeepsLabels}
+use Rattle.map_parts.specs.Building.{HoldsStrings}
+use Rattle.map_parts.specs.Labels.{IsOnRing, IsLabelled}
 use Rattle.map_parts.proofs.RingsOfHalves.{cycle-same_ring}
 use Rattle.map_parts.proofs.CycleRings.{cycle-each, cycle-sides}
 use Rattle.map_parts.proofs.PartsRings.{found-row, half-two, rings_at-there}
 use Rattle.map_parts.proofs.ToHalves.{side-half_of}
-use Rattle.map_parts.proofs.Strings.{sides-apart, with_stars}
+use Rattle.map_parts.proofs.Strings.{with_stars}
 
 -- ---- All halves are linked
 
@@ -58,18 +54,6 @@ module _ (m : Map) (whole : HasWholeRings m) (rows : HalfRows) (held : Held Spok
 
   pub half-two_ends : (h : Half) → IsShown m h → origin_of rows h ≢ origin_of rows (twin h)
   half-two_ends h shown = half-two (with_stars m rows held) st.ends (two-ends m whole) h shown
-
-  pub all-local : ((s : Side) → Contains (all_sides m) s → IsLinkedAt m rows s) → IsLocal m rows
-  all-local made = record {
-    linked = st.linked;
-    there = λ h shown. st.has h ∙ shown;
-    inside = λ h shown. sym (st.has (next rows h)) ∙ st.linked.inside h ∙ st.has h ∙ shown;
-    meets = λ h shown. ap (λ (s : Side). s.0) (made (side_by rows h) (half-among h shown) h shown refl);
-    corners = λ h shown.
-        subst (λ (w : ℕ). ComesAfter m (side_by rows h) w) (sym (ap (λ (s : Side). s.1) (made (side_by rows h) (half-among h shown) h shown refl)))
-        (next-corner m whole (side_by rows h) (half-among h shown));
-    apart = sides-apart m whole rows held st;
-  }
 
 -- ---- The cycle of a half, in a table that goes with the map
 
@@ -115,25 +99,6 @@ module _ (m : Map) (whole : HasWholeRings m) (rows : HalfRows) (local : IsLocal 
     same-side : (g : Half) → side_by new g ≡ side_by rows g
     same-side g = λ i. (labels.origin g i, labels.origin (twin g) i)
 
-    before : (c : Boundary) (g : Half) → IsOnRing m new c g → IsOnRing m rows c g
-    before c g it = record { shown = it.shown; side = subst (Contains (sides_of c.ring)) (same-side g) it.side }
-
-    labelled-face : (c : Boundary) → Contains m.boundaries c → (g : Half) → IsOnRing m rows c g → (t : Bool) → holds (cycle rows h) g ≡ t → (t ≡ false → face rows g ≡ c.face) → face new g ≡ c.face
-    labelled-face c among g it true held rest =
-        let here = cycle-on g (any-there g (cycle rows h) held) in
-        let one = one-ring m whole (side_by rows g) b there here.side in
-        let other = one-ring m whole (side_by rows g) c among it.side in
-        labels.face g ∙ ap (λ (t : Bool). if t then b.face else face rows g) held ∙ same_Some b.face c.face (sym one ∙ other)
-    labelled-face c among g it false held rest = labels.face g ∙ ap (λ (t : Bool). if t then b.face else face rows g) held ∙ rest refl
-
-    pub label-now : IsLabelled m new b
-    label-now g it =
-        let was = before b g it in
-        labelled-face b there g was (holds (cycle rows h) g) refl (λ none. absurd (true≢false (sym (list_any-Contains (is_half g) (cycle rows h) g (on-cycle g was) (is_half-self g)) ∙ none)))
-
-    pub label-keeps : KeepsLabels m rows new
-    label-keeps c among labelled g it = labelled-face c among g (before c g it) (holds (cycle rows h) g) refl (λ none. labelled g (before c g it))
-
     pub label-local : IsLocal m new
     label-local = record {
       linked = linked;
@@ -153,21 +118,3 @@ faced m whole rows held st all h shown =
     let b = part.0 in
     let e = all b part.1 h (record { shown = shown; side = part.2 }) in
     subst (λ (f : Face). HasSide m f (side_by rows h)) (sym e) (Contains-has_side (side_by rows h) _ (Contains-flat_map sides_of _ b.ring (side_by rows h) (rings_at-there m.boundaries b part.1) part.2))
-
--- what is labelled of the rings below
-abbrev pub LabelledBelow : Map → HalfRows → ℕ → Type 0
-LabelledBelow m rows n = (i : ℕ) (b : Boundary) → i < n → slice_get m.boundaries i ≡ Some b → IsLabelled m rows b
-
-pub labels-more : (m : Map) (old new : HalfRows) (n : ℕ) (b : Boundary) → slice_get m.boundaries n ≡ Some b → KeepsLabels m old new → IsLabelled m new b → LabelledBelow m old n → LabelledBelow m new (n + 1)
-labels-more m old new n b at keeps now below i c less is = by (cases_lt i n)
-  where
-    by : (i < n) ⊎ (n ≤ i) → IsLabelled m new c
-    by (inl low) = keeps c (Contains-at m.boundaries i c is) (below i c low is)
-    by (inr high) =
-        let e : i ≡ n = omega (arith, less, high) in
-        let same : Some b ≡ Some c = sym at ∙ ap (slice_get m.boundaries) (sym e) ∙ is in
-        let one : b ≡ c = cc in
-        subst (IsLabelled m new) one now
-
-pub labels-all : (m : Map) (rows : HalfRows) (n : ℕ) → length m.boundaries ≤ n → LabelledBelow m rows n → (b : Boundary) → Contains m.boundaries b → IsLabelled m rows b
-labels-all m rows n past below b at = let low = at.1 in below at.0 b (omega (arith, low, past)) (slice_get-get_or m.boundaries at.0 b low ∙ ap Some at.2)

@@ -1,7 +1,8 @@
 -- The first three points of a ring, from any of its places on.
-use Rattle.std.proofs.Common.{◌≡◌, ℕ, ◌+◌, ◌<◌, ◌≤◌, ◌⊎◌, [], ◌∷◌, ◌++◌, append_assoc, get_or, drop, take, length, refl, sym, ap, ◌∙◌, subst, arith, inl, inr, Some, slice_get}
+use Rattle.std.proofs.Common.{◌≡◌, ℕ, ◌+◌, ◌-◌, ◌<◌, ◌≤◌, ◌⊎◌, [], ◌∷◌, ◌++◌, append_assoc, get_or, drop, take, length, refl, sym, ap, ◌∙◌, subst, arith, inl, inr, Some, slice_get}
 use Rattle.std.specs.Prelude.{slice_index}
 use Rattle.std.proofs.lemmas.Bool.{cases_lt}
+use Rattle.std.proofs.lemmas.List.{drop_all, take_all, append-nil}
 use Rattle.std.proofs.lemmas.Option.{slice_get-get_or}
 use Rattle.std.specs.List.{Contains}
 use Rattle.cad_rings.specs.Cycle.{Ring, Side, sides_of, turned}
@@ -12,9 +13,9 @@ use Rattle.cad_map.specs.Map.{Map, all_sides}
 use Rattle.cad_map.specs.Rings.{HasWholeRings}
 use Rattle.cad_map.specs.Steps.{next_side}
 use Rattle.cad_map.specs.Walk.{first_side}
-use Rattle.cad_map.proofs.CallerLemmas.{drop-at, take-more, Contains-first, Contains-at, Contains-flat_map, Contains-in_part, All-at_each, IsWalked, walked-same, side-place, side-same, ring-walked}
+use Rattle.cad_map.proofs.CallerLemmas.{drop-at, take-more, Contains-first, Contains-at, Contains-flat_map, All-at_each, IsWalked, walked-same, side-place, side-same, ring-walked}
 use Rattle.half_table.specs.Rows.{HalfRows}
-use Rattle.map_parts.specs.Building.{IsLinkedAt, KeepsLinks}
+use Rattle.map_parts.specs.Building.{IsLinkedAt, IsLinkedAlong, IsLinkedAll, KeepsLinks}
 use Rattle.map_parts.specs.Labels.{side_at}
 
 module _ (m : Map) (whole : HasWholeRings m) (b : Boundary) (there : Contains m.boundaries b) where
@@ -85,44 +86,52 @@ module _ (m : Map) (whole : HasWholeRings m) (b : Boundary) (there : Contains m.
 
   -- what is linked at places below
   abbrev pub LinkedBelow : HalfRows → ℕ → Type 0
-  LinkedBelow rows n = (i : ℕ) → i < n → (s : Side) → first_side (turned i b.ring) ≡ Some s → IsLinkedAt m rows s
+  LinkedBelow rows n = (i : ℕ) → i < n → (s : Side) → first_side (turned i b.ring) ≡ Some s → IsLinkedAt m rows b s
 
-  pub links-more : (old new : HalfRows) (n : ℕ) → KeepsLinks m old new → IsLinkedAt m new (slice_index (turned n b.ring) 0, slice_index (turned n b.ring) 1) → LinkedBelow old n → LinkedBelow new (n + 1)
+  pub links-more : (old new : HalfRows) (n : ℕ) → KeepsLinks m old new → IsLinkedAt m new b (side_at n b.ring) → LinkedBelow old n → LinkedBelow new (n + 1)
   links-more old new n keeps made below i less t is = by (cases i n (omega (arith, less)))
     where
       cases : (i n : ℕ) → i < n + 1 → (i < n) ⊎ (i ≡ n)
       cases i n l = elim (cases_lt i n) [ inl low ↦ inl low | inr high ↦ inr (omega (arith, l, high)) ]
 
-      side : (slice_index (turned i b.ring) 0, slice_index (turned i b.ring) 1) ≡ t
-      side = let e : Some (slice_index (turned i b.ring) 0, slice_index (turned i b.ring) 1) ≡ Some t = sym (first-is i) ∙ is in cc
+      side : side_at i b.ring ≡ t
+      side = let e : Some (side_at i b.ring) ≡ Some t = sym (first-is i) ∙ is in cc
 
-      by : (i < n) ⊎ (i ≡ n) → IsLinkedAt m new t
-      by (inl l) = keeps t (subst (Contains (all_sides m)) side (first-among i)) (below i l t is)
-      by (inr e) = subst (IsLinkedAt m new) (ap (λ (k : ℕ). let p : Side = (slice_index (turned k b.ring) 0, slice_index (turned k b.ring) 1) in p) (sym e) ∙ side) made
+      by : (i < n) ⊎ (i ≡ n) → IsLinkedAt m new b t
+      by (inl l) = keeps b t there (subst (Contains (sides_of b.ring)) side (first-in i)) (below i l t is)
+      by (inr e) = subst (IsLinkedAt m new b) (ap (λ (k : ℕ). side_at k b.ring) (sym e) ∙ side) made
 
-  pub links-all : (rows : HalfRows) (n : ℕ) → length b.ring ≤ n → LinkedBelow rows n → (s : Side) → Contains (sides_of b.ring) s → IsLinkedAt m rows s
+  pub links-all : (rows : HalfRows) (n : ℕ) → length b.ring ≤ n → LinkedBelow rows n → IsLinkedAlong m rows b
   links-all rows n past below s has = let place = side-place b.ring s has in below place.0 (let l = place.1 in omega (arith, l, past)) s place.2
+
+  -- the side at the last place is the one before the first
+  pub last-first : next_side m (side_at (length b.ring - 1) b.ring) ≡ side_at 0 b.ring
+  last-first =
+      let t = three in
+      let n : length b.ring - 1 + 1 ≡ length b.ring = omega (arith, t) in
+      let low : length b.ring - 1 < length b.ring = omega (arith, t) in
+      first-follows (length b.ring - 1) ∙ sym (at-next (length b.ring - 1) low)
+      ∙ ap (λ (k : ℕ). side_at k b.ring) n ∙ ap (λ (q : Ring). let s : Side = (slice_index q 0, slice_index q 1) in s) all
+    where
+      all : turned (length b.ring) b.ring ≡ turned 0 b.ring
+      all = ap (λ (l : Ring). l ++ take (length b.ring) b.ring) (drop_all (length b.ring) b.ring (omega arith)) ∙ take_all (length b.ring) b.ring (omega arith) ∙ sym (append-nil b.ring)
 
 -- ---- Ring by ring
 
 -- what is linked of the rings below
 abbrev pub RingsBelow : Map → HalfRows → ℕ → Type 0
-RingsBelow m rows n = (i : ℕ) (b : Boundary) → i < n → slice_get m.boundaries i ≡ Some b → (s : Side) → Contains (sides_of b.ring) s → IsLinkedAt m rows s
+RingsBelow m rows n = (i : ℕ) (b : Boundary) → i < n → slice_get m.boundaries i ≡ Some b → IsLinkedAlong m rows b
 
-pub rings-more : (m : Map) (old new : HalfRows) (n : ℕ) (b : Boundary) → slice_get m.boundaries n ≡ Some b → KeepsLinks m old new → ((s : Side) → Contains (sides_of b.ring) s → IsLinkedAt m new s) → RingsBelow m old n → RingsBelow m new (n + 1)
+pub rings-more : (m : Map) (old new : HalfRows) (n : ℕ) (b : Boundary) → slice_get m.boundaries n ≡ Some b → KeepsLinks m old new → IsLinkedAlong m new b → RingsBelow m old n → RingsBelow m new (n + 1)
 rings-more m old new n b at keeps made below i c less is s has = by (cases_lt i n)
   where
-    by : (i < n) ⊎ (n ≤ i) → IsLinkedAt m new s
-    by (inl low) = keeps s (Contains-flat_map (λ b. sides_of b.ring) m.boundaries c s (Contains-at m.boundaries i c is) has) (below i c low is s has)
+    by : (i < n) ⊎ (n ≤ i) → IsLinkedAt m new c s
+    by (inl low) = keeps c s (Contains-at m.boundaries i c is) has (below i c low is s has)
     by (inr high) =
         let e : i ≡ n = omega (arith, less, high) in
         let same : Some b ≡ Some c = sym at ∙ ap (slice_get m.boundaries) (sym e) ∙ is in
         let one : b ≡ c = cc in
-        made s (subst (λ (d : Boundary). Contains (sides_of d.ring) s) (sym one) has)
+        subst (λ (d : Boundary). IsLinkedAlong m new d) one made s has
 
-pub rings-all : (m : Map) (rows : HalfRows) (n : ℕ) → length m.boundaries ≤ n → RingsBelow m rows n → (s : Side) → Contains (all_sides m) s → IsLinkedAt m rows s
-rings-all m rows n past below s has =
-    let part = Contains-in_part (λ b. sides_of b.ring) m.boundaries s has in
-    let at = part.1 in
-    let low = at.1 in
-    below at.0 part.0 (omega (arith, low, past)) (slice_get-get_or m.boundaries at.0 part.0 low ∙ ap Some at.2) s part.2
+pub rings-all : (m : Map) (rows : HalfRows) (n : ℕ) → length m.boundaries ≤ n → RingsBelow m rows n → IsLinkedAll m rows
+rings-all m rows n past below b at = let low = at.1 in below at.0 b (omega (arith, low, past)) (slice_get-get_or m.boundaries at.0 b low ∙ ap Some at.2)

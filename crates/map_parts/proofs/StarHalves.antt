@@ -14,9 +14,8 @@ use Rattle.half_table.specs.Rows.{HalfRows, origin_of}
 use Rattle.map_parts.specs.declared.stars.Spoke.{Spoke}
 use Rattle.key_lists.specs.Held.{items_at}
 use Rattle.cad_laws.specs.Local.{IsShown, side_by}
-use Rattle.map_parts.specs.Stars.{spoke, spokes_of, spokes_at}
+use Rattle.map_parts.specs.Stars.{spoke, spokes_of, spokes_at, half_along}
 use Rattle.map_parts.specs.Parts.{Parts, HasHalves, rows_of}
-use Rattle.map_parts.specs.Views.{view_half}
 use Rattle.map_parts.specs.Labels.{IsAlong}
 use Rattle.map_parts.proofs.PartsRings.{found-row, row-there, half-there}
 use Rattle.cad_map.specs.Valid.{HasTwoEnds}
@@ -91,10 +90,10 @@ module _ (d : Parts) (ends : AllByRecursion (HasHalves d.table.rows) d.strings) 
       Contains-permutation (spokes_at (origin_of rows g) d.strings) (items_at d.stars (origin_of rows g)) _ (stars (origin_of rows g)) (Contains-flat_map (spokes_of (origin_of rows g)) d.strings row.0 _ row.1 k) in
       subst (λ (g : Half). Contains (items_at d.stars (origin_of rows g)) (spoke g (origin_of rows (twin g)))) (λ i. half_of (row.2 i) h.forward) (all (half_of row.0.number h.forward) (string-spoke row.0 row.1 h.forward))
 
-  pub along-some : (s : Side) (o : Option Half) → o ≡ view_half d s → IfSome o (IsAlong (rows_of d) d.table.rows s)
+  pub along-some : (s : Side) (o : Option Half) → o ≡ half_along d.stars s → IfSome o (IsAlong (rows_of d) d.table.rows s)
   along-some s o told = by (find (λ (x : Spoke). x.far == s.1) (items_at d.stars s.0)) refl o told
     where
-      by : (f : Option Spoke) → find (λ (x : Spoke). x.far == s.1) (items_at d.stars s.0) ≡ f → (o : Option Half) → o ≡ view_half d s → IfSome o (IsAlong (rows_of d) d.table.rows s)
+      by : (f : Option Spoke) → find (λ (x : Spoke). x.far == s.1) (items_at d.stars s.0) ≡ f → (o : Option Half) → o ≡ half_along d.stars s → IfSome o (IsAlong (rows_of d) d.table.rows s)
       by f found None told = tt
       by None found (Some h) told = let e : Some h ≡ None = told ∙ ap (option_map (λ (x : Spoke). x.half)) found in cc
       by (Some x) found (Some h) told =
@@ -109,7 +108,7 @@ module _ (d : Parts) (ends : AllByRecursion (HasHalves d.table.rows) d.strings) 
           })
 
   -- a half of the map's strings is told
-  pub half-told : (s : Side) (h : Half) → IsShown (rows_of d) h → side_by rows h ≡ s → (o : Option Half) → o ≡ view_half d s → o ≡ None → ⊥
+  pub half-told : (s : Side) (h : Half) → IsShown (rows_of d) h → side_by rows h ≡ s → (o : Option Half) → o ≡ half_along d.stars s → o ≡ None → ⊥
   half-told s h shown side o told none =
       let there = half-spoke h shown in
       let mine : Contains (items_at d.stars s.0) (spoke h s.1) = subst (λ (t : Side). Contains (items_at d.stars t.0) (spoke h t.1)) side there in

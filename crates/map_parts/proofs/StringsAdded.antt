@@ -114,7 +114,7 @@ pub strings-all : (m : Map) (n : ℕ) (rows : HalfRows) (held : Held Spoke) → 
 strings-all m n rows held past st =
     let all = take_all n m.strings past in
     record {
-      linked = st.linked;
+      distinct = st.linked.distinct;
       has = λ h. st.has h ∙ ap (λ (l : List StringRow). is_some (row_with (λ (s : StringRow). s.number) h.string l)) all;
       ends = subst (AllByRecursion (HasHalves rows)) all st.ends;
       stars = λ p. subst (λ (l : List Spoke). IsPermutation (spokes_at p m.strings) l) (sym (st.stars p ∙ ap (spokes_at p) all)) (IsPermutation-refl (spokes_at p m.strings));

@@ -5,6 +5,7 @@ use Rattle.cad_rings.specs.Cycle.{Ring, Side, sides_of, turned}
 use Rattle.cad_map.specs.declared.boundary.Boundary.{Boundary}
 use Rattle.cad_map.specs.Boundaries.{face_place}
 use Rattle.cad_map.specs.Map.{Map}
+use Rattle.cad_map.specs.Steps.{next_side}
 use Rattle.half_table.specs.declared.half.Half.{Half}
 use Rattle.half_table.specs.Rows.{HalfRows, has, face}
 use Rattle.cad_laws.specs.Local.{IsShown, side_by}
@@ -22,6 +23,10 @@ pub record IsAlong (m : Map) (rows : HalfRows) (s : Side) (h : Half) : Type 0 wh
 abbrev pub IsHalfAlong : Map → Held Spoke → Side → Half → Type 0
 IsHalfAlong m stars s h = (rows : HalfRows) → HoldsStrings m rows stars → IsAlong m rows s h
 
+-- the half is along the side before this one on its ring
+abbrev pub IsHalfBefore : Map → Held Spoke → Side → Half → Type 0
+IsHalfBefore m stars s h = (p : Side) × (next_side m p ≡ s) × IsHalfAlong m stars p h
+
 -- the side of a ring that begins at a place
 abbrev pub side_at : ℕ → Ring → Side
 side_at i ring = (slice_index (turned i ring) 0, slice_index (turned i ring) 1)
@@ -38,11 +43,6 @@ IsHalfOnRing m stars b h = (rows : HalfRows) → HoldsStrings m rows stars → I
 -- the halves along the ring have its face
 abbrev pub IsLabelled : Map → HalfRows → Boundary → Type 0
 IsLabelled m rows b = (h : Half) → IsOnRing m rows b h → face rows h ≡ b.face
-
--- rings of the map whose halves had their face still have it
-abbrev pub KeepsLabels : Map → HalfRows → HalfRows → Type 0
-KeepsLabels m old new =
-    (b : Boundary) → Contains m.boundaries b → IsLabelled m old b → IsLabelled m new b
 
 -- ---- One half of each ring
 

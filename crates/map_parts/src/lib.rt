@@ -13,7 +13,7 @@ mod map_rows;
 mod rows;
 mod stars;
 
-pub use building::{add_strings, label_rings, link_rings};
+pub use building::{add_strings, link_rings};
 pub use edits::dividing::undivide;
 pub use edits::dividing_tried::{begin_divide, begin_undivide};
 pub use edits::enclosing::open;
@@ -33,4 +33,4 @@ pub use edits::split_tried::{begin_split, begin_unsplit};
 pub use kept::{face_place, kept_half};
 pub use map_rows::{MapRows, RetiredRow};
 pub use rows::Rows;
-pub use stars::{Spoke, find_half, half_at, star_of};
+pub use stars::{Spoke, find_half_by_end, half_at, star_of};

@@ -1,6 +1,6 @@
 //! The halves that begin at each point.
 ghost use Rattle.std.specs.Prelude.{◌≡◌, ◌++◌, ◌∷◌, [], ◌≢◌, OnOk, ℕ, option_map, slice_get};
-ghost use Rattle.half_table.specs.Half.{half_of};
+ghost use Rattle.half_table.specs.Half.{half_of, twin};
 ghost use Rattle.key_lists.specs.Held.{items_at};
 ghost use Rattle.map_parts.specs.declared.stars.Spoke.{Spoke as SpokeOf};
 ghost use Rattle.map_parts.specs.Stars.{spoke, half_to, half_along, AddsSpokes};
@@ -41,10 +41,22 @@ fn first_to(spokes: &[Spoke], far: PointNo) -> Option<Half>
 
 /// The half along the side from one point to another. It takes time by the halves that begin at
 /// the first.
-pub fn find_half(stars: &KeyLists<Spoke>, from: PointNo, to: PointNo) -> Option<Half>
+pub(crate) fn find_half(stars: &KeyLists<Spoke>, from: PointNo, to: PointNo) -> Option<Half>
     ensures { result ≡ half_along stars.now (from, to) }
 {
     first_to(star_of(stars, from), to)
+}
+
+/// The half along the side from one point to another, sought at the second: the twin of the one that
+/// leads back. It takes time by the halves that begin there.
+pub fn find_half_by_end(stars: &KeyLists<Spoke>, from: PointNo, to: PointNo) -> Option<Half>
+    ensures { result ≡ option_map twin (half_along stars.now (to, from)) }
+{
+    let back = find_half(stars, to, from)?;
+    Some(Half {
+        string: back.string,
+        forward: !back.forward,
+    })
 }
 
 // Adds a half to the star of the point where it begins.

@@ -10,26 +10,23 @@ add_strings-requires-clause-whole g c = whole_valid c.args.map.now c.requires
 pub link_rings-requires-clause-whole : goal.link_rings-requires-clause-whole
 link_rings-requires-clause-whole g c = whole_valid c.args.map.now c.requires
 
-pub label_rings-requires-clause-whole : goal.label_rings-requires-clause-whole
-label_rings-requires-clause-whole g c = whole_valid c.args.map.now c.requires
-
 pub grid_of-requires : goal.grid_of-requires
 grid_of-requires g c = c.requires.sound.v1
 
 pub invariant_of-result : goal.invariant_of-result
 invariant_of-result g c =
-    let strings = c.label_rings.ensures.strings in
-    built-fit c.args.map.now (whole_valid c.args.map.now c.requires) c.label_rings.new.table c.in_ok-kept.kept c.add_strings.new.stars c.in_ok-grid.grid strings c.label_rings.ensures.local c.in_ok-kept.ensures.labelled (c.in_ok-kept.ensures.kept c.label_rings.new.table.rows strings) _ c.in_ok-rows.ensures
+    let strings = c.link_rings.ensures.strings in
+    rw c.close-table.ensures (built-fit c.args.map.now (whole_valid c.args.map.now c.requires) c.link_rings.new.table c.in_ok-kept.kept c.add_strings.new.stars c.in_ok-grid.grid strings c.in_ok-kept.ensures.local c.in_ok-kept.ensures.labelled (c.in_ok-kept.ensures.kept c.link_rings.new.table.rows strings) _ c.in_ok-rows.ensures)
 
 pub returns-clause-is : goal.returns-clause-is
 returns-clause-is g c =
-    let strings = c.label_rings.ensures.strings in
-    built-map c.args.map.now (whole_valid c.args.map.now c.requires) c.label_rings.new.table c.in_ok-kept.kept c.add_strings.new.stars c.in_ok-grid.grid strings c.label_rings.ensures.local c.in_ok-kept.ensures.labelled (c.in_ok-kept.ensures.kept c.label_rings.new.table.rows strings) _ c.in_ok-rows.ensures
+    let strings = c.link_rings.ensures.strings in
+    rw c.close-table.ensures (built-map c.args.map.now (whole_valid c.args.map.now c.requires) c.link_rings.new.table c.in_ok-kept.kept c.add_strings.new.stars c.in_ok-grid.grid strings c.in_ok-kept.ensures.local c.in_ok-kept.ensures.labelled (c.in_ok-kept.ensures.kept c.link_rings.new.table.rows strings) _ c.in_ok-rows.ensures)
 
 pub returns-clause-fit : goal.returns-clause-fit
 returns-clause-fit g c =
-    let strings = c.label_rings.ensures.strings in
-    built-fit c.args.map.now (whole_valid c.args.map.now c.requires) c.label_rings.new.table c.in_ok-kept.kept c.add_strings.new.stars c.in_ok-grid.grid strings c.label_rings.ensures.local c.in_ok-kept.ensures.labelled (c.in_ok-kept.ensures.kept c.label_rings.new.table.rows strings) _ c.in_ok-rows.ensures
+    let strings = c.link_rings.ensures.strings in
+    rw c.close-table.ensures (built-fit c.args.map.now (whole_valid c.args.map.now c.requires) c.link_rings.new.table c.in_ok-kept.kept c.add_strings.new.stars c.in_ok-grid.grid strings c.in_ok-kept.ensures.local c.in_ok-kept.ensures.labelled (c.in_ok-kept.ensures.kept c.link_rings.new.table.rows strings) _ c.in_ok-rows.ensures)
 
 pub returns-clause-halves : goal.returns-clause-halves
-returns-clause-halves g c = c.label_rings.ensures.strings.has
+returns-clause-halves g c = rw c.close-table.ensures c.link_rings.ensures.strings.has
