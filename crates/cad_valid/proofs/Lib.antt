@@ -18,6 +18,8 @@ mod NearPoints
 mod NearStrings
 mod NearCorners
 mod StarTests
+mod SeenNear
+mod SightOfMap
 mod NearFaces
 mod RaysOfPoint
 pub mod Untouched

@@ -7,8 +7,10 @@ use Rattle.std.specs.Prelude.{◌↔◌, IsTrue}
 use Rattle.std.specs.List.{AllByRecursion, AllWithin, HoldsAt, Contains}
 use Rattle.cad_rows.specs.declared.rows.PointRow.{PointRow}
 use Rattle.cad_rows.specs.declared.rows.StringRow.{StringRow}
-use Rattle.cad_map.specs.Map.{Map}
+use Rattle.cad_map.specs.Map.{Map, position_of}
 use Rattle.cad_map.proofs.CallerLemmas.{All-at_each, All-from_each}
+use Rattle.cell_grid.specs.declared.entry.HeldString.{HeldString}
+use Rattle.cell_grid.specs.declared.entry.HeldPoint.{HeldPoint}
 use Rattle.cad_valid.specs.Near.{OfPoint, OfString}
 
 -- all passed, or one didn't
@@ -35,27 +37,32 @@ module _ {R : Type 0} (number : R → ℕ) (rows : List R) (P Near : R → Type 
   abbrev OfNumber : ℕ → Type 0
   OfNumber n = (r : R) → Contains rows r → number r ≡ n → P r
 
-  passed-near : (given : List ℕ) (b : Bool) → HavePassed OfNumber given b
-      → ((r : R) → Contains rows r → Near r → Contains given (number r)) → ((r : R) → (Near r → P r) → P r)
+  passed-near : {X : Type 0} (key : X → ℕ) (given : List X) (b : Bool) → HavePassed (λ x. OfNumber (key x)) given b
+      → ((r : R) → Contains rows r → Near r → (x : X) × Contains given x × (key x ≡ number r)) → ((r : R) → (Near r → P r) → P r)
       → IsTrue b ↔ ((r : R) → Contains rows r → P r)
-  passed-near given b passed all far =
-      let is = passed-each OfNumber given b passed in (
-        (λ t r h. far r (λ near. is.0 t (number r) (all r h near) r h refl)),
-        (λ each. is.1 (λ n _ r h _. each r h)),
+  passed-near key given b passed all far =
+      let is = passed-each (λ x. OfNumber (key x)) given b passed in (
+        (λ t r h. far r (λ near. let g = all r h near in is.0 t g.0 g.1 r h (sym g.2))),
+        (λ each. is.1 (λ x _ r h _. each r h)),
       )
 
 module _ (m : Map) where
-  pub passed-points : (P Near : PointRow → Type 0) (given : List ℕ) (b : Bool) → HavePassed (OfPoint m P) given b
-      → ((p : PointRow) → Contains m.points p → Near p → Contains given p.number) → ((p : PointRow) → (Near p → P p) → P p)
+  pub passed-points : (P Near : PointRow → Type 0) (given : List HeldPoint) (b : Bool) → HavePassed (λ h. OfPoint m P h.point) given b
+      → ((p : PointRow) → Contains m.points p → Near p → Contains given (record { point = p.number; position = p.position })) → ((p : PointRow) → (Near p → P p) → P p)
       → IsTrue b ↔ ((p : PointRow) → Contains m.points p → P p)
   unfolding OfPoint
-  passed-points P Near given b passed all far = passed-near (λ (p : PointRow). p.number) m.points P Near given b passed all far
+  passed-points P Near given b passed all far =
+      passed-near (λ (p : PointRow). p.number) m.points P Near (λ (h : HeldPoint). h.point) given b passed
+      (λ p h near. (record { point = p.number; position = p.position }, all p h near, refl)) far
 
-  pub passed-strings : (P Near : StringRow → Type 0) (given : List ℕ) (b : Bool) → HavePassed (OfString m P) given b
-      → ((s : StringRow) → Contains m.strings s → Near s → Contains given s.number) → ((s : StringRow) → (Near s → P s) → P s)
+  pub passed-strings : (P Near : StringRow → Type 0) (given : List HeldString) (b : Bool) → HavePassed (λ h. OfString m P h.string) given b
+      → ((s : StringRow) → Contains m.strings s → Near s → Contains given (record { string = s.number; from = position_of m s.from; to = position_of m s.to }))
+      → ((s : StringRow) → (Near s → P s) → P s)
       → IsTrue b ↔ ((s : StringRow) → Contains m.strings s → P s)
   unfolding OfString
-  passed-strings P Near given b passed all far = passed-near (λ (s : StringRow). s.number) m.strings P Near given b passed all far
+  passed-strings P Near given b passed all far =
+      passed-near (λ (s : StringRow). s.number) m.strings P Near (λ (h : HeldString). h.string) given b passed
+      (λ s h near. (record { string = s.number; from = position_of m s.from; to = position_of m s.to }, all s h near, refl)) far
 
 -- Two tests of the two halves of a statement, of which the second is made where the first passes.
 module _ {P Q R : Type 0} (halves : P × Q ↔ R) (a : Bool) (first : IsTrue a ↔ P) where

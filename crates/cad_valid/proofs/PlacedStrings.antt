@@ -38,7 +38,7 @@ and-iff b c P Q h k = (
 )
 
 -- neither of two segments from one position has the other's end exactly where they have only the start in common
-only_start : (start a b : Position) → ¬ (a ≡ start) → ¬ (b ≡ start) → IsTrue (not (have_common start a b b) && not (have_common start b a a)) ↔ HaveOnlyStart start a b
+pub only_start : (start a b : Position) → ¬ (a ≡ start) → ¬ (b ≡ start) → IsTrue (not (have_common start a b b) && not (have_common start b a a)) ↔ HaveOnlyStart start a b
 only_start start a b a_away b_away =
     let is = only_start-is start a b a_away b_away in
     iff-trans

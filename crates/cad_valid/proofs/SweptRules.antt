@@ -40,7 +40,7 @@ same_position p q same =
     let y = (Decides-int_eq p.y q.y).0 both.1 in
     λ i. record { x = x i; y = y i }
 
-same_itself : (p : Position) → is_same_position p p ≡ true
+pub same_itself : (p : Position) → is_same_position p p ≡ true
 same_itself p = and_from (int_eq p.x p.x) (int_eq p.y p.y) (int_eq_equiv.refl p.x) (int_eq_equiv.refl p.y)
 
 same_back : (p q : Position) → is_same_position p q ≡ true → is_same_position q p ≡ true

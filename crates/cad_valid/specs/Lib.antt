@@ -2,6 +2,7 @@ pub mod Boxes
 pub mod Corners
 pub mod Holes
 pub mod Near
+pub mod Seen
 pub mod Rays
 pub mod Outlines
 pub mod Extents

@@ -1,6 +1,6 @@
 -- What is tested near an edit.
 use Rattle.std.specs.Prelude.{◌≡◌, ◌≢◌, ℕ, IsTrue}
-use Rattle.std.specs.List.{Contains}
+use Rattle.std.specs.List.{AllByRecursion, Contains}
 use Rattle.cad_rows.specs.declared.rows.PointRow.{PointRow}
 use Rattle.cad_rows.specs.declared.rows.StringRow.{StringRow}
 use Rattle.cad_rows.specs.declared.names.Face.{Face}
@@ -74,6 +74,11 @@ LiesAtEnds m p = (s : StringRow) → Contains m.strings s → LiesOnlyAsEnd m p 
 pub record IsUncrossed (m : Map) (s : StringRow) : Type 0 where
   pub strings : MeetsAtEnds m s
   pub points : BearsEnds m s
+
+-- nothing crosses the touched strings, and the touched points lie on none but as their ends
+pub record AreUncrossed (m : Map) (t : Touched) : Type 0 where
+  pub strings : AllByRecursion (OfString m (IsUncrossed m)) t.strings
+  pub points : AllByRecursion (OfPoint m (LiesAtEnds m)) t.points
 
 -- ---- V6
 

@@ -5,17 +5,24 @@ ghost use Rattle.cad_map.specs.Valid.{HasSoundRows, HasTwoEnds};
 ghost use Rattle.cad_map.specs.Valid.{CanBeTested, Keeps, KeepsAll, FirstBroken};
 ghost use Rattle.cad_map.specs.Crossings.{HasPlacedRows};
 ghost use Rattle.cad_map.specs.Rings.{HasWholeRings};
-ghost use Rattle.cad_valid.specs.Near.{HoldsMap, ComesFromValid, touched_of};
+ghost use Rattle.std.specs.List.{AllByRecursion};
+ghost use Rattle.cad_map.specs.Touched.{Touched as TouchedOf};
+ghost use Rattle.cad_valid.specs.Near.{HoldsMap, ComesFromValid, touched_of, OfPoint, IsAlone, AreUncrossed};
+ghost use Rattle.cad_valid.specs.Seen.{IsSeen};
 
 mod corners;
 mod faces;
 mod points;
 mod rays;
+mod seen;
+mod sight;
 mod strings;
 
 use crate::near::corners::{are_empty_at, are_empty_at_ends};
 use crate::near::faces::{have_outlines, have_sound_holes};
 use crate::near::points::are_alone;
+use crate::near::seen::{Seen, seen_of};
+use crate::near::sight::{sees_points_apart, sees_points_clear, sees_strings_clear};
 use crate::near::strings::{are_uncrossed, lie_at_ends};
 use cad_map::MapView;
 use cad_rows::{Face, PointNo, Rule, StringNo};
@@ -47,10 +54,11 @@ pub fn first_broken_near<M: MapView>(map: &M, grid: &CellGrid, touched: &Touched
     ensures broken { IfSome result (FirstBroken (M.map map.now)) }
     ensures kept { IfNone result (KeepsAll (M.map map.now)) }
 {
-    if !has_distinct_positions(map, grid, touched) {
+    let seen = seen_of(map, touched);
+    if !has_distinct_positions(map, grid, touched, &seen) {
         return Some(Rule::V3);
     }
-    if !has_no_crossing(map, grid, touched) {
+    if !has_no_crossing(map, grid, touched, &seen) {
         return Some(Rule::V4);
     }
     if !has_empty_corners(map, touched) {
@@ -65,26 +73,67 @@ pub fn first_broken_near<M: MapView>(map: &M, grid: &CellGrid, touched: &Touched
     None
 }
 
-/// Whether no two points have the same position. Two that weren't touched had others before.
-fn has_distinct_positions<M: MapView>(map: &M, grid: &CellGrid, touched: &Touched) -> bool
+/// Whether no two points have the same position. Two that weren't touched had others before. `seen`:
+/// what was touched, where that is little.
+fn has_distinct_positions<M: MapView>(
+    map: &M,
+    grid: &CellGrid,
+    touched: &Touched,
+    seen: &Option<Seen>,
+) -> bool
     requires sound { HasSoundRows (M.map map.now) }
     requires two { HasTwoEnds (M.map map.now) }
     requires held { HoldsMap grid.now (M.map map.now) }
     requires touched { ComesFromValid (touched_of touched.now) (M.map map.now) }
+    requires seen { IfSome seen.now (IsSeen (M.map map.now) (touched_of touched.now)) }
     ensures { IsTrue result ↔ Keeps (M.map map.now) V3 }
 {
-    are_alone(map, grid, touched.points.as_slice())
+    are_seen_apart(map, grid, seen) || are_alone(map, grid, touched.points.as_slice())
 }
 
-/// Whether strings and points meet only at ends. Those that weren't touched did before.
-fn has_no_crossing<M: MapView>(map: &M, grid: &CellGrid, touched: &Touched) -> bool
+/// Whether points that were gathered are seen to lie apart from all others.
+fn are_seen_apart<M: MapView>(map: &M, grid: &CellGrid, seen: &Option<Seen>) -> bool
+    requires sound { HasSoundRows (M.map map.now) }
+    requires held { HoldsMap grid.now (M.map map.now) }
+    ensures { (t : TouchedOf) → IfSome seen.now (IsSeen (M.map map.now) t) → IsTrue result
+        → AllByRecursion (OfPoint (M.map map.now) (IsAlone (M.map map.now))) t.points }
+{
+    match seen {
+        Some(seen) => sees_points_apart(map, grid, seen),
+        None => false,
+    }
+}
+
+/// Whether strings and points meet only at ends. Those that weren't touched did before. `seen`: what
+/// was touched, where that is little.
+fn has_no_crossing<M: MapView>(
+    map: &M,
+    grid: &CellGrid,
+    touched: &Touched,
+    seen: &Option<Seen>,
+) -> bool
     requires rows { HasPlacedRows (M.map map.now) }
     requires held { HoldsMap grid.now (M.map map.now) }
     requires touched { ComesFromValid (touched_of touched.now) (M.map map.now) }
+    requires seen { IfSome seen.now (IsSeen (M.map map.now) (touched_of touched.now)) }
     ensures { IsTrue result ↔ Keeps (M.map map.now) V4 }
 {
-    are_uncrossed(map, grid, touched.strings.as_slice())
-        && lie_at_ends(map, grid, touched.points.as_slice())
+    are_seen_uncrossed(map, grid, seen)
+        || (are_uncrossed(map, grid, touched.strings.as_slice())
+            && lie_at_ends(map, grid, touched.points.as_slice()))
+}
+
+/// Whether strings and points that were gathered are seen to meet others only at ends.
+fn are_seen_uncrossed<M: MapView>(map: &M, grid: &CellGrid, seen: &Option<Seen>) -> bool
+    requires rows { HasPlacedRows (M.map map.now) }
+    requires held { HoldsMap grid.now (M.map map.now) }
+    ensures { (t : TouchedOf) → IfSome seen.now (IsSeen (M.map map.now) t) → IsTrue result
+        → AreUncrossed (M.map map.now) t }
+{
+    match seen {
+        Some(seen) => sees_strings_clear(map, grid, seen) && sees_points_clear(map, grid, seen),
+        None => false,
+    }
 }
 
 /// Whether corners are empty. One at a point that wasn't touched, and where no touched string ends,

@@ -1,5 +1,5 @@
--- What is given near a segment is held, and all that has a common location with it is given.
-use Rattle.std.proofs.Common.{◌≡◌, ℕ, zero, suc, ◌+◌, ◌-◌, ◌<◌, List, [], ◌∷◌, length, filter, map, Bool, true, false, refl, sym, ap, subst, ◌∙◌, arith, ◌⊎◌, inl, inr, Option, Some, None, slice_get, nat_lt, nat_eq, eqb-true}
+-- What is given near a segment is held, and all whose box overlaps its own is given.
+use Rattle.std.proofs.Common.{◌≡◌, ℕ, zero, suc, ◌+◌, ◌-◌, ◌<◌, List, [], ◌∷◌, length, filter, Bool, true, false, refl, sym, ap, subst, ◌∙◌, arith, ◌⊎◌, inl, inr, Option, Some, None, slice_get, nat_lt, nat_eq, eqb-true}
 use Rattle.std.proofs.lemmas.Bool.{false_from_ne_true}
 use Rattle.std.proofs.lemmas.Bool.Decides.{Decides-ltb}
 use Rattle.std.specs.Prelude.{if◌then◌else◌, unwrap_or, option_map}
@@ -7,19 +7,17 @@ use Rattle.std.specs.List.{Contains}
 use Rattle.std.specs.Map.{lookup}
 use Rattle.std.specs.Global.{Vec}
 use Rattle.geo_exact.specs.Position.{OnTheMap}
-use Rattle.geo_exact.specs.Segment.{HaveCommonLocation}
-use Rattle.geo_exact.proofs.CallerLemmas.{boxes_overlap-HaveCommonLocation}
 use Rattle.cell_grid.specs.declared.entry.Entry.{Entry}
 use Rattle.cell_grid.specs.declared.near.Query.{Query}
 use Rattle.cell_grid.specs.Cells.{IsSide, IsCellOf, cell_count, cell_at}
 use Rattle.cell_grid.specs.Held.{HeldEntries, entries_at, cell_list as list_of}
 use Rattle.cell_grid.specs.Spread.{IsSpread, Holds}
-use Rattle.cell_grid.specs.Near.{is_near, IsQuery, list_in_turn, searched_count, searched_list, lists_from, numbers_of}
+use Rattle.cell_grid.specs.Near.{is_near, IsQuery, list_in_turn, searched_count, searched_list, lists_from}
 use Rattle.cell_grid.proofs.Placed.{one_cell}
 use Rattle.cell_grid.proofs.Blocks.{cell-found}
 use Rattle.cell_grid.proofs.Nearness.{joined-has, joined-from}
 
--- ---- Numbers of the near ones
+-- ---- The near ones of a list
 
 cons-cases : {X : Type 0} (y : X) (ys : List X) (x : X) → Contains (y ∷ ys) x
     → (y ≡ x) ⊎ Contains ys x
@@ -37,60 +35,39 @@ one_left : (p : Entry → Bool) (x : Entry) (xs : List Entry) → p x ≡ false
     → filter p (x ∷ xs) ≡ filter p xs
 one_left p x xs here = rw here refl
 
-record Numbered (q : Query) (xs : List Entry) (n : ℕ) : Type 0 where
-  entry : Entry
-  there : Contains xs entry
-  near : is_near q entry ≡ true
-  number : entry.number ≡ n
-
-numbers-from : (q : Query) (xs : List Entry) (n : ℕ) → Contains (numbers_of q xs) n
-    → Numbered q xs n
-numbers-from q [] n h = absurd (omega (arith, h.1))
-numbers-from q (x ∷ xs) n h = by (is_near q x) refl (numbers-from q xs n)
+near-from : (p : Entry → Bool) (xs : List Entry) (e : Entry) → Contains (filter p xs) e
+    → Contains xs e × (p e ≡ true)
+near-from p [] e h = absurd (omega (arith, h.1))
+near-from p (x ∷ xs) e h = by (p x) refl (near-from p xs e)
   where
-    later : Numbered q xs n → Numbered q (x ∷ xs) n
-    later f =
-        record {
-          entry = f.entry;
-          there = cons-later x xs f.entry f.there;
-          near = f.near;
-          number = f.number;
-        }
-
-    by : (b : Bool) → is_near q x ≡ b → (Contains (numbers_of q xs) n → Numbered q xs n)
-        → Numbered q (x ∷ xs) n
+    by : (b : Bool) → p x ≡ b → (Contains (filter p xs) e → Contains xs e × (p e ≡ true))
+        → Contains (x ∷ xs) e × (p e ≡ true)
     by true is rest =
-        elim (cons-cases x.number (numbers_of q xs) n
-        (subst (λ (l : List Entry). Contains (map (λ (e : Entry). e.number) l) n)
-        (one_kept (is_near q) x xs is) h)) [
-          | inl here ↦
-              record { entry = x; there = (0, omega arith, refl); near = is; number = here }
-          | inr more ↦ later (rest more)
+        elim (cons-cases x (filter p xs) e
+        (subst (λ (l : List Entry). Contains l e) (one_kept p x xs is) h)) [
+          | inl here ↦ ((0, omega arith, here), subst (λ (y : Entry). p y ≡ true) here is)
+          | inr more ↦ let f = rest more in (cons-later x xs e f.0, f.1)
         ]
     by false is rest =
-        later (rest (subst (λ (l : List Entry). Contains (map (λ (e : Entry). e.number) l) n)
-        (one_left (is_near q) x xs is) h))
+        let f = rest (subst (λ (l : List Entry). Contains l e) (one_left p x xs is) h) in
+        (cons-later x xs e f.0, f.1)
 
-numbers-has : (q : Query) (xs : List Entry) (e : Entry) → Contains xs e → is_near q e ≡ true
-    → Contains (numbers_of q xs) e.number
-numbers-has q [] e h near = absurd (omega (arith, h.1))
-numbers-has q (x ∷ xs) e h near = elim (cons-cases x xs e h) [
+near-has : (p : Entry → Bool) (xs : List Entry) (e : Entry) → Contains xs e → p e ≡ true
+    → Contains (filter p xs) e
+near-has p [] e h near = absurd (omega (arith, h.1))
+near-has p (x ∷ xs) e h near = elim (cons-cases x xs e h) [
   | inl here ↦
-      subst (λ (l : List Entry). Contains (map (λ (y : Entry). y.number) l) e.number)
-      (sym (one_kept (is_near q) x xs (subst (λ (y : Entry). is_near q y ≡ true) (sym here)
-      near)))
-      (0, omega arith, ap (λ (y : Entry). y.number) here)
-  | inr later ↦ past (is_near q x) refl (numbers-has q xs e later near)
+      subst (λ (l : List Entry). Contains l e)
+      (sym (one_kept p x xs (subst (λ (y : Entry). p y ≡ true) (sym here) near)))
+      (0, omega arith, here)
+  | inr later ↦ past (p x) refl (near-has p xs e later near)
 ]
   where
-    past : (b : Bool) → is_near q x ≡ b → Contains (numbers_of q xs) e.number
-        → Contains (numbers_of q (x ∷ xs)) e.number
+    past : (b : Bool) → p x ≡ b → Contains (filter p xs) e → Contains (filter p (x ∷ xs)) e
     past true is c =
-        subst (λ (l : List Entry). Contains (map (λ (y : Entry). y.number) l) e.number)
-        (sym (one_kept (is_near q) x xs is)) (cons-later x.number (numbers_of q xs) e.number c)
-    past false is c =
-        subst (λ (l : List Entry). Contains (map (λ (y : Entry). y.number) l) e.number)
-        (sym (one_left (is_near q) x xs is)) c
+        subst (λ (l : List Entry). Contains l e) (sym (one_kept p x xs is))
+        (cons-later x (filter p xs) e c)
+    past false is c = subst (λ (l : List Entry). Contains l e) (sym (one_left p x xs is)) c
 
 -- ---- Entries by the places of their lists
 
@@ -158,13 +135,12 @@ module _ (lists : HeldEntries) (long_ones : List Entry) (q : Query) where
             long_ones e c) [ inl t ↦ inl (cell_at q.block k, t) | inr l ↦ inr l ]
       ]
 
-  pub given-held : (n : ℕ) → Contains (numbers_of q (lists_from lists long_ones q 0)) n
-      → (e : Entry) × Holds lists long_ones e × (is_near q e ≡ true) × (e.number ≡ n)
-  given-held n h =
-      let f = numbers-from q (lists_from lists long_ones q 0) n h in
-      let j = joined-from (searched_list lists long_ones q) f.entry 0 (searched_count lists q - 0)
-      f.there in
-      (f.entry, list-held j.0 f.entry j.1, f.near, f.number)
+  pub given-held : (e : Entry) → Contains (filter (is_near q) (lists_from lists long_ones q 0)) e
+      → Holds lists long_ones e × (is_near q e ≡ true)
+  given-held e h =
+      let f = near-from (is_near q) (lists_from lists long_ones q 0) e h in
+      let j = joined-from (searched_list lists long_ones q) e 0 (searched_count lists q - 0) f.0 in
+      (list-held j.0 e j.1, f.1)
 
   -- the list that has an entry that stands in a cell
   turn-of : (cell : ℕ) (e : Entry) → Contains (entries_at lists cell) e
@@ -193,9 +169,9 @@ module _ (lists : HeldEntries) (long_ones : List Entry) (q : Query) where
 
   module _ (side : ℕ) (h : IsSide side) (s : IsSpread side lists long_ones) (is : IsQuery side q)
       (on_from : OnTheMap q.from) (on_to : OnTheMap q.to) where
-    list-of : (e : Entry) → Holds lists long_ones e → HaveCommonLocation q.from q.to e.from e.to
+    list-of : (e : Entry) → Holds lists long_ones e → is_near q e ≡ true
         → (k : ℕ) × (k < searched_count lists q) × Contains (searched_list lists long_ones q k) e
-    list-of e held meet = found q.all held
+    list-of e held near = found q.all held
       where
         found : (b : Bool) → Holds lists long_ones e
             → (k : ℕ) × (k < (if b then length lists else cell_count q.block) + 1)
@@ -216,8 +192,7 @@ module _ (lists : HeldEntries) (long_ones : List Entry) (q : Query) where
         )
         found false (inl t) =
             let sound = s.sound e (inl t) in
-            let one = one_cell side q.from q.to e.from e.to h on_from on_to sound.from sound.to
-            (boxes_overlap-HaveCommonLocation q.from q.to e.from e.to meet) in
+            let one = one_cell side q.from q.to e.from e.to h on_from on_to sound.from sound.to near in
             let f = cell-found q.block is.is_block one.0
             (subst (λ b. IsCellOf b one.0) (sym is.block) one.1) in
             let there : Contains (entries_at lists (cell_at q.block f.0)) e =
@@ -235,12 +210,10 @@ module _ (lists : HeldEntries) (long_ones : List Entry) (q : Query) where
               long_ones e t,
         )
 
-    pub given-all : (e : Entry) → Holds lists long_ones e
-        → HaveCommonLocation q.from q.to e.from e.to
-        → Contains (numbers_of q (lists_from lists long_ones q 0)) e.number
-    given-all e held meet =
-        let l = list-of e held meet in
-        numbers-has q (lists_from lists long_ones q 0) e
+    pub given-all : (e : Entry) → Holds lists long_ones e → is_near q e ≡ true
+        → Contains (filter (is_near q) (lists_from lists long_ones q 0)) e
+    given-all e held near =
+        let l = list-of e held near in
+        near-has (is_near q) (lists_from lists long_ones q 0) e
         (joined-has (searched_list lists long_ones q) e l.0 0 (searched_count lists q - 0)
-        (omega arith) (omega (arith, l.1)) l.2)
-        (boxes_overlap-HaveCommonLocation q.from q.to e.from e.to meet)
+        (omega arith) (omega (arith, l.1)) l.2) near

@@ -1,48 +1,68 @@
 -- What a grid holds, by the entries that it keeps.
-use Rattle.std.proofs.Common.{◌≡◌, ℕ, suc, List, [], ◌∷◌, refl, sym, ap, subst, ◌∙◌, arith, ◌⊎◌, inl, inr}
+use Rattle.std.proofs.Common.{◌≡◌, ℕ, zero, suc, List, [], ◌∷◌, map, refl, sym, ap, subst, ◌∙◌, arith, ◌⊎◌, inl, inr}
 use Rattle.geo_exact.specs.SignTest.{boxes_overlap}
 use Rattle.std.specs.Prelude.{IsTrue, ◌↔◌, Result, Ok, Err, OnOk, OnErr}
 use Rattle.std.specs.List.{Contains, AllByRecursion}
 use Rattle.geo_exact.specs.Position.{Position}
-use Rattle.cad_rows.specs.Limits.{IsNumber}
 use Rattle.cell_grid.specs.declared.entry.Entry.{Entry}
 use Rattle.cell_grid.specs.Held.{HeldEntries}
 use Rattle.cell_grid.specs.Spread.{IsSpread, Holds}
-use Rattle.cell_grid.specs.Grid.{entry_of}
+use Rattle.cell_grid.specs.declared.entry.HeldString.{HeldString}
+use Rattle.cell_grid.specs.declared.entry.HeldPoint.{HeldPoint}
+use Rattle.cell_grid.specs.Grid.{entry_of, held_string, held_point, IsNumbered}
 
-all_from : (P : ℕ → Type 0) (xs : List ℕ) → ((n : ℕ) → Contains xs n → P n) → AllByRecursion P xs
+all_from : {X : Type 0} (P : X → Type 0) (xs : List X) → ((x : X) → Contains xs x → P x)
+    → AllByRecursion P xs
 all_from P [] each = tt
 all_from P (x ∷ xs) each = (
   each x (0, omega arith, refl),
-  all_from P xs (λ n h. each n (suc h.0, omega (arith, h.1), h.2)),
+  all_from P xs (λ y h. each y (suc h.0, omega (arith, h.1), h.2)),
 )
 
--- numbers that were given near a segment
+-- what a list of entries is read as has what one of them is read as, and no more
+module _ {X : Type 0} (read : Entry → X) where
+  pub read-has : (xs : List Entry) (e : Entry) → Contains xs e → Contains (map read xs) (read e)
+  read-has [] e h = absurd (omega (arith, h.1))
+  read-has (x ∷ xs) e (zero, within, is) = (0, omega arith, ap read is)
+  read-has (x ∷ xs) e (suc k, within, is) =
+      let later = read-has xs e (k, omega arith, is) in (suc later.0, omega (arith, later.1), later.2)
+
+  pub read-from : (xs : List Entry) (y : X) → Contains (map read xs) y
+      → (e : Entry) × Contains xs e × (read e ≡ y)
+  read-from [] y h = absurd (omega (arith, h.1))
+  read-from (x ∷ xs) y (zero, within, is) = (x, (0, omega arith, refl), is)
+  read-from (x ∷ xs) y (suc k, within, is) =
+      let later = read-from xs y (k, omega arith, is) in
+      (later.0, (suc later.1.0, omega (arith, later.1.1), later.1.2), later.2)
+
+-- entries that were given near a segment
 module _ (side : ℕ) (lists : HeldEntries) (long_ones : List Entry) (s : IsSpread side lists long_ones)
-    (a b : Position) (xs : List ℕ) (held : (n : ℕ) → Contains xs n → (e : Entry)
-    × Holds lists long_ones e × IsTrue (boxes_overlap a b e.from e.to) × (e.number ≡ n)) where
-  pub numbers_given : AllByRecursion IsNumber xs
-  numbers_given = all_from IsNumber xs
-      (λ n h. let f = held n h in subst IsNumber f.3 (s.sound f.0 f.1).number)
+    (a b : Position) (xs : List Entry) (held : (e : Entry) → Contains xs e
+    → Holds lists long_ones e × IsTrue (boxes_overlap a b e.from e.to)) where
+  pub numbers_given : AllByRecursion IsNumbered xs
+  numbers_given = all_from IsNumbered xs (λ e h. (s.sound e (held e h).0).number)
 
-  pub strings_given : (n : ℕ) → Contains xs n → (c : Position) × (d : Position)
-      × Holds lists long_ones (entry_of n c d) × IsTrue (boxes_overlap a b c d)
-  strings_given n h =
-      let f = held n h in
-      let Held_as : ℕ → Type 0 = λ m. Holds lists long_ones (entry_of m f.0.from f.0.to) in
-      (f.0.from, f.0.to, subst Held_as f.3 f.1, f.2)
+  pub strings_given : (t : HeldString) → Contains (map held_string xs) t
+      → Holds lists long_ones (entry_of t.string t.from t.to) × IsTrue (boxes_overlap a b t.from t.to)
+  strings_given t h =
+      let f = read-from held_string xs t h in
+      subst (λ (y : HeldString). Holds lists long_ones (entry_of y.string y.from y.to)
+      × IsTrue (boxes_overlap a b y.from y.to)) f.2 (held f.0 f.1)
 
-  pub points_given : ((e : Entry) → Holds lists long_ones e → e.from ≡ e.to) → (n : ℕ)
-      → Contains xs n
-      → (c : Position) × Holds lists long_ones (entry_of n c c) × IsTrue (boxes_overlap a b c c)
-  points_given spots n h =
-      let f = held n h in
-      let c = f.0.from in
-      let one = sym (spots f.0 f.1) in
-      let Held_to : Position → Type 0 = λ d. Holds lists long_ones (entry_of f.0.number c d) in
-      let Held_as : ℕ → Type 0 = λ m. Holds lists long_ones (entry_of m c c) in
-      let Near_to : Position → Type 0 = λ d. IsTrue (boxes_overlap a b c d) in
-      (c, subst Held_as f.3 (subst Held_to one f.1), subst Near_to one f.2)
+  pub points_given : ((e : Entry) → Holds lists long_ones e → e.from ≡ e.to) → (p : HeldPoint)
+      → Contains (map held_point xs) p
+      → Holds lists long_ones (entry_of p.point p.position p.position)
+      × IsTrue (boxes_overlap a b p.position p.position)
+  points_given spots p h =
+      let f = read-from held_point xs p h in
+      let there = held f.0 f.1 in
+      let one = sym (spots f.0 there.0) in
+      let spot : Holds lists long_ones (entry_of f.0.number f.0.from f.0.from)
+      × IsTrue (boxes_overlap a b f.0.from f.0.from) =
+      subst (λ (d : Position). Holds lists long_ones (entry_of f.0.number f.0.from d)
+      × IsTrue (boxes_overlap a b f.0.from d)) one there in
+      subst (λ (y : HeldPoint). Holds lists long_ones (entry_of y.point y.position y.position)
+      × IsTrue (boxes_overlap a b y.position y.position)) f.2 spot
 
 -- the entries of points are single positions
 module _ (old new : Entry → Type 0) (spots : (e : Entry) → old e → e.from ≡ e.to) where

@@ -1,4 +1,4 @@
--- Numbers that a search gave, of which none is the one that is looked for.
+-- What a search gave, of which none has the number that is looked for.
 use Rattle.std.proofs.Common.{◌≡◌, ℕ, List, [], ◌∷◌, ◌++◌, map, refl, sym, ap, subst, ◌∙◌, arith, inl, inr}
 use Rattle.std.proofs.lemmas.List.Elements.{Contains-push_cases}
 use Rattle.std.specs.Prelude.{Result, Ok, Err, OnOk}
@@ -8,21 +8,22 @@ use Rattle.geo_exact.specs.Segment.{HaveCommonLocation}
 use Rattle.cell_grid.specs.declared.entry.Entry.{Entry}
 use Rattle.cell_grid.specs.Kept.{Kept, IsHeld, HoldsOneMore}
 
-pub none-more : (xs : List ℕ) (x n : ℕ) → ((k : ℕ) → Contains xs k → ¬ (k ≡ n)) → ¬ (x ≡ n)
-    → (k : ℕ) → Contains (xs ++ x ∷ []) k → ¬ (k ≡ n)
-none-more xs x n before other k h = elim (Contains-push_cases xs x k h) [
-  | inl there ↦ before k there
-  | inr same ↦ subst (λ (j : ℕ). ¬ (j ≡ n)) same other
-]
-
-map-same : (xs : List ℕ) → map (λ x. x) xs ≡ xs
+map-same : {X : Type 0} (xs : List X) → map (λ x. x) xs ≡ xs
 map-same [] = refl
 map-same (x ∷ xs) = ap (λ l. x ∷ l) (map-same xs)
 
-pub none-at_end : (seen given : List ℕ) (n : ℕ) → map (λ x. x) seen ≡ given
-    → ((k : ℕ) → Contains seen k → ¬ (k ≡ n)) → ¬ Contains given n
-none-at_end seen given n all none h =
-    none n (subst (λ (l : List ℕ). Contains l n) (sym (sym (map-same seen) ∙ all)) h) refl
+module _ {X : Type 0} (number : X → ℕ) where
+  pub none-more : (xs : List X) (x : X) (n : ℕ) → ((k : X) → Contains xs k → ¬ (number k ≡ n))
+      → ¬ (number x ≡ n) → (k : X) → Contains (xs ++ x ∷ []) k → ¬ (number k ≡ n)
+  none-more xs x n before other k h = elim (Contains-push_cases xs x k h) [
+    | inl there ↦ before k there
+    | inr same ↦ subst (λ (j : X). ¬ (number j ≡ n)) same other
+  ]
+
+  pub none-at_end : (seen given : List X) (x : X) → map (λ x. x) seen ≡ given
+      → ((k : X) → Contains seen k → ¬ (number k ≡ number x)) → ¬ Contains given x
+  none-at_end seen given x all none h =
+      none x (subst (λ (l : List X). Contains l x) (sym (sym (map-same seen) ∙ all)) h) refl
 
 pub meets_itself : (a b : Position) → HaveCommonLocation a b a b
 meets_itself a b = record {

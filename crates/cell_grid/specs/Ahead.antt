@@ -1,14 +1,15 @@
 -- How the search for entries near a segment stands.
-use Rattle.std.specs.Prelude.{ℕ, ◌≤◌, List, ◌++◌}
+use Rattle.std.specs.Prelude.{◌≤◌, List, ◌++◌, filter}
+use Rattle.cell_grid.specs.declared.entry.Entry.{Entry}
 use Rattle.cell_grid.specs.declared.near.NearEntries.TheInside.{Inside}
 use Rattle.cell_grid.specs.Cells.{IsBlock}
-use Rattle.cell_grid.specs.Near.{numbers_of, lists_from, searched_count}
+use Rattle.cell_grid.specs.Near.{is_near, lists_from, searched_count}
 
--- the numbers that are still to be given
-abbrev pub numbers_ahead : Inside → List ℕ
-numbers_ahead w =
-    numbers_of w.query (w.list.now ++ lists_from w.segments.now.lists w.segments.now.long.items
-    w.query w.next)
+-- the entries that are still to be given
+abbrev pub entries_ahead : Inside → List Entry
+entries_ahead w =
+    filter (is_near w.query) (w.list.now ++ lists_from w.segments.now.lists
+    w.segments.now.long.items w.query w.next)
 
 -- the search stands at one of its lists, or past the last
 pub record IsUnderWay (w : Inside) : Type 0 where

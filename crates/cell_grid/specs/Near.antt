@@ -1,5 +1,5 @@
 -- The entries near a segment.
-use Rattle.std.specs.Prelude.{◌≡◌, ℕ, zero, suc, ◌+◌, ◌-◌, Bool, List, [], ◌∷◌, ◌++◌, nat_lt, length, map, filter, slice_get, option_map, unwrap_or, if◌then◌else◌, drop, slice_index_or}
+use Rattle.std.specs.Prelude.{◌≡◌, ℕ, zero, suc, ◌+◌, ◌-◌, Bool, List, [], ◌∷◌, ◌++◌, nat_lt, length, filter, slice_get, option_map, unwrap_or, if◌then◌else◌, drop, slice_index_or}
 use Rattle.geo_exact.specs.SignTest.{boxes_overlap}
 use Rattle.cell_grid.specs.declared.entry.Entry.{Entry}
 use Rattle.cell_grid.specs.declared.near.Query.{Query}
@@ -40,10 +40,6 @@ lists_in_turn list k (suc n) = list k ++ lists_in_turn list (k + 1) n
 abbrev pub lists_from : HeldEntries → List Entry → Query → ℕ → List Entry
 lists_from lists long_ones q k =
     lists_in_turn (searched_list lists long_ones q) k (searched_count lists q - k)
-
--- the numbers of the entries that are near
-abbrev pub numbers_of : Query → List Entry → List ℕ
-numbers_of q xs = map (λ e. e.number) (filter (is_near q) xs)
 
 -- of the lists from one on, the first near entry stands in the k-th, at this place
 abbrev pub FoundAt : HeldEntries → List Entry → Query → ℕ → ℕ → ℕ → Type 0

@@ -2,6 +2,7 @@
 ghost use Rattle.std.specs.Prelude.{◌≡◌};
 ghost use Rattle.cell_grid.specs.Entries.{is_same_entry};
 
+use cad_rows::{PointNo, StringNo};
 use geo_exact::Pt;
 
 /// A segment with the number of the string that lies there. A point is a segment of one position.
@@ -10,6 +11,21 @@ pub(crate) struct Entry {
     pub number: u32,
     pub from: Pt,
     pub to: Pt,
+}
+
+/// A string that a grid holds, between the positions of its two ends.
+#[derive(Clone, Copy, Debug)]
+pub struct HeldString {
+    pub string: StringNo,
+    pub from: Pt,
+    pub to: Pt,
+}
+
+/// A point that a grid holds, at its position.
+#[derive(Clone, Copy, Debug)]
+pub struct HeldPoint {
+    pub point: PointNo,
+    pub position: Pt,
 }
 
 /// Whether two entries have the same number and the same positions.

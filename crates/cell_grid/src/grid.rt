@@ -3,15 +3,16 @@ ghost use Rattle.std.specs.Prelude.{ℕ, IsTrue, OnOk, OnErr, IfOk};
 ghost use Rattle.std.specs.List.{Contains};
 ghost use Rattle.std.specs.Iterator.{YieldsFirst, item_count};
 ghost use Rattle.geo_exact.specs.Position.{Position};
-ghost use Rattle.geo_exact.specs.Segment.{HaveCommonLocation, IsOnSegment};
 ghost use Rattle.geo_exact.specs.SignTest.{boxes_overlap};
 ghost use Rattle.cell_grid.specs.Cells.{IsSide};
 ghost use Rattle.cell_grid.specs.Kept.{HoldsNone, HoldsSame, HoldsOneMore, HoldsOneLess};
 ghost use Rattle.cell_grid.specs.Together.{HoldsMore, HoldsLess, AreNew, AreHeld};
+ghost use Rattle.cell_grid.specs.declared.entry.HeldString.{HeldString as HeldStringOf};
+ghost use Rattle.cell_grid.specs.declared.entry.HeldPoint.{HeldPoint as HeldPointOf};
 ghost use Rattle.cell_grid.specs.Grid.{HoldsString, HoldsPoint, entry_of};
 
 use crate::entries::Entries;
-use crate::entry::Entry;
+use crate::entry::{Entry, HeldPoint, HeldString};
 use crate::near::NearEntries;
 use crate::segments::Segments;
 use cad_rows::{Memory, PointNo, StringNo};
@@ -158,28 +159,32 @@ impl CellGrid {
         self.points.take_all(entries.points.as_slice());
     }
 
-    /// Strings held near the segment ab: all that have a common location with it, and others whose
-    /// boxes overlap its own. A string may come several times. It takes no memory, and time by the
-    /// cells of the box of ab; where these are more than 4,096 it goes through all that is held.
+    /// The strings held near the segment ab, each between the positions where it is held: those
+    /// whose boxes overlap its own, so all that have a common location with it. A string may come
+    /// several times. It takes no memory, and time by the cells of the box of ab; where these are
+    /// more than 4,096 it goes through all that is held.
     pub fn candidates(&self, a: Pt, b: Pt) -> Candidates<'_>
-        ensures held { (n : ℕ) → Contains result n
-            → (c : Position) × (d : Position) × HoldsString self.now n c d
-            × IsTrue (boxes_overlap a b c d) }
+        ensures held { (s : HeldStringOf) → Contains result s
+            → HoldsString self.now s.string s.from s.to
+            × IsTrue (boxes_overlap a b s.from s.to) }
         ensures all { (n : ℕ) (c d : Position) → HoldsString self.now n c d
-            → HaveCommonLocation a b c d → Contains result n }
+            → IsTrue (boxes_overlap a b c d)
+            → Contains result (record { string = n; from = c; to = d }) }
     {
         Candidates {
             near: NearEntries::of(&self.strings, a, b),
         }
     }
 
-    /// Points held near the segment ab: all that lie on it, and others in its box. A point may come
-    /// several times. Memory and time are as for `candidates`.
+    /// The points held in the box of the segment ab, each at the position where it is held: so all
+    /// that lie on it. A point may come several times. Memory and time are as for `candidates`.
     pub fn point_candidates(&self, a: Pt, b: Pt) -> PointCandidates<'_>
-        ensures held { (n : ℕ) → Contains result n
-            → (c : Position) × HoldsPoint self.now n c × IsTrue (boxes_overlap a b c c) }
-        ensures all { (n : ℕ) (c : Position) → HoldsPoint self.now n c → IsOnSegment a b c
-            → Contains result n }
+        ensures held { (p : HeldPointOf) → Contains result p
+            → HoldsPoint self.now p.point p.position
+            × IsTrue (boxes_overlap a b p.position p.position) }
+        ensures all { (n : ℕ) (c : Position) → HoldsPoint self.now n c
+            → IsTrue (boxes_overlap a b c c)
+            → Contains result (record { point = n; position = c }) }
     {
         PointCandidates {
             near: NearEntries::of(&self.points, a, b),
@@ -195,27 +200,33 @@ pub struct Candidates<'a> {
 }
 
 impl<'a> Model for Candidates<'a> {
-    ghost use Rattle.std.specs.Prelude.{ℕ, List};
+    ghost use Rattle.std.specs.Prelude.{List, map};
     ghost use Rattle.std.specs.List.{AllByRecursion};
-    ghost use Rattle.cad_rows.specs.Limits.{IsNumber};
+    ghost use Rattle.cell_grid.specs.declared.entry.HeldString.{HeldString as HeldStringOf};
+    ghost use Rattle.cell_grid.specs.Grid.{held_string, IsNumbered};
 
-    ghost Value = { List ℕ };
+    ghost Value = { List HeldStringOf };
 
-    ghost view = { λ c. c.near };
+    ghost view = { λ c. map held_string c.near };
 
-    ghost invariant = { λ c. AllByRecursion IsNumber c.near };
+    ghost invariant = { λ c. AllByRecursion IsNumbered c.near };
 }
 
 impl Iterator for Candidates<'_> {
-    type Item = StringNo;
+    type Item = HeldString;
 
     ghost next_gives = { YieldsFirst (λ c. c) };
 
     ghost remaining = { item_count (λ c. c) };
 
-    fn next(&mut self) -> Option<StringNo> {
-        let no = self.near.next()?;
-        StringNo::new(no)
+    fn next(&mut self) -> Option<HeldString> {
+        let entry = self.near.next()?;
+        let string = StringNo::new(entry.number)?;
+        Some(HeldString {
+            string,
+            from: entry.from,
+            to: entry.to,
+        })
     }
 }
 
@@ -227,26 +238,31 @@ pub struct PointCandidates<'a> {
 }
 
 impl<'a> Model for PointCandidates<'a> {
-    ghost use Rattle.std.specs.Prelude.{ℕ, List};
+    ghost use Rattle.std.specs.Prelude.{List, map};
     ghost use Rattle.std.specs.List.{AllByRecursion};
-    ghost use Rattle.cad_rows.specs.Limits.{IsNumber};
+    ghost use Rattle.cell_grid.specs.declared.entry.HeldPoint.{HeldPoint as HeldPointOf};
+    ghost use Rattle.cell_grid.specs.Grid.{held_point, IsNumbered};
 
-    ghost Value = { List ℕ };
+    ghost Value = { List HeldPointOf };
 
-    ghost view = { λ c. c.near };
+    ghost view = { λ c. map held_point c.near };
 
-    ghost invariant = { λ c. AllByRecursion IsNumber c.near };
+    ghost invariant = { λ c. AllByRecursion IsNumbered c.near };
 }
 
 impl Iterator for PointCandidates<'_> {
-    type Item = PointNo;
+    type Item = HeldPoint;
 
     ghost next_gives = { YieldsFirst (λ c. c) };
 
     ghost remaining = { item_count (λ c. c) };
 
-    fn next(&mut self) -> Option<PointNo> {
-        let no = self.near.next()?;
-        PointNo::new(no)
+    fn next(&mut self) -> Option<HeldPoint> {
+        let entry = self.near.next()?;
+        let point = PointNo::new(entry.number)?;
+        Some(HeldPoint {
+            point,
+            position: entry.from,
+        })
     }
 }

@@ -16,6 +16,7 @@ mod near;
 mod segments;
 
 pub use entries::Entries;
+pub use entry::{HeldPoint, HeldString};
 pub use grid::{Candidates, CellGrid, PointCandidates};
 
 #[cfg(test)]

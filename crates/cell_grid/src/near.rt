@@ -1,9 +1,8 @@
 //! The search for the entries near a segment.
 ghost use Rattle.std.specs.List.{Contains};
-ghost use Rattle.geo_exact.specs.Segment.{HaveCommonLocation};
 ghost use Rattle.geo_exact.specs.SignTest.{boxes_overlap};
 ghost use Rattle.geo_exact.specs.Position.{OnTheMap};
-ghost use Rattle.std.specs.Prelude.{ℕ, ◌≡◌, IsTrue, nat_lt, ◌<◌, ◌≤◌, ◌+◌, ◌^◌, ◌∷◌, [], length, filter, drop, slice_index_or, IfSome, IfNone};
+ghost use Rattle.std.specs.Prelude.{◌≡◌, IsTrue, nat_lt, ◌<◌, ◌≤◌, ◌+◌, ◌^◌, ◌∷◌, [], length, filter, drop, slice_index_or, IfSome, IfNone};
 ghost use Rattle.std.specs.Iterator.{YieldsFirst, item_count};
 ghost use Rattle.cell_grid.specs.declared.entry.Entry.{Entry as Segment};
 ghost use Rattle.cell_grid.specs.Cells.{IsSide, IsBlock, cell_count};
@@ -128,8 +127,8 @@ fn find_from(segments: &Segments, query: &Query, from: usize) -> Option<(usize, 
     None
 }
 
-/// The numbers of the entries near a segment, one after another. One that stands in several cells
-/// may be given several times.
+/// The entries near a segment, one after another. One that stands in several cells may be given
+/// several times.
 #[derive(Drop)]
 pub(crate) struct NearEntries<'a> {
     segments: &'a Segments,
@@ -140,13 +139,14 @@ pub(crate) struct NearEntries<'a> {
 }
 
 impl<'a> Model for NearEntries<'a> {
-    ghost use Rattle.std.specs.Prelude.{ℕ, List};
+    ghost use Rattle.std.specs.Prelude.{List};
+    ghost use Rattle.cell_grid.specs.declared.entry.Entry.{Entry as Segment};
 
-    ghost Value = { List ℕ };
+    ghost Value = { List Segment };
 
-    ghost use Rattle.cell_grid.specs.Ahead.{numbers_ahead, IsUnderWay};
+    ghost use Rattle.cell_grid.specs.Ahead.{entries_ahead, IsUnderWay};
 
-    ghost view = { numbers_ahead };
+    ghost view = { entries_ahead };
 
     ghost invariant = { IsUnderWay };
 }
@@ -158,11 +158,10 @@ impl<'a> NearEntries<'a> {
         requires spread { AreSpread segments.now }
         requires on_from { OnTheMap from }
         requires on_to { OnTheMap to }
-        ensures held { (n : ℕ) → Contains result n
-            → (e : Segment) × IsHeld (kept segments.now) e
-            × IsTrue (boxes_overlap from to e.from e.to) × (e.number ≡ n) }
+        ensures held { (e : Segment) → Contains result e
+            → IsHeld (kept segments.now) e × IsTrue (boxes_overlap from to e.from e.to) }
         ensures all { (e : Segment) → IsHeld (kept segments.now) e
-            → HaveCommonLocation from to e.from e.to → Contains result e.number }
+            → IsTrue (boxes_overlap from to e.from e.to) → Contains result e }
     {
         NearEntries {
             segments,
@@ -174,17 +173,17 @@ impl<'a> NearEntries<'a> {
 }
 
 impl Iterator for NearEntries<'_> {
-    type Item = u32;
+    type Item = Entry;
 
     ghost next_gives = { YieldsFirst (λ w. w) };
 
     ghost remaining = { item_count (λ w. w) };
 
-    fn next(&mut self) -> Option<u32> {
+    fn next(&mut self) -> Option<Entry> {
         if let Some(place) = first_near(self.list, &self.query) {
-            let number = self.list[place].number;
+            let entry = self.list[place];
             self.list = &self.list[place + 1..];
-            return Some(number);
+            return Some(entry);
         }
         let Some((step, place)) = find_from(self.segments, &self.query, self.next) else {
             self.list = &[];
@@ -194,6 +193,6 @@ impl Iterator for NearEntries<'_> {
         let list = searched_list(self.segments, &self.query, step);
         self.list = &list[place + 1..];
         self.next = step + 1;
-        Some(list[place].number)
+        Some(list[place])
     }
 }

@@ -48,7 +48,7 @@ fn is_candidate(grid: &CellGrid, no: StringNo, a: Pt, b: Pt) -> bool
     ensures { result ≡ false → ¬ HoldsString grid.now no a b }
 {
     for other in grid.candidates(a, b) {
-        if other.get() == no.get() {
+        if other.string.get() == no.get() {
             return true;
         }
     }
@@ -60,7 +60,7 @@ fn is_point_candidate(grid: &CellGrid, no: PointNo, a: Pt, b: Pt) -> bool
     ensures { result ≡ false → ¬ HoldsPoint grid.now no a }
 {
     for other in grid.point_candidates(a, b) {
-        if other.get() == no.get() {
+        if other.point.get() == no.get() {
             return true;
         }
     }

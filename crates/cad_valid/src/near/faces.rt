@@ -23,7 +23,7 @@ fn has_outlines_if_there<M: MapView>(map: &M, face: &Face) -> bool
     requires { HasWholeRings (M.map map.now) }
     ensures { IsTrue result ↔ OfFace (M.map map.now) (HasOutlines (M.map map.now)) face.now }
 {
-    !has_face(map, face) || has_outlines(map, face, outlines_wanted(face))
+    has_outlines(map, face, outlines_wanted(face)) || !has_face(map, face)
 }
 
 /// How many outlines a face has: the outside none, and a parcel one.
@@ -50,5 +50,5 @@ fn has_sound_holes_if_there<M: MapView>(map: &M, face: &Face) -> bool
     requires { HasWholeRings (M.map map.now) }
     ensures { IsTrue result ↔ OfFace (M.map map.now) (HasSoundHoles (M.map map.now)) face.now }
 {
-    !has_face(map, face) || has_sound_holes(map, face)
+    has_sound_holes(map, face) || !has_face(map, face)
 }

@@ -40,7 +40,7 @@ fn is_alone<M: MapView>(map: &M, grid: &CellGrid, point: &PointRow) -> bool
     ensures { IsTrue result ↔ IsAlone (M.map map.now) point.now }
 {
     grid.point_candidates(point.position, point.position)
-        .all(|other| is_apart_if_there(map, point, other))
+        .all(|other| is_apart_if_there(map, point, other.point))
 }
 
 /// Whether the point with a number is this one, or lies elsewhere.

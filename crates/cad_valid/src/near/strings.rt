@@ -58,7 +58,7 @@ fn meets_at_ends<M: MapView>(map: &M, grid: &CellGrid, string: &StringRow, here:
     ensures { IsTrue result ↔ MeetsAtEnds (M.map map.now) string.now }
 {
     grid.candidates(here.a, here.b)
-        .all(|other| meets_if_there(map, string, here, other))
+        .all(|other| meets_if_there(map, string, here, other.string))
 }
 
 /// Whether the string with a number is this one, or meets it only at a shared end.
@@ -97,7 +97,7 @@ fn bears_ends<M: MapView>(map: &M, grid: &CellGrid, string: &StringRow, here: &P
     ensures { IsTrue result ↔ BearsEnds (M.map map.now) string.now }
 {
     grid.point_candidates(here.a, here.b)
-        .all(|point| bears_if_there(map, string, here, point))
+        .all(|held| bears_if_there(map, string, here, held.point))
 }
 
 /// Whether the point with a number doesn't lie on this string, or is one of its ends.
@@ -144,7 +144,7 @@ fn lies_at_ends<M: MapView>(map: &M, grid: &CellGrid, point: &PointRow) -> bool
     ensures { IsTrue result ↔ LiesAtEnds (M.map map.now) point.now }
 {
     grid.candidates(point.position, point.position)
-        .all(|string| lies_if_there(map, point, string))
+        .all(|held| lies_if_there(map, point, held.string))
 }
 
 /// Whether a point doesn't lie on the string with a number, or is one of its ends.

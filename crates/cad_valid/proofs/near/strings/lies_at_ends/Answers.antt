@@ -2,7 +2,7 @@ use Rattle.std.proofs.Common.{rules, tests, refl}
 use Rattle.std.proofs.lemmas.Iterator.{cases_from_all}
 use Rattle.std.proofs.lemmas.Iterator.Consumers.{YieldsList-from_first}
 use Rattle.geo_exact.specs.Segment.{IsOnSegment}
-use Rattle.geo_exact.proofs.CallerLemmas.{HaveCommonLocation-exchanged}
+use Rattle.geo_exact.proofs.CallerLemmas.{HaveCommonLocation-exchanged, boxes_overlap-HaveCommonLocation}
 use Rattle.cad_map.specs.Map.{position_of}
 use Rattle.cad_map.specs.Valid.{LiesOnlyAsEnd}
 use Rattle.cad_valid.specs.Near.{OfString}
@@ -13,8 +13,9 @@ pub returns : goal.returns
 returns g c =
     let m = g.M.MapView.map c.args.map.now in
     passed-strings m (LiesOnlyAsEnd m c.args.point.now) (λ s. IsOnSegment (position_of m s.from) (position_of m s.to) c.args.point.now.position) c.candidates.result _
-    (cases_from_all _ _ _ (OfString m (LiesOnlyAsEnd m c.args.point.now)) (λ n. ¬ OfString m (LiesOnlyAsEnd m c.args.point.now) n) c.all.ensures.ran (YieldsList-from_first (λ x. x) (λ w. w) c.candidates.result refl)
+    (cases_from_all _ _ _ (λ h. OfString m (LiesOnlyAsEnd m c.args.point.now) h.string) (λ h. ¬ OfString m (LiesOnlyAsEnd m c.args.point.now) h.string) c.all.ensures.ran (YieldsList-from_first (λ x. x) (λ w. w) c.candidates.result refl)
     (λ x q k. search (rules, tests)) (λ x q k. search (rules, tests)))
     (λ s h on. c.candidates.ensures.all s.number (position_of m s.from) (position_of m s.to) (c.requires.held.strings s h)
-    (HaveCommonLocation-exchanged c.args.point.now.position c.args.point.now.position (position_of m s.from) (position_of m s.to) on))
+    (boxes_overlap-HaveCommonLocation c.args.point.now.position c.args.point.now.position (position_of m s.from) (position_of m s.to)
+    (HaveCommonLocation-exchanged c.args.point.now.position c.args.point.now.position (position_of m s.from) (position_of m s.to) on)))
     (λ s near on. near on on)

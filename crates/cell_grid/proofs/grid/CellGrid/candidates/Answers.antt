@@ -1,5 +1,5 @@
-use Rattle.cell_grid.specs.Grid.{entry_of}
-use Rattle.cell_grid.proofs.Grids.{numbers_given, strings_given}
+use Rattle.cell_grid.specs.Grid.{entry_of, held_string}
+use Rattle.cell_grid.proofs.Grids.{numbers_given, strings_given, read-has}
 use Rattle.cell_grid.proofs.grid.CellGrid.candidates.Goals as goal
 
 pub invariant_of-result : goal.invariant_of-result
@@ -15,4 +15,5 @@ returns-clause-held c = let s = c.self.inside.strings in
 
 pub returns-clause-all : goal.returns-clause-all
 returns-clause-all c =
-    rw (← c.self.view_is) (λ n a b held meet. c.of.ensures.all (entry_of n a b) held meet)
+    rw (← c.self.view_is) (λ n a b held near.
+    read-has held_string c.of.result (entry_of n a b) (c.of.ensures.all (entry_of n a b) held near))

@@ -1,5 +1,5 @@
-use Rattle.cell_grid.specs.Grid.{entry_of}
-use Rattle.cell_grid.proofs.Grids.{numbers_given, points_given}
+use Rattle.cell_grid.specs.Grid.{entry_of, held_point}
+use Rattle.cell_grid.proofs.Grids.{numbers_given, points_given, read-has}
 use Rattle.cell_grid.proofs.grid.CellGrid.point_candidates.Goals as goal
 
 pub invariant_of-result : goal.invariant_of-result
@@ -15,4 +15,5 @@ returns-clause-held c = let s = c.self.inside.points in
 
 pub returns-clause-all : goal.returns-clause-all
 returns-clause-all c =
-    rw (← c.self.view_is) (λ n a held meet. c.of.ensures.all (entry_of n a a) held meet)
+    rw (← c.self.view_is) (λ n a held near.
+    read-has held_point c.of.result (entry_of n a a) (c.of.ensures.all (entry_of n a a) held near))

@@ -12,10 +12,10 @@ returns-clause-held c =
     (given-held c.args.segments.now.lists c.args.segments.now.long.items c.query_of.result)
 
 pub returns-clause-all : goal.returns-clause-all
-returns-clause-all c e held meet =
+returns-clause-all c e held near =
     let s = c.args.segments.now in
     given-all s.lists s.long.items c.query_of.result s.side c.requires.side c.requires.spread
     c.query_of.ensures.query
     (subst OnTheMap (sym c.query_of.ensures.from) c.requires.on_from)
     (subst OnTheMap (sym c.query_of.ensures.to) c.requires.on_to)
-    e held (rw (c.query_of.ensures.from, c.query_of.ensures.to) meet)
+    e held (rw (c.query_of.ensures.from, c.query_of.ensures.to) near)

@@ -1,0 +1,265 @@
+-- Where all that is held near an edit is seen to be clear of it, V3 and V4 are kept there.
+use Rattle.std.proofs.Common.{◌≡◌, ◌≢◌, ℕ, ℤ, ◌≤ℤ◌, ◌<◌, List, length, Some, None, Bool, true, false, not, refl, sym, ap, subst, ◌∙◌, ◌⊎◌, inl, inr, true≢false, arith, if◌then◌else◌}
+use Rattle.std.proofs.lemmas.Int.{ints}
+use Rattle.std.proofs.lemmas.Bool.{and_parts, and_from, not-true, eqb-true, eq-eqb, cases_eq}
+use Rattle.std.specs.Bool.{MatchBool}
+use Rattle.std.specs.Prelude.{IsTrue, ◌||◌, ◌==◌}
+use Rattle.std.specs.List.{AllByRecursion, AllWithin, Contains, HoldsAt}
+use Rattle.geo_exact.specs.Position.{Position}
+use Rattle.geo_exact.specs.SignTest.{boxes_overlap, overlaps}
+use Rattle.geo_exact.proofs.CallerLemmas.{boxes_overlap-HaveCommonLocation, HaveCommonLocation-exchanged}
+use Rattle.cad_rows.specs.declared.rows.PointRow.{PointRow}
+use Rattle.cad_rows.specs.declared.rows.StringRow.{StringRow}
+use Rattle.cad_map.specs.Map.{Map, has_point, position_of, point_of, string_of, is_end, far_end}
+use Rattle.cad_map.specs.Crossings.{HasPlacedRows, HasTwoPoints}
+use Rattle.cad_map.specs.Touched.{Touched}
+use Rattle.cad_map.specs.Valid.{HasSoundRows, is_same_position, MeetAtEnds, LiesOnlyAsEnd}
+use Rattle.cad_map.proofs.CallerLemmas.{All-at_each, All-from_each, list_all-at, positions-differ, all-placed, is_end-from, is_end-of, far_end-away, meet-at_end}
+use Rattle.cell_grid.specs.declared.entry.HeldString.{HeldString}
+use Rattle.cell_grid.specs.declared.entry.HeldPoint.{HeldPoint}
+use Rattle.cad_valid.specs.declared.near.seen.Lying.{Lying}
+use Rattle.cad_valid.specs.declared.near.seen.Reach.{Reach}
+use Rattle.cad_valid.specs.declared.near.seen.Seen.{Seen}
+use Rattle.cad_valid.specs.Near.{OfPoint, OfString, IsAlone, IsUncrossed, LiesAtEnds, AreUncrossed}
+use Rattle.cad_valid.specs.Placed.{have_common}
+use Rattle.cad_valid.specs.Seen.{lying_string, lying_point, HasInReach, IsSeen, SeesStrings, SeesPoints, starts_alone, meets_by_sight, lies_by_sight, is_clear_of, is_clear_string, is_clear_point, is_apart_from, is_apart_point, lies_alike, OfHeldString, OfHeldPoint}
+use Rattle.cad_valid.proofs.Decisions.{not-iff}
+use Rattle.cad_valid.proofs.PlacedStrings.{have_common-is, only_start}
+use Rattle.cad_valid.proofs.RowsByNumber.{row-is, point-is, point-position, point-there}
+use Rattle.cad_valid.proofs.SweptRules.{same_position, same_itself}
+
+-- ---- Boxes
+
+overlaps-wider : (l h a b c d : ℤ) → l ≤ℤ a → a ≤ℤ h → l ≤ℤ b → b ≤ℤ h → overlaps a b c d ≡ true → overlaps l h c d ≡ true
+overlaps-wider l h a b c d la ah lb bh over = grind (arith, ints)
+
+-- what overlaps the box of what was gathered overlaps the box round all
+wider : (r : Reach) (f : Lying) (c d : Position) → HasInReach r f → boxes_overlap f.a f.b c d ≡ true → boxes_overlap r.low r.high c d ≡ true
+wider r f c d within over =
+    let both = and_parts (overlaps f.a.x f.b.x c.x d.x) (overlaps f.a.y f.b.y c.y d.y) over in
+    and_from (overlaps r.low.x r.high.x c.x d.x) (overlaps r.low.y r.high.y c.y d.y)
+    (overlaps-wider r.low.x r.high.x f.a.x f.b.x c.x d.x within.a.left within.a.right within.b.left within.b.right both.0)
+    (overlaps-wider r.low.y r.high.y f.a.y f.b.y c.y d.y within.a.bottom within.a.top within.b.bottom within.b.top both.1)
+
+-- ---- What the grid holds
+
+-- all passed, if the answer is that all did
+all-passed : {X : Type 0} (P : X → Type 0) (xs : List X) (b : Bool)
+    → MatchBool b (AllWithin P xs 0 (length xs)) ((k : ℕ) × (k < length xs) × HoldsAt (λ _. true ≡ true) xs k) → IsTrue b → (x : X) → Contains xs x → P x
+all-passed P xs true all = λ t x h. subst P h.2 (all h.0 x (omega arith) h.1)
+all-passed P xs false one = λ t. absurd (true≢false (sym t))
+
+-- the answer of a test of all that a grid has near, of which one says nothing where it fails
+abbrev pub HaveAllPassed : {X : Type 0} → (X → Type 0) → List X → Bool → Type 0
+HaveAllPassed P xs b = MatchBool b (AllWithin P xs 0 (length xs)) ((k : ℕ) × (k < length xs) × HoldsAt (λ _. true ≡ true) xs k)
+
+-- where all that is held passes, all that the map has near does
+module _ (m : Map) (v : Seen) (test : Lying → Bool) where
+  pub strings-seen : (given : List HeldString) (b : Bool) → HaveAllPassed (OfHeldString m test) given b
+      → ((s : StringRow) → Contains m.strings s → boxes_overlap v.reach.low v.reach.high (position_of m s.from) (position_of m s.to) ≡ true
+      → Contains given (record { string = s.number; from = position_of m s.from; to = position_of m s.to })) → IsTrue b → SeesStrings m v test
+  unfolding OfHeldString
+  strings-seen given b passed all t s hs near =
+      let held : HeldString = record { string = s.number; from = position_of m s.from; to = position_of m s.to } in
+      all-passed (OfHeldString m test) given b passed t held (all s hs near) s hs refl
+
+  pub points-seen : (given : List HeldPoint) (b : Bool) → HaveAllPassed (OfHeldPoint m test) given b
+      → ((p : PointRow) → Contains m.points p → boxes_overlap v.reach.low v.reach.high p.position p.position ≡ true
+      → Contains given (record { point = p.number; position = p.position })) → IsTrue b → SeesPoints m v test
+  unfolding OfHeldPoint
+  points-seen given b passed all t p hp near =
+      let held : HeldPoint = record { point = p.number; position = p.position } in
+      all-passed (OfHeldPoint m test) given b passed t held (all p hp near) p hp refl
+
+module _ (m : Map) (sound : HasSoundRows m) where
+  -- a string of the map isn't held elsewhere
+  pub string-stale : (f : Lying) (row : StringRow) → string_of m f.number ≡ Some row → IsTrue (not (lies_alike (lying_string m row) f))
+      → (s : StringRow) → Contains m.strings s → ¬ (lying_string m s ≡ f)
+  string-stale f row found elsewhere s there same =
+      let one : Some s ≡ Some row = sym (row-is (λ (r : StringRow). r.number) m.strings s sound.strings.distinct there) ∙ ap (λ (g : Lying). string_of m g.number) same ∙ found in
+      let is : s ≡ row = cc in
+      let alike : lies_alike (lying_string m row) f ≡ true = subst (λ (g : Lying). lies_alike (lying_string m row) g ≡ true) (ap (lying_string m) (sym is) ∙ same)
+      (and_from _ _ (same_itself (position_of m row.from)) (same_itself (position_of m row.to))) in
+      true≢false (sym alike ∙ not-true (lies_alike (lying_string m row) f) elsewhere)
+
+  pub string-gone : (f : Lying) → string_of m f.number ≡ None → (s : StringRow) → Contains m.strings s → ¬ (lying_string m s ≡ f)
+  string-gone f none s there same =
+      let one : Some s ≡ None = sym (row-is (λ (r : StringRow). r.number) m.strings s sound.strings.distinct there) ∙ ap (λ (g : Lying). string_of m g.number) same ∙ none in
+      cc
+
+  pub point-stale : (f : Lying) (row : PointRow) → point_of m f.number ≡ Some row → IsTrue (not (lies_alike (lying_point row) f))
+      → (p : PointRow) → Contains m.points p → ¬ (lying_point p ≡ f)
+  point-stale f row found elsewhere p there same =
+      let one : Some p ≡ Some row = sym (point-is m sound p there) ∙ ap (λ (g : Lying). point_of m g.number) same ∙ found in
+      let is : p ≡ row = cc in
+      let alike : lies_alike (lying_point row) f ≡ true = subst (λ (g : Lying). lies_alike (lying_point row) g ≡ true) (ap lying_point (sym is) ∙ same)
+      (and_from _ _ (same_itself row.position) (same_itself row.position)) in
+      true≢false (sym alike ∙ not-true (lies_alike (lying_point row) f) elsewhere)
+
+  pub point-gone : (f : Lying) → point_of m f.number ≡ None → (p : PointRow) → Contains m.points p → ¬ (lying_point p ≡ f)
+  point-gone f none p there same =
+      let one : Some p ≡ None = sym (point-is m sound p there) ∙ ap (λ (g : Lying). point_of m g.number) same ∙ none in
+      cc
+
+  -- ---- V3
+
+  -- where all points near are seen to lie apart from the touched ones, these lie alone
+  pub alone-by_sight : (t : Touched) (v : Seen) → IsSeen m t v → SeesPoints m v (is_apart_point v) → AllByRecursion (OfPoint m (IsAlone m)) t.points
+  unfolding OfPoint
+  alone-by_sight t v seen sees = All-from_each (OfPoint m (IsAlone m)) t.points (λ n named p hp is q hq other same.
+      let there = All-at_each (OfPoint m (λ p. Contains v.points.items (lying_point p))) t.points n seen.points named p hp is in
+      let within = All-at_each (HasInReach v.reach) v.points.items (lying_point p) seen.points_in there in
+      let near : boxes_overlap p.position p.position q.position q.position ≡ true = subst (λ (r : Position). boxes_overlap p.position p.position r r ≡ true) (sym same) (itself p.position) in
+      let apart = list_all-at (λ (f : Lying). is_apart_from f (lying_point q)) v.points.items (lying_point p) (sees q hq (wider v.reach (lying_point p) q.position q.position within near)) there in
+      differ p q (λ e. other (sym e)) (sym same) apart)
+    where
+      overlaps-itself : (x : ℤ) → overlaps x x x x ≡ true
+      overlaps-itself x = grind (arith, ints)
+
+      itself : (p : Position) → boxes_overlap p p p p ≡ true
+      itself p = and_from _ _ (overlaps-itself p.x) (overlaps-itself p.y)
+
+      differ : (p q : PointRow) → p.number ≢ q.number → p.position ≡ q.position → is_apart_from (lying_point p) (lying_point q) ≡ true → ⊥
+      differ p q other same apart = by (p.number == q.number) refl apart
+        where
+          by : (b : Bool) → (p.number == q.number) ≡ b → (b || not (is_same_position p.position q.position)) ≡ true → ⊥
+          by true is t = other (eqb-true p.number q.number is)
+          by false is t =
+              let one : is_same_position p.position q.position ≡ true = subst (λ (r : Position). is_same_position p.position r ≡ true) same (same_itself p.position) in
+              true≢false (sym one ∙ not-true (is_same_position p.position q.position) t)
+
+-- ---- V4
+
+far_end-from : (s : StringRow) → far_end s s.from ≡ s.to
+far_end-from s = rw (eq-eqb s.from s.from refl) refl
+
+far_end-to : (s : StringRow) → s.from ≢ s.to → far_end s s.to ≡ s.from
+far_end-to s two = by (s.from == s.to) refl
+  where
+    by : (b : Bool) → (s.from == s.to) ≡ b → (if b then s.to else s.from) ≡ s.from
+    by true is = absurd (two (eqb-true s.from s.to is))
+    by false is = refl
+
+module _ (m : Map) (rows : HasPlacedRows m) where
+  -- points of the map at one position are one
+  one_point : (p q : ℕ) → IsTrue (has_point m p) → IsTrue (has_point m q) → is_same_position (position_of m p) (position_of m q) ≡ true → p ≡ q
+  one_point p q p_in q_in same = elim (cases_eq p q) [
+    | inl e ↦ e
+    | inr ne ↦ absurd (positions-differ m rows p q p_in q_in ne (same_position (position_of m p) (position_of m q) same))
+  ]
+
+  module _ (s t : StringRow) (s_placed : HasTwoPoints m s) (t_placed : HasTwoPoints m t) where
+    -- where two strings with a shared end are seen to have only that in common they meet there alone
+    from_shared : (p : ℕ) → is_end s p ≡ true → is_end t p ≡ true → starts_alone (position_of m p) (position_of m (far_end s p)) (position_of m (far_end t p)) ≡ true → MeetAtEnds m s t
+    from_shared p s_end t_end alone =
+        let s_away = far_end-away m rows s s_placed p s_end in
+        let t_away = far_end-away m rows t t_placed p t_end in
+        (meet-at_end m s t p (record { of_first = s_end; of_second = t_end }) (λ same. s_away (sym same))).0
+        ((only_start (position_of m p) (position_of m (far_end s p)) (position_of m (far_end t p)) s_away t_away).0 alone)
+
+    -- so where an end of one lies where one of the other does
+    at_ends : (p q a b : ℕ) → is_end s p ≡ true → far_end s p ≡ a → is_end t q ≡ true → far_end t q ≡ b → IsTrue (has_point m p) → IsTrue (has_point m q)
+        → is_same_position (position_of m p) (position_of m q) ≡ true → starts_alone (position_of m p) (position_of m a) (position_of m b) ≡ true → MeetAtEnds m s t
+    at_ends p q a b s_end s_far t_end t_far p_in q_in same alone =
+        let e = one_point p q p_in q_in same in
+        from_shared p s_end (subst (λ (r : ℕ). is_end t r ≡ true) (sym e) t_end)
+        (subst (λ (r : ℕ). starts_alone (position_of m p) (position_of m r) (position_of m (far_end t p)) ≡ true) (sym s_far)
+        (subst (λ (r : ℕ). starts_alone (position_of m p) (position_of m a) (position_of m r) ≡ true) (sym (ap (far_end t) e ∙ t_far)) alone))
+
+    -- two strings that are seen to meet at ends alone do
+    pub meet-by_sight : meets_by_sight (position_of m s.from) (position_of m s.to) (position_of m t.from) (position_of m t.to) ≡ true → MeetAtEnds m s t
+    meet-by_sight sees =
+        by (boxes_overlap a b c d) (is_same_position a c) (is_same_position a d) (is_same_position b c) (is_same_position b d) refl refl refl refl refl sees
+      where
+        a : Position
+        a = position_of m s.from
+
+        b : Position
+        b = position_of m s.to
+
+        c : Position
+        c = position_of m t.from
+
+        d : Position
+        d = position_of m t.to
+
+        by : (o p q r u : Bool) → boxes_overlap a b c d ≡ o → is_same_position a c ≡ p → is_same_position a d ≡ q → is_same_position b c ≡ r → is_same_position b d ≡ u
+            → (if not o then true else (if p then starts_alone a b d else (if q then starts_alone a b c else (if r then starts_alone b a d else (if u then starts_alone b a c else not (have_common a b c d)))))) ≡ true → MeetAtEnds m s t
+        by false p q r u apart _ _ _ _ _ = λ common. absurd (true≢false (sym (boxes_overlap-HaveCommonLocation a b c d common) ∙ apart))
+        by true true q r u _ ac _ _ _ alone =
+            at_ends s.from t.from s.to t.to (is_end-from s) (far_end-from s) (is_end-from t) (far_end-from t) s_placed.from_in t_placed.from_in ac alone
+        by true false true r u _ _ ad _ _ alone =
+            at_ends s.from t.to s.to t.from (is_end-from s) (far_end-from s) (is_end-of t t.to (inr refl)) (far_end-to t t_placed.two) s_placed.from_in t_placed.to_in ad alone
+        by true false false true u _ _ _ bc _ alone =
+            at_ends s.to t.from s.from t.to (is_end-of s s.to (inr refl)) (far_end-to s s_placed.two) (is_end-from t) (far_end-from t) s_placed.to_in t_placed.from_in bc alone
+        by true false false false true _ _ _ _ bd alone =
+            at_ends s.to t.to s.from t.from (is_end-of s s.to (inr refl)) (far_end-to s s_placed.two) (is_end-of t t.to (inr refl)) (far_end-to t t_placed.two) s_placed.to_in t_placed.to_in bd alone
+        by true false false false false _ _ _ _ _ none =
+            λ common. absurd ((not-iff _ _ (have_common-is a b c d)).0 none common)
+
+  -- a point that is seen to lie on a string as its end alone does
+  pub lies-by_sight : (p : PointRow) (s : StringRow) → Contains m.points p → HasTwoPoints m s → lies_by_sight p.position (position_of m s.from) (position_of m s.to) ≡ true → LiesOnlyAsEnd m p s
+  lies-by_sight p s hp placed sees common =
+      by (is_same_position p.position (position_of m s.from)) (is_same_position p.position (position_of m s.to)) refl refl sees
+    where
+      named : (q : ℕ) → IsTrue (has_point m q) → is_same_position p.position (position_of m q) ≡ true → q ≡ p.number
+      named q q_in same =
+          sym (one_point p.number q (point-there m rows.v1 p hp) q_in (subst (λ (r : Position). is_same_position r (position_of m q) ≡ true) (sym (point-position m rows.v1 p hp)) same))
+
+      by : (b c : Bool) → is_same_position p.position (position_of m s.from) ≡ b → is_same_position p.position (position_of m s.to) ≡ c
+          → ((b || c) || not (have_common (position_of m s.from) (position_of m s.to) p.position p.position)) ≡ true → (s.from ≡ p.number) ⊎ (s.to ≡ p.number)
+      by true c from _ _ = inl (named s.from placed.from_in from)
+      by false true _ to _ = inr (named s.to placed.to_in to)
+      by false false _ _ apart = absurd ((not-iff _ _ (have_common-is (position_of m s.from) (position_of m s.to) p.position p.position)).0 apart common)
+
+  module _ (t : Touched) (v : Seen) (seen : IsSeen m t v) (strings : SeesStrings m v (is_clear_string v)) (points : SeesPoints m v (is_clear_point v)) where
+    placed : (s : StringRow) → Contains m.strings s → HasTwoPoints m s
+    placed s hs = All-at_each (HasTwoPoints m) m.strings s (all-placed m rows) hs
+
+    -- the strings of the map that overlap a gathered string or point are seen to be clear
+    clear : (f : Lying) → HasInReach v.reach f → (s : StringRow) → Contains m.strings s → boxes_overlap f.a f.b (position_of m s.from) (position_of m s.to) ≡ true
+        → is_clear_string v (lying_string m s) ≡ true
+    clear f within s hs over = strings s hs (wider v.reach f (position_of m s.from) (position_of m s.to) within over)
+
+    string-uncrossed : (s : StringRow) → Contains m.strings s → Contains v.strings.items (lying_string m s) → IsUncrossed m s
+    string-uncrossed s hs there =
+        let f = lying_string m s in
+        let within = All-at_each (HasInReach v.reach) v.strings.items f seen.strings_in there in
+        record {
+          strings = λ r hr other common.
+              let over = boxes_overlap-HaveCommonLocation (position_of m s.from) (position_of m s.to) (position_of m r.from) (position_of m r.to) common in
+              let both = and_parts _ _ (clear f within r hr over) in
+              meet-by_sight s r (placed s hs) (placed r hr) (differ s r other (list_all-at (λ (g : Lying). is_clear_of g (lying_string m r)) v.strings.items f both.0 there)) common;
+          points = λ p hp common.
+              let over = boxes_overlap-HaveCommonLocation (position_of m s.from) (position_of m s.to) p.position p.position common in
+              let clear_point = points p hp (wider v.reach f p.position p.position within over) in
+              lies-by_sight p s hp (placed s hs) (list_all-at (λ (g : Lying). lies_by_sight p.position g.a g.b) v.strings.items f clear_point there) common;
+        }
+      where
+        differ : (s r : StringRow) → r.number ≢ s.number → is_clear_of (lying_string m s) (lying_string m r) ≡ true
+            → meets_by_sight (position_of m s.from) (position_of m s.to) (position_of m r.from) (position_of m r.to) ≡ true
+        differ s r other clear = by (s.number == r.number) refl clear
+          where
+            by : (b : Bool) → (s.number == r.number) ≡ b → (b || meets_by_sight (position_of m s.from) (position_of m s.to) (position_of m r.from) (position_of m r.to)) ≡ true
+                → meets_by_sight (position_of m s.from) (position_of m s.to) (position_of m r.from) (position_of m r.to) ≡ true
+            by true is _ = absurd (other (sym (eqb-true s.number r.number is)))
+            by false _ sees = sees
+
+    point-clear : (p : PointRow) → Contains m.points p → Contains v.points.items (lying_point p) → LiesAtEnds m p
+    point-clear p hp there s hs common =
+        let f = lying_point p in
+        let within = All-at_each (HasInReach v.reach) v.points.items f seen.points_in there in
+        let over = boxes_overlap-HaveCommonLocation p.position p.position (position_of m s.from) (position_of m s.to)
+        (HaveCommonLocation-exchanged p.position p.position (position_of m s.from) (position_of m s.to) common) in
+        let both = and_parts _ _ (clear f within s hs over) in
+        lies-by_sight p s hp (placed s hs) (list_all-at (λ (g : Lying). lies_by_sight g.a (position_of m s.from) (position_of m s.to)) v.points.items f both.1 there) common
+
+    -- where all that is near is seen to be clear, nothing crosses what was touched
+    pub uncrossed-by_sight : AreUncrossed m t
+    unfolding OfPoint OfString
+    uncrossed-by_sight = record {
+      strings = All-from_each (OfString m (IsUncrossed m)) t.strings (λ n named s hs is.
+          string-uncrossed s hs (All-at_each (OfString m (λ s. Contains v.strings.items (lying_string m s))) t.strings n seen.strings named s hs is));
+      points = All-from_each (OfPoint m (LiesAtEnds m)) t.points (λ n named p hp is.
+          point-clear p hp (All-at_each (OfPoint m (λ p. Contains v.points.items (lying_point p))) t.points n seen.points named p hp is));
+    }

@@ -1,0 +1,11 @@
+use Rattle.std.proofs.Common.{take}
+use Rattle.std.specs.List.{AllByRecursion, Contains}
+use Rattle.cad_valid.specs.Near.{OfPoint}
+use Rattle.cad_valid.specs.Seen.{lying_point}
+use Rattle.cad_valid.proofs.near.seen.points_seen.Given as goal
+
+-- the points so far that the map has were gathered
+abbrev pub invariant-loop-place : goal.invariant-loop-place
+invariant-loop-place g l =
+    let m = g.M.MapView.map l.map in
+    AllByRecursion (OfPoint m (λ p. Contains l.seen.items (lying_point p))) (take l.place l.points)

@@ -1,0 +1,11 @@
+use Rattle.std.proofs.Common.{take}
+use Rattle.std.specs.List.{AllByRecursion, Contains}
+use Rattle.cad_valid.specs.Near.{OfString}
+use Rattle.cad_valid.specs.Seen.{lying_string}
+use Rattle.cad_valid.proofs.near.seen.strings_seen.Given as goal
+
+-- the strings so far that the map has were gathered
+abbrev pub invariant-loop-place : goal.invariant-loop-place
+invariant-loop-place g l =
+    let m = g.M.MapView.map l.map in
+    AllByRecursion (OfString m (λ s. Contains l.seen.items (lying_string m s))) (take l.place l.strings)

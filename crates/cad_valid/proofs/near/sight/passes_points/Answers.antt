@@ -1,0 +1,14 @@
+use Rattle.std.proofs.Common.{◌∙◌, sym}
+use Rattle.std.specs.List.{list_all}
+use Rattle.cad_valid.specs.declared.near.seen.Lying.{Lying}
+use Rattle.cad_valid.specs.Seen.{OfHeldPoint, is_apart_from}
+use Rattle.cad_valid.proofs.near.sight.passes_points.Goals as goal
+
+pub returns-then-is_apart_point : goal.returns-then-is_apart_point
+unfolding OfHeldPoint
+returns-then-is_apart_point g c t x there same =
+    (λ i. let f = sym c.lying_held_point.ensures i in list_all (λ (s : Lying). is_apart_from s f) (sym c.as_slice.ensures.value i)) ∙ sym c.is_apart_point.ensures ∙ t
+
+pub returns-else-is_apart_point : goal.returns-else-is_apart_point
+unfolding OfHeldPoint
+returns-else-is_apart_point g c stale x there same = absurd (c.is_stale_point.ensures stale x there same)
