@@ -83,10 +83,23 @@ impl<R: Numbered> Table<R> {
         Some(row)
     }
 
-    /// The row with a number.
+    // Where a row stands if the rows came one after another, without a gap in their numbers.
+    fn guessed_place(&self, number: u32) -> usize {
+        match self.rows.get_index(0) {
+            Some((first, _)) => number.wrapping_sub(*first) as usize,
+            None => 0,
+        }
+    }
+
+    /// The row with a number. It is looked for first where it mostly is.
     pub fn get(&self, number: u32) -> Option<&R>
         ensures { option_copied result ≡ row_with R.number_of number self.now }
     {
+        if let Some((key, row)) = self.rows.get_index(self.guessed_place(number)) {
+            if *key == number {
+                return Some(row);
+            }
+        }
         self.rows.get(&number)
     }
 

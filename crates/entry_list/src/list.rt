@@ -121,11 +121,25 @@ impl<V> EntryList<V> {
         }
     }
 
-    // The slot of the row with the number.
+    // The slot that a number has where numbers were given slots one after another, without a gap.
+    fn guessed_slot(&self, number: u64) -> usize {
+        match self.slots.get_index(0) {
+            Some((first, _)) => number.wrapping_sub(*first) as usize,
+            None => 0,
+        }
+    }
+
+    // The slot of the row with the number. It is looked for first where it mostly is.
     pub(crate) fn slot_of(&self, number: u64) -> Option<usize>
         ensures found { IfSome result (λ i. IsRowSlot self.now i number) }
         ensures absent { IfNone result (row_at number self.now ≡ None) }
     {
+        let guess = self.guessed_slot(number);
+        if let Some((key, Some(_))) = self.slots.get_index(guess) {
+            if *key == number {
+                return Some(guess);
+            }
+        }
         let slot = self.slots.get_index_of(&number)?;
         match self.slots.get_index(slot) {
             Some((_, row)) => { if row.is_some() { Some(slot) } else { None } }

@@ -1,5 +1,6 @@
 //! The rows of a table: under the number of each string the links of its two halves.
-ghost use Rattle.std.specs.Prelude.{◌≡◌, true, Some, nat_eq};
+ghost use Rattle.std.specs.Prelude.{◌≡◌, true, Some, nat_eq, option_copied};
+ghost use Rattle.std.specs.Map.{lookup};
 ghost use Rattle.indexmap.specs.IndexMap.{ContainsKey, Updates};
 ghost use Rattle.half_table.specs.Rows.{strings, links_of, has, next, prev};
 ghost use Rattle.half_table.specs.Writes.{ChangesLinks, ChangesNext, ChangesPrev, ChangesFace, Relinks};
@@ -12,11 +13,31 @@ use number_hash::NumberHash;
 
 pub(crate) type Rows = IndexMap<StringNo, Ends, NumberHash>;
 
+// Where a string stands if the strings came one after another, without a gap in their numbers.
+fn guessed_place(rows: &Rows, string: &StringNo) -> usize {
+    match rows.get_index(0) {
+        Some((first, _)) => string.get().wrapping_sub(first.get()) as usize,
+        None => 0,
+    }
+}
+
+// The links of the halves of a string. They are looked for first where they mostly are.
+fn find_ends<'a>(rows: &'a Rows, string: &StringNo) -> Option<&'a Ends>
+    ensures { option_copied result ≡ lookup (nat_eq string.now) rows.now.entries }
+{
+    if let Some((key, ends)) = rows.get_index(guessed_place(rows, string)) {
+        if key == string {
+            return Some(ends);
+        }
+    }
+    rows.get(string)
+}
+
 /// The links of a half.
 pub(crate) fn find_links(rows: &Rows, h: &Half) -> Option<Links>
     ensures { result ≡ links_of rows.now.entries h.now }
 {
-    let ends = rows.get(&h.string)?;
+    let ends = find_ends(rows, &h.string)?;
     Some(ends.at(h.forward))
 }
 

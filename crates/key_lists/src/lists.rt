@@ -1,6 +1,6 @@
 //! Lists under keys.
-ghost use Rattle.std.specs.Prelude.{◌≡◌, ◌≤◌, ◌<◌, ◌++◌, ◌∷◌, [], length, IsOk, IfOk, OnOk, OnErr, slice_set, slice_get, Some, swap_remove};
-ghost use Rattle.key_lists.specs.Held.{items_at, capacity_at, HasRoomAt, KeepsOthers, IsSame};
+ghost use Rattle.std.specs.Prelude.{◌≡◌, ◌≤◌, ◌<◌, ◌++◌, ◌∷◌, [], length, option_copied, IsOk, IfOk, OnOk, OnErr, slice_set, slice_get, Some, swap_remove};
+ghost use Rattle.key_lists.specs.Held.{items_at, list_at, capacity_at, HasRoomAt, KeepsOthers, IsSame};
 
 use indexmap::IndexMap;
 use number_hash::NumberHash;
@@ -51,11 +51,31 @@ impl<X: Copy> KeyLists<X> {
         })
     }
 
+    // Where a key stands if the keys came one after another, without a gap.
+    fn guessed_place(&self, key: u64) -> usize {
+        match self.lists.get_index(0) {
+            Some((first, _)) => key.wrapping_sub(*first) as usize,
+            None => 0,
+        }
+    }
+
+    // The list under a key. It is looked for first where it mostly is.
+    fn find(&self, key: u64) -> Option<&Vec<X>>
+        ensures { option_copied result ≡ list_at self.now key }
+    {
+        if let Some((other, list)) = self.lists.get_index(self.guessed_place(key)) {
+            if *other == key {
+                return Some(list);
+            }
+        }
+        self.lists.get(&key)
+    }
+
     /// The items under a key.
     pub fn at(&self, key: u64) -> &[X]
         ensures { result.now ≡ items_at self.now key }
     {
-        match self.lists.get(&key) {
+        match self.find(key) {
             Some(list) => list.as_slice(),
             None => &[],
         }
