@@ -1,10 +1,9 @@
 -- Where all that is held near an edit is seen to be clear of it, V3 and V4 are kept there.
-use Rattle.std.proofs.Common.{◌≡◌, ◌≢◌, ℕ, ℤ, ◌≤ℤ◌, ◌<◌, List, length, Some, None, Bool, true, false, not, refl, sym, ap, subst, ◌∙◌, ◌⊎◌, inl, inr, true≢false, arith, if◌then◌else◌}
+use Rattle.std.proofs.Common.{◌≡◌, ◌≢◌, ℕ, ℤ, ◌≤ℤ◌, List, Some, None, Bool, true, false, not, refl, sym, ap, subst, ◌∙◌, ◌⊎◌, inl, inr, true≢false, arith, if◌then◌else◌}
 use Rattle.std.proofs.lemmas.Int.{ints}
-use Rattle.std.proofs.lemmas.Bool.{and_parts, and_from, not-true, eqb-true, eq-eqb, cases_eq}
-use Rattle.std.specs.Bool.{MatchBool}
-use Rattle.std.specs.Prelude.{IsTrue, ◌||◌, ◌==◌}
-use Rattle.std.specs.List.{AllByRecursion, AllWithin, Contains, HoldsAt}
+use Rattle.std.proofs.lemmas.Bool.{and_parts, and_from, not-true, not_from_false, false_from_ne_true, eqb-true, eq-eqb, cases_eq}
+use Rattle.std.specs.Prelude.{◌↔◌, IsTrue, ◌||◌, ◌==◌}
+use Rattle.std.specs.List.{AllByRecursion, Contains}
 use Rattle.geo_exact.specs.Position.{Position}
 use Rattle.geo_exact.specs.SignTest.{boxes_overlap, overlaps}
 use Rattle.geo_exact.proofs.CallerLemmas.{boxes_overlap-HaveCommonLocation, HaveCommonLocation-exchanged}
@@ -22,10 +21,11 @@ use Rattle.cad_valid.specs.declared.near.seen.Reach.{Reach}
 use Rattle.cad_valid.specs.declared.near.seen.Seen.{Seen}
 use Rattle.cad_valid.specs.Near.{OfPoint, OfString, IsAlone, IsUncrossed, LiesAtEnds, AreUncrossed}
 use Rattle.cad_valid.specs.Placed.{have_common}
-use Rattle.cad_valid.specs.Seen.{lying_string, lying_point, HasInReach, IsSeen, SeesStrings, SeesPoints, starts_alone, meets_by_sight, lies_by_sight, is_clear_of, is_clear_string, is_clear_point, is_apart_from, is_apart_point, lies_alike, OfHeldString, OfHeldPoint}
+use Rattle.cad_valid.specs.Seen.{lying_string, lying_point, HasInReach, IsSeen, SeesStrings, SeesPoints, starts_alone, meets_by_sight, lies_by_sight, is_clear_of, is_clear_string, is_clear_point, is_apart_from, is_apart_point, lies_alike, held_string, held_point, HasStringThere, HasPointThere, OfHeldString, OfHeldPoint}
 use Rattle.cad_valid.proofs.Decisions.{not-iff}
+use Rattle.cad_valid.proofs.Passed.{HavePassed, passed-each}
 use Rattle.cad_valid.proofs.PlacedStrings.{have_common-is, only_start}
-use Rattle.cad_valid.proofs.RowsByNumber.{row-is, point-is, point-position, point-there}
+use Rattle.cad_valid.proofs.RowsByNumber.{row-is, row-found_is, point-is, point-position, point-there}
 use Rattle.cad_valid.proofs.SweptRules.{same_position, same_itself}
 
 -- ---- Boxes
@@ -43,63 +43,117 @@ wider r f c d within over =
 
 -- ---- What the grid holds
 
--- all passed, if the answer is that all did
-all-passed : {X : Type 0} (P : X → Type 0) (xs : List X) (b : Bool)
-    → MatchBool b (AllWithin P xs 0 (length xs)) ((k : ℕ) × (k < length xs) × HoldsAt (λ _. true ≡ true) xs k) → IsTrue b → (x : X) → Contains xs x → P x
-all-passed P xs true all = λ t x h. subst P h.2 (all h.0 x (omega arith) h.1)
-all-passed P xs false one = λ t. absurd (true≢false (sym t))
-
--- the answer of a test of all that a grid has near, of which one says nothing where it fails
-abbrev pub HaveAllPassed : {X : Type 0} → (X → Type 0) → List X → Bool → Type 0
-HaveAllPassed P xs b = MatchBool b (AllWithin P xs 0 (length xs)) ((k : ℕ) × (k < length xs) × HoldsAt (λ _. true ≡ true) xs k)
-
--- where all that is held passes, all that the map has near does
+-- all that is held near passes exactly where all that the map has near does
 module _ (m : Map) (v : Seen) (test : Lying → Bool) where
-  pub strings-seen : (given : List HeldString) (b : Bool) → HaveAllPassed (OfHeldString m test) given b
+  pub strings-seen : (given : List HeldString) (b : Bool) → HavePassed (OfHeldString m test) given b
+      → ((h : HeldString) → Contains given h → boxes_overlap v.reach.low v.reach.high h.from h.to ≡ true)
       → ((s : StringRow) → Contains m.strings s → boxes_overlap v.reach.low v.reach.high (position_of m s.from) (position_of m s.to) ≡ true
-      → Contains given (record { string = s.number; from = position_of m s.from; to = position_of m s.to })) → IsTrue b → SeesStrings m v test
+      → Contains given (record { string = s.number; from = position_of m s.from; to = position_of m s.to })) → IsTrue b ↔ SeesStrings m v test
   unfolding OfHeldString
-  strings-seen given b passed all t s hs near =
-      let held : HeldString = record { string = s.number; from = position_of m s.from; to = position_of m s.to } in
-      all-passed (OfHeldString m test) given b passed t held (all s hs near) s hs refl
+  strings-seen given b passed near all =
+      let is = passed-each (OfHeldString m test) given b passed in (
+        (λ t s hs over. is.0 t (record { string = s.number; from = position_of m s.from; to = position_of m s.to }) (all s hs over) s hs refl),
+        (λ sees. is.1 (λ h there s hs same.
+            subst (λ (f : Lying). test f ≡ true) same
+            (sees s hs (subst (λ (f : Lying). boxes_overlap v.reach.low v.reach.high f.a f.b ≡ true) (sym same) (near h there))))),
+      )
 
-  pub points-seen : (given : List HeldPoint) (b : Bool) → HaveAllPassed (OfHeldPoint m test) given b
+  pub points-seen : (given : List HeldPoint) (b : Bool) → HavePassed (OfHeldPoint m test) given b
+      → ((h : HeldPoint) → Contains given h → boxes_overlap v.reach.low v.reach.high h.position h.position ≡ true)
       → ((p : PointRow) → Contains m.points p → boxes_overlap v.reach.low v.reach.high p.position p.position ≡ true
-      → Contains given (record { point = p.number; position = p.position })) → IsTrue b → SeesPoints m v test
+      → Contains given (record { point = p.number; position = p.position })) → IsTrue b ↔ SeesPoints m v test
   unfolding OfHeldPoint
-  points-seen given b passed all t p hp near =
-      let held : HeldPoint = record { point = p.number; position = p.position } in
-      all-passed (OfHeldPoint m test) given b passed t held (all p hp near) p hp refl
+  points-seen given b passed near all =
+      let is = passed-each (OfHeldPoint m test) given b passed in (
+        (λ t p hp over. is.0 t (record { point = p.number; position = p.position }) (all p hp over) p hp refl),
+        (λ sees. is.1 (λ h there p hp same.
+            subst (λ (f : Lying). test f ≡ true) same
+            (sees p hp (subst (λ (f : Lying). boxes_overlap v.reach.low v.reach.high f.a f.b ≡ true) (sym same) (near h there))))),
+      )
 
+-- ends at the same positions, and the same number
+same_lying : (f g : Lying) → f.number ≡ g.number → lies_alike f g ≡ true → f ≡ g
+same_lying f g number alike =
+    let both = and_parts (is_same_position f.a g.a) (is_same_position f.b g.b) alike in
+    let a = same_position f.a g.a both.0 in
+    let b = same_position f.b g.b both.1 in
+    λ i. record { number = number i; a = a i; b = b i }
+
+lies_alike-itself : (f : Lying) → lies_alike f f ≡ true
+lies_alike-itself f = and_from (is_same_position f.a f.a) (is_same_position f.b f.b) (same_itself f.a) (same_itself f.b)
+
+-- the map has what is held there exactly where the row of its number lies alike
 module _ (m : Map) (sound : HasSoundRows m) where
-  -- a string of the map isn't held elsewhere
-  pub string-stale : (f : Lying) (row : StringRow) → string_of m f.number ≡ Some row → IsTrue (not (lies_alike (lying_string m row) f))
-      → (s : StringRow) → Contains m.strings s → ¬ (lying_string m s ≡ f)
-  string-stale f row found elsewhere s there same =
-      let one : Some s ≡ Some row = sym (row-is (λ (r : StringRow). r.number) m.strings s sound.strings.distinct there) ∙ ap (λ (g : Lying). string_of m g.number) same ∙ found in
-      let is : s ≡ row = cc in
-      let alike : lies_alike (lying_string m row) f ≡ true = subst (λ (g : Lying). lies_alike (lying_string m row) g ≡ true) (ap (lying_string m) (sym is) ∙ same)
-      (and_from _ _ (same_itself (position_of m row.from)) (same_itself (position_of m row.to))) in
-      true≢false (sym alike ∙ not-true (lies_alike (lying_string m row) f) elsewhere)
+  pub string-stale : (h : HeldString) (row : StringRow) → string_of m h.string ≡ Some row
+      → IsTrue (not (lies_alike (lying_string m row) (held_string h))) ↔ (¬ HasStringThere m h)
+  string-stale h row found =
+      let f = held_string h in (
+        (λ elsewhere there.
+            let s = there.0 in
+            let one : Some s ≡ Some row = sym (row-is (λ (r : StringRow). r.number) m.strings s sound.strings.distinct there.1) ∙ ap (λ (g : Lying). string_of m g.number) there.2 ∙ found in
+            let is : s ≡ row = cc in
+            let alike : lies_alike (lying_string m row) f ≡ true = subst (λ (g : Lying). lies_alike g f ≡ true) (sym there.2 ∙ ap (lying_string m) is) (lies_alike-itself f) in
+            true≢false (sym alike ∙ not-true (lies_alike (lying_string m row) f) elsewhere)),
+        (λ gone.
+            let is = row-found_is (λ (r : StringRow). r.number) m.strings h.string row found in
+            not_from_false (lies_alike (lying_string m row) f)
+            (false_from_ne_true (lies_alike (lying_string m row) f) (λ alike. gone (row, is.0, same_lying (lying_string m row) f is.1 alike)))),
+      )
 
-  pub string-gone : (f : Lying) → string_of m f.number ≡ None → (s : StringRow) → Contains m.strings s → ¬ (lying_string m s ≡ f)
-  string-gone f none s there same =
-      let one : Some s ≡ None = sym (row-is (λ (r : StringRow). r.number) m.strings s sound.strings.distinct there) ∙ ap (λ (g : Lying). string_of m g.number) same ∙ none in
-      cc
+  pub string-gone : (h : HeldString) → string_of m h.string ≡ None → IsTrue true ↔ (¬ HasStringThere m h)
+  string-gone h none = (
+    (λ t there.
+        let one : Some there.0 ≡ None = sym (row-is (λ (r : StringRow). r.number) m.strings there.0 sound.strings.distinct there.1) ∙ ap (λ (g : Lying). string_of m g.number) there.2 ∙ none in
+        cc),
+    (λ gone. refl),
+  )
 
-  pub point-stale : (f : Lying) (row : PointRow) → point_of m f.number ≡ Some row → IsTrue (not (lies_alike (lying_point row) f))
-      → (p : PointRow) → Contains m.points p → ¬ (lying_point p ≡ f)
-  point-stale f row found elsewhere p there same =
-      let one : Some p ≡ Some row = sym (point-is m sound p there) ∙ ap (λ (g : Lying). point_of m g.number) same ∙ found in
-      let is : p ≡ row = cc in
-      let alike : lies_alike (lying_point row) f ≡ true = subst (λ (g : Lying). lies_alike (lying_point row) g ≡ true) (ap lying_point (sym is) ∙ same)
-      (and_from _ _ (same_itself row.position) (same_itself row.position)) in
-      true≢false (sym alike ∙ not-true (lies_alike (lying_point row) f) elsewhere)
+  pub point-stale : (h : HeldPoint) (row : PointRow) → point_of m h.point ≡ Some row
+      → IsTrue (not (lies_alike (lying_point row) (held_point h))) ↔ (¬ HasPointThere m h)
+  point-stale h row found =
+      let f = held_point h in (
+        (λ elsewhere there.
+            let p = there.0 in
+            let one : Some p ≡ Some row = sym (point-is m sound p there.1) ∙ ap (λ (g : Lying). point_of m g.number) there.2 ∙ found in
+            let is : p ≡ row = cc in
+            let alike : lies_alike (lying_point row) f ≡ true = subst (λ (g : Lying). lies_alike g f ≡ true) (sym there.2 ∙ ap lying_point is) (lies_alike-itself f) in
+            true≢false (sym alike ∙ not-true (lies_alike (lying_point row) f) elsewhere)),
+        (λ gone.
+            let is = row-found_is (λ (r : PointRow). r.number) m.points h.point row found in
+            not_from_false (lies_alike (lying_point row) f)
+            (false_from_ne_true (lies_alike (lying_point row) f) (λ alike. gone (row, is.0, same_lying (lying_point row) f is.1 alike)))),
+      )
 
-  pub point-gone : (f : Lying) → point_of m f.number ≡ None → (p : PointRow) → Contains m.points p → ¬ (lying_point p ≡ f)
-  point-gone f none p there same =
-      let one : Some p ≡ None = sym (point-is m sound p there) ∙ ap (λ (g : Lying). point_of m g.number) same ∙ none in
-      cc
+  pub point-gone : (h : HeldPoint) → point_of m h.point ≡ None → IsTrue true ↔ (¬ HasPointThere m h)
+  point-gone h none = (
+    (λ t there.
+        let one : Some there.0 ≡ None = sym (point-is m sound there.0 there.1) ∙ ap (λ (g : Lying). point_of m g.number) there.2 ∙ none in
+        cc),
+    (λ gone. refl),
+  )
+
+  -- what isn't seen to pass does so where it isn't there
+  pub string-passes : (test : Lying → Bool) (h : HeldString) (b : Bool) → test (held_string h) ≡ false → IsTrue b ↔ (¬ HasStringThere m h) → IsTrue b ↔ OfHeldString m test h
+  unfolding OfHeldString
+  string-passes test h b fails is = (
+    (λ t s hs same. absurd (is.0 t (s, hs, same))),
+    (λ passes. is.1 (λ there. true≢false (sym (passes there.0 there.1 there.2) ∙ fails))),
+  )
+
+  pub point-passes : (test : Lying → Bool) (h : HeldPoint) (b : Bool) → test (held_point h) ≡ false → IsTrue b ↔ (¬ HasPointThere m h) → IsTrue b ↔ OfHeldPoint m test h
+  unfolding OfHeldPoint
+  point-passes test h b fails is = (
+    (λ t p hp same. absurd (is.0 t (p, hp, same))),
+    (λ passes. is.1 (λ there. true≢false (sym (passes there.0 there.1 there.2) ∙ fails))),
+  )
+
+  pub string-passed : (test : Lying → Bool) (h : HeldString) (b : Bool) → b ≡ test (held_string h) → b ≡ true → IsTrue b ↔ OfHeldString m test h
+  unfolding OfHeldString
+  string-passed test h b is t = ((λ _ s hs same. sym is ∙ t), (λ _. t))
+
+  pub point-passed : (test : Lying → Bool) (h : HeldPoint) (b : Bool) → b ≡ test (held_point h) → b ≡ true → IsTrue b ↔ OfHeldPoint m test h
+  unfolding OfHeldPoint
+  point-passed test h b is t = ((λ _ p hp same. sym is ∙ t), (λ _. t))
 
   -- ---- V3
 

@@ -103,6 +103,13 @@ held_point h = record { number = h.point; a = h.position; b = h.position }
 abbrev pub lies_alike : Lying → Lying → Bool
 lies_alike f g = is_same_position f.a g.a && is_same_position f.b g.b
 
+-- the map has the string where it is held, and the point
+abbrev pub HasStringThere : Map → HeldString → Type 0
+HasStringThere m h = (s : StringRow) × Contains m.strings s × (lying_string m s ≡ held_string h)
+
+abbrev pub HasPointThere : Map → HeldPoint → Type 0
+HasPointThere m h = (p : PointRow) × Contains m.points p × (lying_point p ≡ held_point h)
+
 -- a held string passes a test, if it is where the map has it; and so does a held point
 unfoldable pub OfHeldString : Map → (Lying → Bool) → HeldString → Type 0
 OfHeldString m test h = (s : StringRow) → Contains m.strings s

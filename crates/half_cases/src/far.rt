@@ -51,16 +51,20 @@ fn append_square(alloc: Global, text: &mut String, place: u32) -> Result<(), All
     Ok(())
 }
 
-/// A plan and a hundred far squares more.
-pub(crate) fn far_plan(alloc: Global, plan: &str) -> Result<String, Fail> {
+/// A plan with these records before its own.
+pub(crate) fn with_records(alloc: Global, plan: &str, records: &str) -> Result<String, Fail> {
     let head = "plan,2,,,,,\n";
     let rest = plan.strip_prefix(head).ok_or("a plan")?;
-    let mut text = format!(in alloc; "{head}")?;
+    Ok(format!(in alloc; "{head}{records}{rest}")?)
+}
+
+/// A plan and a hundred far squares more.
+pub(crate) fn far_plan(alloc: Global, plan: &str) -> Result<String, Fail> {
+    let mut squares = String::new(alloc);
     for place in 1..101 {
-        append_square(alloc, &mut text, place)?;
+        append_square(alloc, &mut squares, place)?;
     }
-    text.push_str(rest)?;
-    Ok(text)
+    with_records(alloc, plan, squares.as_str())
 }
 
 /// Appends the points at a place of a lot's two long sides, and the strings that begin there.

@@ -7,7 +7,7 @@ ghost use Rattle.cad_laws.specs.Tried.{IsTried};
 ghost use Rattle.cad_valid.specs.Near.{HoldsMap, ComesFromValid, touched_of};
 
 use crate::counted::Counted;
-use crate::far::far_plan;
+use crate::far::{far_plan, with_records};
 use crate::plans::{ISLAND, SQUARE, edit_of, map_of};
 use crate::plans_after::{DIVIDED, DIVIDED_ISLAND, JOINED};
 use crate::plans_enclosed::{FREE_CORNERS, WITH_FRAME};
@@ -21,6 +21,41 @@ use edit_records::grid_of;
 use std::alloc::Global;
 use std::process::Abort;
 use std::test::Fail;
+
+/// The square in three parcels: one on each side of its diagonal, and one in its corner at point 2.
+const WITH_CORNER: &str = "\
+plan,2,,,,,
+source,1,Plan 7,,,,
+point,1,0,0,1,,
+point,5,600,0,,,
+point,2,1000,0,,,
+point,6,1000,400,,,
+point,3,1000,1000,,,
+point,4,0,1000,,,
+parcel,1,A,,,,
+parcel,2,B,,,,
+parcel,3,C,,,,
+string,11,1,5,1,0,
+string,15,5,2,2,0,
+string,12,2,6,2,0,
+string,16,6,3,1,0,
+string,13,3,4,3,0,
+string,14,4,1,3,0,
+string,21,1,3,3,1,
+string,22,5,6,1,2,
+open,,,,,,
+";
+
+/// An island in that corner.
+const ISLAND_IN_CORNER: &str = "\
+point,7,800,50,,,
+point,8,900,50,,,
+point,9,900,150,,,
+parcel,4,D,,,,
+string,31,7,8,4,2,
+string,32,8,9,4,2,
+string,33,9,7,4,2,
+";
 
 /// What a check told of a map, and how often it asked: at all, and for a row by its place.
 #[derive(Drop)]
@@ -186,14 +221,31 @@ fn near_calls<R: Abort + AllocGlobal>(rt: &R, plan: &str, edit: &str) -> Result<
     Ok(near.calls)
 }
 
-/// Fails where the near check asks more or less often where the plan has a hundred far squares more.
-fn check_far<R: Abort + AllocGlobal>(rt: &R, plan: &str, edit: &str) -> Result<(), Fail> {
-    let far = far_plan(rt.alloc(), plan)?;
+/// Fails where the near check asks more or less often on a larger plan.
+fn check_larger<R: Abort + AllocGlobal>(
+    rt: &R,
+    plan: &str,
+    larger: &str,
+    edit: &str,
+) -> Result<(), Fail> {
     let few = near_calls(rt, plan, edit)?;
-    let many = near_calls(rt, far.as_str(), edit)?;
+    let many = near_calls(rt, larger, edit)?;
     assert!(rt; few > 0);
     assert_eq!(rt; few, many);
     Ok(())
+}
+
+/// And where the plan has a hundred far squares more.
+fn check_far<R: Abort + AllocGlobal>(rt: &R, plan: &str, edit: &str) -> Result<(), Fail> {
+    let far = far_plan(rt.alloc(), plan)?;
+    check_larger(rt, plan, far.as_str(), edit)
+}
+
+#[test]
+fn what_lies_near_is_seen_without_its_rows(rt: HostRuntime) -> Result<(), Fail> {
+    // The box of the diagonal has the island, in a parcel that the edit doesn't touch.
+    let near = with_records(rt.alloc(), WITH_CORNER, ISLAND_IN_CORNER)?;
+    check_larger(&rt, WITH_CORNER, near.as_str(), "move,3,1100,1100,,,")
 }
 
 #[test]

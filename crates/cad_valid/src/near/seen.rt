@@ -1,5 +1,5 @@
 //! What an edit touched, as it lies on the map, where that is little and near together.
-ghost use Rattle.std.specs.Prelude.{◌≡◌, ◌≤ℤ◌, IfSome};
+ghost use Rattle.std.specs.Prelude.{◌≡◌, ◌<◌, ◌≤ℤ◌, length, IfSome, IfNone};
 ghost use Rattle.std.specs.List.{AllByRecursion, Contains};
 ghost use Rattle.geo_exact.specs.Position.{Position, InRange};
 ghost use Rattle.cad_map.specs.Valid.{HasSoundRows};
@@ -76,9 +76,10 @@ pub(crate) fn lying_point(point: &PointRow) -> Lying
 /// Those of these strings that the map has, and `None` where they are more than eight.
 fn strings_seen<M: MapView>(map: &M, strings: &[StringNo]) -> Option<ArrayVec<Lying, 8>>
     requires { HasSoundRows (M.map map.now) }
-    ensures { IfSome result (λ seen. AllByRecursion
+    ensures some { IfSome result (λ seen. AllByRecursion
         (OfString (M.map map.now) (λ s. Contains seen.items (lying_string_of (M.map map.now) s)))
         strings.now) }
+    ensures none { IfNone result (8 < length strings.now) }
 {
     let mut seen = ArrayVec::new();
     for place in 0..strings.len() {
@@ -95,8 +96,9 @@ fn strings_seen<M: MapView>(map: &M, strings: &[StringNo]) -> Option<ArrayVec<Ly
 /// Those of these points that the map has, and `None` where they are more than sixteen.
 fn points_seen<M: MapView>(map: &M, points: &[PointNo]) -> Option<ArrayVec<Lying, 16>>
     requires { HasSoundRows (M.map map.now) }
-    ensures { IfSome result (λ seen. AllByRecursion
+    ensures some { IfSome result (λ seen. AllByRecursion
         (OfPoint (M.map map.now) (λ p. Contains seen.items (lying_point_of p))) points.now) }
+    ensures none { IfNone result (16 < length points.now) }
 {
     let mut seen = ArrayVec::new();
     for place in 0..points.len() {

@@ -1,16 +1,13 @@
 //! Whether what the grid holds near touched strings and points is seen to keep V3 and V4, by where it
 //! is held. A look at rows is needed only where something held seems to be in the way: an edit's
 //! strings and points may be held where they were before, too.
-ghost use Rattle.std.specs.Prelude.{◌≡◌, IsTrue};
-ghost use Rattle.std.specs.List.{Contains, list_all};
-ghost use Rattle.cad_rows.specs.declared.rows.PointRow.{PointRow as PointRowOf};
-ghost use Rattle.cad_rows.specs.declared.rows.StringRow.{StringRow as StringRowOf};
+ghost use Rattle.std.specs.Prelude.{◌≡◌, ◌↔◌, IsTrue};
+ghost use Rattle.std.specs.List.{list_all};
 ghost use Rattle.cad_map.specs.Valid.{HasSoundRows};
 ghost use Rattle.cad_valid.specs.Near.{HoldsMap};
 ghost use Rattle.cad_valid.specs.Placed.{have_common as have_common_of};
 ghost use Rattle.cad_valid.specs.Seen.{starts_alone as starts_alone_of, meets_by_sight, lies_by_sight as lies_by_sight_of};
-ghost use Rattle.cad_valid.specs.Seen.{lying_string as lying_string_of, lying_point as lying_point_of};
-ghost use Rattle.cad_valid.specs.Seen.{held_string, held_point, lies_alike};
+ghost use Rattle.cad_valid.specs.Seen.{held_string, held_point, lies_alike, HasStringThere, HasPointThere};
 ghost use Rattle.cad_valid.specs.Seen.{is_clear_of, is_clear_string as is_clear_string_of, is_clear_point as is_clear_point_of};
 ghost use Rattle.cad_valid.specs.Seen.{is_apart_from as is_apart_from_of, is_apart_point as is_apart_point_of, SeesStrings, SeesPoints, OfHeldString, OfHeldPoint};
 
@@ -168,8 +165,7 @@ fn lie_alike(f: &Lying, g: &Lying) -> bool
 /// Whether the map doesn't have a string where it is held.
 fn is_stale<M: MapView>(map: &M, held: &HeldString) -> bool
     requires { HasSoundRows (M.map map.now) }
-    ensures { IsTrue result → (s : StringRowOf) → Contains (M.map map.now).strings s
-        → ¬ (lying_string_of (M.map map.now) s ≡ held_string held.now) }
+    ensures { IsTrue result ↔ (¬ HasStringThere (M.map map.now) held.now) }
 {
     match map.string(held.string) {
         Some(row) => !lie_alike(&lying_string(map, row), &lying_held(held)),
@@ -180,8 +176,7 @@ fn is_stale<M: MapView>(map: &M, held: &HeldString) -> bool
 /// Whether the map doesn't have a point where it is held.
 fn is_stale_point<M: MapView>(map: &M, held: &HeldPoint) -> bool
     requires { HasSoundRows (M.map map.now) }
-    ensures { IsTrue result → (p : PointRowOf) → Contains (M.map map.now).points p
-        → ¬ (lying_point_of p ≡ held_point held.now) }
+    ensures { IsTrue result ↔ (¬ HasPointThere (M.map map.now) held.now) }
 {
     match map.point(held.point) {
         Some(row) => !lie_alike(&lying_point(row), &lying_held_point(held)),
@@ -193,7 +188,7 @@ fn is_stale_point<M: MapView>(map: &M, held: &HeldPoint) -> bool
 fn passes<M: MapView>(map: &M, seen: &Seen, held: &HeldString) -> bool
     requires { HasSoundRows (M.map map.now) }
     ensures { IsTrue result
-        → OfHeldString (M.map map.now) (is_clear_string_of seen.now) held.now }
+        ↔ OfHeldString (M.map map.now) (is_clear_string_of seen.now) held.now }
 {
     is_clear_string(seen, &lying_held(held)) || is_stale(map, held)
 }
@@ -202,7 +197,7 @@ fn passes<M: MapView>(map: &M, seen: &Seen, held: &HeldString) -> bool
 fn passes_strings<M: MapView>(map: &M, seen: &Seen, held: &HeldPoint) -> bool
     requires { HasSoundRows (M.map map.now) }
     ensures { IsTrue result
-        → OfHeldPoint (M.map map.now) (is_clear_point_of seen.now) held.now }
+        ↔ OfHeldPoint (M.map map.now) (is_clear_point_of seen.now) held.now }
 {
     is_clear_point(seen.strings.as_slice(), &lying_held_point(held)) || is_stale_point(map, held)
 }
@@ -211,18 +206,17 @@ fn passes_strings<M: MapView>(map: &M, seen: &Seen, held: &HeldPoint) -> bool
 fn passes_points<M: MapView>(map: &M, seen: &Seen, held: &HeldPoint) -> bool
     requires { HasSoundRows (M.map map.now) }
     ensures { IsTrue result
-        → OfHeldPoint (M.map map.now) (is_apart_point_of seen.now) held.now }
+        ↔ OfHeldPoint (M.map map.now) (is_apart_point_of seen.now) held.now }
 {
     is_apart_point(seen.points.as_slice(), &lying_held_point(held)) || is_stale_point(map, held)
 }
 
-/// Whether all strings of the map near what was gathered are seen to be clear of it. Where it answers
-/// false they may be clear all the same.
+/// Whether all strings of the map near what was gathered are seen to be clear of it.
 pub(crate) fn sees_strings_clear<M: MapView>(map: &M, grid: &CellGrid, seen: &Seen) -> bool
     requires sound { HasSoundRows (M.map map.now) }
     requires held { HoldsMap grid.now (M.map map.now) }
     ensures { IsTrue result
-        → SeesStrings (M.map map.now) seen.now (is_clear_string_of seen.now) }
+        ↔ SeesStrings (M.map map.now) seen.now (is_clear_string_of seen.now) }
 {
     grid.candidates(seen.reach.low, seen.reach.high)
         .all(|held| passes(map, seen, &held))
@@ -232,7 +226,8 @@ pub(crate) fn sees_strings_clear<M: MapView>(map: &M, grid: &CellGrid, seen: &Se
 pub(crate) fn sees_points_clear<M: MapView>(map: &M, grid: &CellGrid, seen: &Seen) -> bool
     requires sound { HasSoundRows (M.map map.now) }
     requires held { HoldsMap grid.now (M.map map.now) }
-    ensures { IsTrue result → SeesPoints (M.map map.now) seen.now (is_clear_point_of seen.now) }
+    ensures { IsTrue result
+        ↔ SeesPoints (M.map map.now) seen.now (is_clear_point_of seen.now) }
 {
     grid.point_candidates(seen.reach.low, seen.reach.high)
         .all(|held| passes_strings(map, seen, &held))
@@ -242,7 +237,8 @@ pub(crate) fn sees_points_clear<M: MapView>(map: &M, grid: &CellGrid, seen: &See
 pub(crate) fn sees_points_apart<M: MapView>(map: &M, grid: &CellGrid, seen: &Seen) -> bool
     requires sound { HasSoundRows (M.map map.now) }
     requires held { HoldsMap grid.now (M.map map.now) }
-    ensures { IsTrue result → SeesPoints (M.map map.now) seen.now (is_apart_point_of seen.now) }
+    ensures { IsTrue result
+        ↔ SeesPoints (M.map map.now) seen.now (is_apart_point_of seen.now) }
 {
     grid.point_candidates(seen.reach.low, seen.reach.high)
         .all(|held| passes_points(map, seen, &held))

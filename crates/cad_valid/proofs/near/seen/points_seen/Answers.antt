@@ -1,4 +1,4 @@
-use Rattle.std.proofs.Common.{◌≡◌, ◌++◌, ◌∷◌, [], List, refl, sym, ap, subst, ◌∙◌, take, Some, ◌+◌}
+use Rattle.std.proofs.Common.{◌≡◌, ◌++◌, ◌∷◌, [], List, refl, sym, ap, subst, ◌∙◌, take, length, Some, ◌+◌, ◌≤◌, arith}
 use Rattle.std.proofs.lemmas.Option.{slice_get_read}
 use Rattle.std.specs.Prelude.{slice_get}
 use Rattle.std.specs.List.{AllByRecursion, Contains}
@@ -17,12 +17,17 @@ loop-place-preserved g c =
     let n = c.index-points-place.result in
     let before = c.loop-place.seen.items in
     let at : slice_get numbers k ≡ Some n = slice_get_read numbers _ k n refl c.loop-place-test.true c.index-points-place.is in
+    let kept = c.loop-place.invariant in
     elim c.match-point.branch [
-      | in-Some+else-is_full w ↦
-          subst (λ (l : List Lying). AllByRecursion (OfPoint m (λ p. Contains l (lying_point p))) (take (k + 1) numbers))
-          (sym (ap (λ v. v.items) w.seen-is ∙ w.push.ensures.items ∙ ap (λ (f : Lying). before ++ f ∷ []) w.lying_point.ensures))
-          (point-gathered m c.requires before numbers k n w.in-Some.row.now at (sym w.in-Some.ensures) c.loop-place.invariant)
-      | in_default w ↦
-          subst (λ (l : List Lying). AllByRecursion (OfPoint m (λ p. Contains l (lying_point p))) (take (k + 1) numbers))
-          (sym (ap (λ v. v.items) w.seen-is)) (no_point-gathered m c.requires before numbers k n at (sym w.in_default.ensures) c.loop-place.invariant)
+      | in-Some+else-is_full w ↦ record {
+        all = subst (λ (l : List Lying). AllByRecursion (OfPoint m (λ p. Contains l (lying_point p))) (take (k + 1) numbers))
+            (sym (ap (λ v. v.items) w.seen-is ∙ w.push.ensures.items ∙ ap (λ (f : Lying). before ++ f ∷ []) w.lying_point.ensures))
+            (point-gathered m c.requires before numbers k n w.in-Some.row.now at (sym w.in-Some.ensures) kept.all);
+        few = subst (λ v. length v.items ≤ k + 1) (sym w.seen-is) (omega (arith, w.push.ensures.len, kept.few));
+      }
+      | in_default w ↦ record {
+        all = subst (λ (l : List Lying). AllByRecursion (OfPoint m (λ p. Contains l (lying_point p))) (take (k + 1) numbers))
+            (sym (ap (λ v. v.items) w.seen-is)) (no_point-gathered m c.requires before numbers k n at (sym w.in_default.ensures) kept.all);
+        few = subst (λ v. length v.items ≤ k + 1) (sym w.seen-is) (omega (arith, kept.few));
+      }
     ]

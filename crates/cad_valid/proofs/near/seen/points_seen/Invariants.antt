@@ -1,4 +1,4 @@
-use Rattle.std.proofs.Common.{take}
+use Rattle.std.proofs.Common.{◌≤◌, length, take}
 use Rattle.std.specs.List.{AllByRecursion, Contains}
 use Rattle.cad_valid.specs.Near.{OfPoint}
 use Rattle.cad_valid.specs.Seen.{lying_point}
@@ -8,4 +8,7 @@ use Rattle.cad_valid.proofs.near.seen.points_seen.Given as goal
 abbrev pub invariant-loop-place : goal.invariant-loop-place
 invariant-loop-place g l =
     let m = g.M.MapView.map l.map in
-    AllByRecursion (OfPoint m (λ p. Contains l.seen.items (lying_point p))) (take l.place l.points)
+    record {
+      all : AllByRecursion (OfPoint m (λ p. Contains l.seen.items (lying_point p))) (take l.place l.points);
+      few : length l.seen.items ≤ l.place;
+    }

@@ -10,8 +10,8 @@ returns g c =
     let m = g.M.MapView.map c.args.map.now in
     let reach = c.grown_by-reach.result in
     record {
-      strings = subst (AllByRecursion (OfString m (λ s. Contains c.in_ok-strings.strings.items (lying_string m s)))) c.as_slice.ensures.value c.in_ok-strings.ensures;
-      points = subst (AllByRecursion (OfPoint m (λ p. Contains c.in_ok-points.points.items (lying_point p)))) c.as_slice-2.ensures.value c.in_ok-points.ensures;
+      strings = subst (AllByRecursion (OfString m (λ s. Contains c.in_ok-strings.strings.items (lying_string m s)))) c.as_slice.ensures.value c.in_ok-strings.ensures.some;
+      points = subst (AllByRecursion (OfPoint m (λ p. Contains c.in_ok-points.points.items (lying_point p)))) c.as_slice-2.ensures.value c.in_ok-points.ensures.some;
       strings_in = in_wider c.grown_by.result reach c.grown_by-reach.ensures.kept c.in_ok-strings.strings.items
           (subst (AllByRecursion (HasInReach c.grown_by.result)) c.as_slice-4.ensures.value c.grown_by.ensures.all);
       points_in = subst (AllByRecursion (HasInReach reach)) c.as_slice-5.ensures.value c.grown_by-reach.ensures.all;

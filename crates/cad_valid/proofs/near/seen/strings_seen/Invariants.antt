@@ -1,4 +1,4 @@
-use Rattle.std.proofs.Common.{take}
+use Rattle.std.proofs.Common.{◌≤◌, length, take}
 use Rattle.std.specs.List.{AllByRecursion, Contains}
 use Rattle.cad_valid.specs.Near.{OfString}
 use Rattle.cad_valid.specs.Seen.{lying_string}
@@ -8,4 +8,7 @@ use Rattle.cad_valid.proofs.near.seen.strings_seen.Given as goal
 abbrev pub invariant-loop-place : goal.invariant-loop-place
 invariant-loop-place g l =
     let m = g.M.MapView.map l.map in
-    AllByRecursion (OfString m (λ s. Contains l.seen.items (lying_string m s))) (take l.place l.strings)
+    record {
+      all : AllByRecursion (OfString m (λ s. Contains l.seen.items (lying_string m s))) (take l.place l.strings);
+      few : length l.seen.items ≤ l.place;
+    }

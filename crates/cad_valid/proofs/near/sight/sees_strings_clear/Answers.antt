@@ -1,4 +1,4 @@
-use Rattle.std.proofs.Common.{rules, tests, ◌≡◌, true, refl}
+use Rattle.std.proofs.Common.{rules, tests, refl}
 use Rattle.std.proofs.lemmas.Iterator.{cases_from_all}
 use Rattle.std.proofs.lemmas.Iterator.Consumers.{YieldsList-from_first}
 use Rattle.cad_map.specs.Map.{position_of}
@@ -11,6 +11,7 @@ returns g c =
     let m = g.M.MapView.map c.args.map.now in
     let test = is_clear_string c.args.seen.now in
     strings-seen m c.args.seen.now test c.candidates.result _
-    (cases_from_all _ _ _ (OfHeldString m test) (λ _. true ≡ true) c.all.ensures.ran (YieldsList-from_first (λ x. x) (λ w. w) c.candidates.result refl)
-    (λ x q k. search (rules, tests)) (λ x q k. refl))
+    (cases_from_all _ _ _ (OfHeldString m test) (λ h. ¬ OfHeldString m test h) c.all.ensures.ran (YieldsList-from_first (λ x. x) (λ w. w) c.candidates.result refl)
+    (λ x q k. search (rules, tests)) (λ x q k. search (rules, tests)))
+    (λ h there. (c.candidates.ensures.held h there).1)
     (λ s h near. c.candidates.ensures.all s.number (position_of m s.from) (position_of m s.to) (c.requires.held.strings s h) near)
