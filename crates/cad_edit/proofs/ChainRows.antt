@@ -5,7 +5,6 @@ use Rattle.std.specs.List.{Contains, list_any}
 use Rattle.cad_rows.specs.declared.edits.Edit.{Edit}
 use Rattle.cad_rows.specs.declared.edits.Edit.TheVariants.{Divide}
 use Rattle.cad_rows.specs.declared.names.Face.{Face}
-use Rattle.cad_rows.specs.declared.names.Name.TheVariants as name
 use Rattle.cad_rows.specs.declared.refusals.Refusal.TheVariants.{ChainJoinsRings}
 use Rattle.cad_rings.specs.Cycle.{Corner, has_side, sides_of}
 use Rattle.cad_map.specs.Chain.{start_of, next_of, end_of, last_but_one, chosen_corner, leaving}

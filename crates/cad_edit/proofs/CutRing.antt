@@ -1,5 +1,5 @@
 -- The ring that a chain divides, the places of the two sides in it, and the points of the rings that it becomes.
-use Rattle.std.proofs.Common.{◌≡◌, ◌≢◌, ℕ, suc, ◌+◌, ◌-◌, ◌<◌, refl, sym, ap, subst, ◌∙◌, List, [], ◌∷◌, ◌++◌, append_assoc, length, take, drop, map, Bool, true, false, true≢false, Option, Some, None, Bor, slice_get, arith}
+use Rattle.std.proofs.Common.{◌≡◌, ◌≢◌, ℕ, suc, ◌+◌, ◌<◌, refl, sym, ap, subst, ◌∙◌, List, [], ◌∷◌, ◌++◌, append_assoc, length, take, drop, map, Bool, true, false, true≢false, Option, Some, None, Bor, slice_get, arith}
 use Rattle.std.specs.Prelude.{◌&&◌, nat_lt, find, option_map, IsSome, IsPermutation, slice_index}
 use Rattle.std.specs.List.{Contains, list_any, position, position_or_len}
 use Rattle.std.specs.Option.{option_copied}

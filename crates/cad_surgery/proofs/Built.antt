@@ -1,5 +1,5 @@
 -- What is built of a map whose rings are whole stands for it.
-use Rattle.std.proofs.Common.{◌≡◌, [], List, sym, subst, refl, ap, ◌∙◌}
+use Rattle.std.proofs.Common.{◌≡◌, [], sym, subst}
 use Rattle.std.specs.List.{Contains}
 use Rattle.cad_map.specs.declared.boundary.Boundary.{Boundary}
 use Rattle.cad_map.specs.Map.{Map}

@@ -1,5 +1,5 @@
 -- Of the holes that a chain puts on its left, those that it doesn't cut, and what is told of them after a division.
-use Rattle.std.proofs.Common.{◌≡◌, ◌≢◌, Bool, true, false, true≢false, not, refl, sym, ap, subst, ◌∙◌, List, [], ◌∷◌, map, filter, cond, if◌then◌else◌}
+use Rattle.std.proofs.Common.{◌≡◌, Bool, true, false, true≢false, not, refl, sym, ap, subst, ◌∙◌, List, [], ◌∷◌, map, filter, cond, if◌then◌else◌}
 use Rattle.std.specs.Prelude.{IsPermutation}
 use Rattle.std.specs.List.{Contains}
 use Rattle.std.proofs.lemmas.List.Sorted.{Contains-permutation, IsPermutation-map, IsPermutation-sym}

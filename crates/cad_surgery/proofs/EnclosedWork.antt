@@ -1,5 +1,5 @@
 -- How long the rings of an island are, and those that pass over: no longer than all rings of the new parcel.
-use Rattle.std.proofs.Common.{◌≡◌, ℕ, ◌+◌, ◌≤◌, Bool, true, false, refl, sym, ap, subst, ◌∙◌, List, [], ◌∷◌, map, filter, reverse, length, cond, if◌then◌else◌, arith}
+use Rattle.std.proofs.Common.{◌≡◌, ℕ, ◌+◌, ◌≤◌, Bool, true, false, refl, sym, ap, ◌∙◌, List, [], ◌∷◌, map, filter, reverse, length, cond, if◌then◌else◌, arith}
 use Rattle.std.specs.Prelude.{IsPermutation, sum_by}
 use Rattle.std.specs.List.{AllByRecursion, Contains}
 use Rattle.std.proofs.lemmas.List.{length-map, length-reverse}
@@ -8,7 +8,7 @@ use Rattle.std.proofs.lemmas.List.Sorted.{Contains-permutation, IsPermutation-sy
 use Rattle.cad_rows.specs.declared.names.Face.{Face}
 use Rattle.cad_rows.specs.declared.names.Face.TheVariants.{Parcel}
 use Rattle.cad_rows.specs.declared.rows.StringRow.{StringRow}
-use Rattle.cad_rings.specs.Cycle.{Ring, sides_of}
+use Rattle.cad_rings.specs.Cycle.{Ring}
 use Rattle.cad_rings.specs.Canonical.{least_rotation}
 use Rattle.cad_rings.proofs.CallerLemmas.{IsSameRing-length, IsSameRing-least_rotation}
 use Rattle.cad_map.specs.declared.boundary.Boundary.{Boundary}
@@ -30,7 +30,7 @@ use Rattle.map_parts.specs.Relabelled.{cycles_length}
 use Rattle.map_parts.specs.Enclosing.{IsEnclosing, enclosed}
 use Rattle.map_parts.proofs.Enclosing as encloses
 use Rattle.map_parts.proofs.IslandFits.{first-on}
-use Rattle.map_parts.proofs.PlacedHalves.{on-placed, placed-face}
+use Rattle.map_parts.proofs.PlacedHalves.{on-placed}
 use Rattle.map_parts.proofs.RingsOfHalves.{cycle-same_ring}
 
 -- ---- Lists

@@ -1,5 +1,5 @@
 -- Whether a side leads from one far end of the two strings at a point to the other.
-use Rattle.std.proofs.Common.{◌≡◌, ℕ, sym, ap, subst, ◌∙◌, List, [], ◌∷◌, true, false, true≢false, Option, Some, None}
+use Rattle.std.proofs.Common.{◌≡◌, ℕ, sym, subst, ◌∙◌, [], ◌∷◌, true, false, true≢false, Option, Some, None}
 use Rattle.std.specs.Prelude.{is_some, IfSome, IfNone}
 use Rattle.cad_rows.specs.declared.edits.Edit.TheVariants.{Join}
 use Rattle.cad_rows.specs.declared.refusals.Rule.TheVariants.{V4}

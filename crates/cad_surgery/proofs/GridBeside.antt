@@ -1,5 +1,4 @@
 -- Parts with another grid.
-use Rattle.std.proofs.Common.{◌≡◌, refl}
 use Rattle.cell_grid.specs.Grid.{Grid}
 use Rattle.half_table.specs.declared.half.Half.{Half}
 use Rattle.map_parts.specs.Parts.{Parts, FitTogether, IsOnKeptCycle}

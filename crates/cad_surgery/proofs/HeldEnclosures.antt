@@ -1,5 +1,5 @@
 -- What a record of an enclosure says of the rings that passed over, and what the table says.
-use Rattle.std.proofs.Common.{◌≡◌, ◌≢◌, ℕ, ◌+◌, ◌≤◌, ◌&&◌, not, inl, inr, Bool, true, false, true≢false, refl, sym, ap, subst, ◌∙◌, List, [], ◌∷◌, ◌++◌, map, filter, reverse, length, Option, Some, None, is_some, cond, if◌then◌else◌, ◌==◌, arith}
+use Rattle.std.proofs.Common.{◌≡◌, ◌≢◌, ℕ, ◌≤◌, ◌&&◌, not, inl, inr, Bool, true, false, true≢false, refl, sym, ap, subst, ◌∙◌, List, [], ◌∷◌, ◌++◌, map, filter, reverse, length, Option, Some, None, is_some, cond, if◌then◌else◌, ◌==◌, arith}
 use Rattle.std.specs.Prelude.{IsPermutation, count_by}
 use Rattle.std.specs.List.{AllByRecursion, Contains}
 use Rattle.std.proofs.lemmas.List.{length-map}
@@ -8,13 +8,13 @@ use Rattle.std.proofs.lemmas.List.Sorted.{Contains-permutation, IsPermutation-ap
 use Rattle.cad_rows.specs.declared.names.Face.{Face}
 use Rattle.cad_rows.specs.declared.names.Face.TheVariants.{Parcel}
 use Rattle.cad_rows.specs.declared.rows.StringRow.{StringRow}
-use Rattle.cad_rings.specs.Cycle.{Ring, Side, has_side, opposite, sides_along, sides_of}
+use Rattle.cad_rings.specs.Cycle.{Ring, Side, has_side, sides_along, sides_of}
 use Rattle.cad_map.specs.declared.boundary.Boundary.{Boundary}
 use Rattle.cad_map.specs.Boundaries.{is_face, bounding, canonical_form}
 use Rattle.cad_map.specs.Chain.{start_of, next_of, strings_along}
 use Rattle.cad_map.specs.Division.{hole_placed}
 use Rattle.cad_map.specs.Effects.{after}
-use Rattle.cad_map.specs.Map.{Map, all_sides, has_face, string_of, side_of}
+use Rattle.cad_map.specs.Map.{Map, all_sides, has_face, string_of}
 use Rattle.cad_map.specs.Rings.{HasWholeRings}
 use Rattle.cad_map.specs.Table.{row_with}
 use Rattle.cad_map.proofs.CallerLemmas.{CanEnclose as IsAllowed, All-at_each, All-from_each, Contains-cases, Contains-first, Contains-later, Contains-map, Contains-flat_map, Contains-filter, filter-Contains, map-Contains, Contains-has_side, has_side-Contains, is_face-same, is_face-refl, ring-hole_placed, is_division-enclosed, found-number, count-no, count-map}
@@ -22,9 +22,9 @@ use Rattle.half_table.specs.declared.half.Half.{Half}
 use Rattle.half_table.specs.Half.{half_of}
 use Rattle.half_table.specs.Rows.{HalfRows}
 use Rattle.cad_laws.specs.Counts.{sides_of_face}
-use Rattle.cad_laws.specs.Local.{IsLocal, IsShown, side_by}
+use Rattle.cad_laws.specs.Local.{IsLocal, side_by}
 use Rattle.map_parts.specs.Handing.{home_of}
-use Rattle.edit_records.specs.HeldChains.{side_along, LeadsAlong, IsOfRing, NamesRings, rings_beside, HeldIsland}
+use Rattle.edit_records.specs.HeldChains.{side_along, IsOfRing, rings_beside, HeldIsland}
 use Rattle.map_parts.specs.Islands.{AreOfRings}
 use Rattle.map_parts.specs.Labels.{IsOnRing}
 use Rattle.map_parts.specs.Parts.{HasHalves}

@@ -1,5 +1,5 @@
 -- A merger along a chain that a record tells, in a table that goes with the map.
-use Rattle.std.proofs.Common.{◌≡◌, ◌≢◌, ℕ, ◌+◌, not, if◌then◌else◌, filter, inl, inr, Bool, true, false, refl, sym, ap, subst, ◌∙◌, List, [], ◌∷◌, map, length, is_some, Option, arith}
+use Rattle.std.proofs.Common.{◌≡◌, ℕ, ◌+◌, inl, inr, Bool, true, false, refl, sym, ap, subst, ◌∙◌, List, [], ◌∷◌, length, arith}
 use Rattle.std.specs.Prelude.{IsPermutation}
 use Rattle.std.specs.List.{AllByRecursion, Contains}
 use Rattle.std.proofs.lemmas.List.Sorted.{Contains-permutation, IsPermutation-map, IsPermutation-sym}
@@ -9,53 +9,36 @@ use Rattle.cad_rows.specs.declared.names.Face.{Face}
 use Rattle.cad_rows.specs.declared.names.Face.TheVariants.{Parcel}
 use Rattle.cad_rows.specs.declared.rows.ParcelRow.{ParcelRow}
 use Rattle.cad_rows.specs.declared.rows.StringRow.{StringRow}
-use Rattle.cad_rings.specs.Cycle.{Side, opposite, sides_of}
-use Rattle.cad_rings.specs.Surgery.{both_ways, corner, sides_of_chain}
-use Rattle.cad_map.specs.declared.boundary.Boundary.{Boundary}
-use Rattle.cad_map.specs.Boundaries.{bounding, is_face}
-use Rattle.cad_map.specs.Chain.{start_of, next_of, end_of, last_but_one, leaving}
+use Rattle.cad_rings.specs.Cycle.{Side}
+use Rattle.cad_rings.specs.Surgery.{both_ways, sides_of_chain}
+use Rattle.cad_map.specs.Chain.{leaving}
 use Rattle.cad_map.specs.Asked.{GivesInRange}
-use Rattle.cad_map.specs.Effects.{after}
 use Rattle.cad_map.specs.Refusals.{first_refusal}
 use Rattle.cell_grid.specs.Grid.{Grid}
-use Rattle.cad_map.specs.Map.{Map, all_sides}
-use Rattle.cad_map.specs.Valid.{EachPair}
-use Rattle.cad_map.specs.Merger.{handed_over, is_shared}
-use Rattle.cad_map.specs.Rings.{HasWholeRings}
-use Rattle.cad_map.proofs.CallerLemmas.{All-at_each, All-from_each, map-Contains, Contains-cases, Contains-first, Contains-later, Contains-flat_map, Contains-map, filter-Contains, found-number, whole_valid}
+use Rattle.cad_map.specs.Map.{Map}
+use Rattle.cad_map.specs.Merger.{is_shared}
+use Rattle.cad_map.proofs.CallerLemmas.{All-at_each, map-Contains, Contains-cases, Contains-first, Contains-later, filter-Contains, whole_valid}
 use Rattle.half_table.specs.declared.half.Half.{Half}
-use Rattle.half_table.specs.Half.{twin}
-use Rattle.half_table.specs.Rows.{HalfRows, Table, has, origin_of}
+use Rattle.half_table.specs.Rows.{HalfRows, Table}
 use Rattle.half_paths.specs.Path.{AreIn, strings_of}
-use Rattle.half_paths.specs.Loose.{is_of, numbers_of}
+use Rattle.half_paths.specs.Loose.{numbers_of}
 use Rattle.cad_laws.specs.Counts.{shared_strings}
-use Rattle.cad_laws.specs.Local.{IsShown, side_by}
+use Rattle.cad_laws.specs.Local.{side_by}
 use Rattle.cad_laws.specs.Tried.{IsTried}
-use Rattle.cad_laws.proofs.CallerLemmas.{before-one, some-corner}
 use Rattle.edit_records.specs.declared.record.ChainString.{ChainString}
-use Rattle.edit_records.specs.HeldChains.{Follows, HeldChain, IsOfRing, LeadsAlong, NamesRings, rings_beside as rings_but, rows_along, row_between, side_along}
+use Rattle.edit_records.specs.HeldChains.{HeldChain, rows_along, row_between, side_along}
 use Rattle.edit_records.specs.declared.record.SmallRecord.{SmallRecord}
 use Rattle.edit_records.specs.Record.{edit_of, Holds, Belongs, HeldMergedAlong}
 use Rattle.key_lists.specs.Held.{Held}
 use Rattle.cad_surgery.specs.Mergers.{HasSharedPath, halves_of}
-use Rattle.map_parts.specs.Chains.{IsChainOf}
-use Rattle.map_parts.specs.Handing.{home_of}
 use Rattle.map_parts.specs.Islands.{AreOfRings}
-use Rattle.map_parts.specs.Labels.{IsAlong, IsOnRing}
+use Rattle.map_parts.specs.Labels.{IsAlong}
 use Rattle.map_parts.specs.Merging.{IsMerging, merged, shared_chain, first_corner, last_corner, rings_past}
 use Rattle.map_parts.specs.declared.map_rows.MapRows.{MapRows}
 use Rattle.map_parts.specs.declared.stars.Spoke.{Spoke}
 use Rattle.map_parts.specs.Parts.{Parts, FitTogether, HasHalves, map_of}
-use Rattle.map_parts.specs.Paths.{AreAlong, HasStringsMore}
-use Rattle.map_parts.proofs.AlongPaths.{on-path}
-use Rattle.map_parts.proofs.IslandTable.{more-rest}
-use Rattle.map_parts.proofs.KeptShown.{bare}
+use Rattle.map_parts.specs.Paths.{AreAlong}
 use Rattle.map_parts.proofs.MergedChain.{merged-chain}
-use Rattle.map_parts.proofs.MergedRows as rows_of
-use Rattle.map_parts.proofs.Merging as merging
-use Rattle.map_parts.proofs.PartsRings.{found-row, half-there}
-use Rattle.map_parts.proofs.SharedRows.{one-row}
-use Rattle.map_parts.proofs.StringRowsPut.{found-there}
 use Rattle.cad_surgery.proofs.DraftFits.{draft-fits}
 use Rattle.cad_surgery.proofs.FitParts.{parts}
 use Rattle.cad_surgery.proofs.HeldPaths as paths

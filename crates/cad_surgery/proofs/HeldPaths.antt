@@ -26,7 +26,7 @@ use Rattle.half_paths.specs.Path.{AreIn, strings_of}
 use Rattle.half_paths.specs.Loose.{is_of}
 use Rattle.cad_laws.specs.Local.{IsShown, side_by}
 use Rattle.cad_laws.proofs.CallerLemmas.{before-one, some-corner}
-use Rattle.edit_records.specs.HeldChains.{Follows, HeldChain, IsOfRing, LeadsAlong, NamesRings, rings_beside as rings_but, side_along}
+use Rattle.edit_records.specs.HeldChains.{HeldChain, IsOfRing, LeadsAlong, rings_beside as rings_but, side_along}
 use Rattle.cad_surgery.specs.Mergers.{HasSharedPath}
 use Rattle.map_parts.specs.Chains.{IsChainOf}
 use Rattle.map_parts.specs.Handing.{home_of}

@@ -1,6 +1,6 @@
 -- A join on the parts of a map on half-edges, from growth to rest.
 use Rattle.std.proofs.lemmas.Cmp.{nat_eq_equiv}
-use Rattle.std.proofs.Common.{◌≡◌, ◌≤◌, ◌+◌, ◌*◌, ◌==◌, ◌||◌, ℕ, refl, sym, ap, subst, ◌∙◌, [], ◌∷◌, length, not, true, false, Bool, Some, if◌then◌else◌, is_some, slice_get, arith}
+use Rattle.std.proofs.Common.{◌≡◌, ◌≤◌, ◌+◌, ◌*◌, ◌==◌, ◌||◌, ℕ, sym, ap, subst, ◌∙◌, [], ◌∷◌, length, not, true, false, Bool, Some, if◌then◌else◌, is_some, slice_get, arith}
 use Rattle.cad_rows.specs.declared.edits.Edit.TheVariants.{Join}
 use Rattle.cad_rows.specs.declared.rows.PointRow.{PointRow}
 use Rattle.cad_rows.specs.declared.rows.StringRow.{StringRow}
@@ -8,12 +8,11 @@ use Rattle.cad_map.specs.Changes.{by_number}
 use Rattle.cad_map.specs.Costs.{work_bound}
 use Rattle.cad_map.specs.Effects.{after}
 use Rattle.cad_map.specs.Map.{Map, point_of, string_of, has_string, strings_at, far_end, degree}
-use Rattle.cad_map.specs.Outcome.{LeadsTo}
 use Rattle.cad_map.specs.Rings.{HasWholeRings}
 use Rattle.cad_map.specs.Table.{without_row}
-use Rattle.cad_map.proofs.CallerLemmas.{allowed, two-joined, meet-at, MeetAt, found-number}
+use Rattle.cad_map.proofs.CallerLemmas.{allowed, two-joined, meet-at, found-number}
 use Rattle.half_table.specs.declared.half.Half.{Half}
-use Rattle.half_table.specs.Half.{half_of, twin, forward_of, backward_of}
+use Rattle.half_table.specs.Half.{half_of, twin, forward_of}
 use Rattle.half_table.specs.Rows.{HalfRows, has, has_halves, next, cycle}
 use Rattle.half_table.proofs.Strings.{has-string}
 use Rattle.half_paths.specs.Path.{AreIn, AreDifferent, strings_of}

@@ -1,7 +1,6 @@
 -- A join that is tried on a map on half-edges, kept or taken back.
-use Rattle.std.proofs.Common.{◌≡◌, ◌≤◌, ◌+◌, ◌==◌, ℕ, refl, sym, ap, subst, ◌∙◌, [], ◌∷◌, length, not, true, false, Bool, Some, if◌then◌else◌, slice_get, arith}
+use Rattle.std.proofs.Common.{◌≡◌, ◌≤◌, ◌+◌, ◌==◌, ℕ, sym, ap, subst, ◌∙◌, [], ◌∷◌, length, not, true, false, Bool, Some, if◌then◌else◌, slice_get, arith}
 use Rattle.cad_rows.specs.declared.edits.Edit.TheVariants.{Join}
-use Rattle.cad_rows.specs.declared.rows.PointRow.{PointRow}
 use Rattle.cad_rows.specs.declared.rows.StringRow.{StringRow}
 use Rattle.cell_grid.specs.Grid.{Grid}
 use Rattle.cad_map.specs.Changes.{by_number}
@@ -14,7 +13,7 @@ use Rattle.cad_map.proofs.CallerLemmas.{whole_valid}
 use Rattle.half_table.specs.declared.half.Half.{Half}
 use Rattle.half_table.specs.Count.{greatest, ticked}
 use Rattle.half_table.specs.Half.{half_of, twin, forward_of, backward_of}
-use Rattle.half_table.specs.Rows.{HalfRows, Table, has, next, cycle}
+use Rattle.half_table.specs.Rows.{Table, has, next, cycle}
 use Rattle.half_paths.specs.Path.{AreDifferent, strings_of}
 use Rattle.half_paths.specs.Loose.{is_of, AreLoose, DropsStrings}
 use Rattle.entry_list.specs.Slots.{HasSlot}

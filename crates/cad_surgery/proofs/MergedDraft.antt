@@ -1,12 +1,11 @@
 -- A merger along a chain on the parts of a map on half-edges, from growth to rest.
-use Rattle.std.proofs.Common.{◌≡◌, ◌≢◌, ◌≤◌, ◌<◌, ◌+◌, ◌*◌, ℕ, refl, sym, ap, subst, ◌∙◌, List, [], ◌∷◌, map, filter, length, Bool, true, false, ◌||◌, if◌then◌else◌, Some, slice_get, arith}
+use Rattle.std.proofs.Common.{◌≡◌, ◌≤◌, ◌<◌, ◌+◌, ◌*◌, ℕ, refl, sym, ap, subst, ◌∙◌, List, [], ◌∷◌, map, filter, length, Bool, true, false, if◌then◌else◌, arith}
 use Rattle.std.specs.Prelude.{IsPermutation}
-use Rattle.std.specs.List.{AllByRecursion, Contains}
+use Rattle.std.specs.List.{Contains}
 use Rattle.std.proofs.lemmas.List.{length-map}
 use Rattle.std.proofs.lemmas.List.Sorted.{length_permutation}
 use Rattle.cad_rows.specs.declared.names.Face.{Face}
 use Rattle.cad_rows.specs.declared.names.Face.TheVariants.{Parcel}
-use Rattle.cad_rows.specs.declared.rows.ParcelRow.{ParcelRow}
 use Rattle.cad_rows.specs.declared.rows.StringRow.{StringRow}
 use Rattle.cad_rings.specs.Cycle.{Side}
 use Rattle.cad_rings.specs.Surgery.{sides_of_chain}
@@ -30,14 +29,13 @@ use Rattle.cad_laws.specs.Local.{IsLocal, IsShown, side_by}
 use Rattle.cad_surgery.specs.declared.edits.try_merge_along.Merger.{Merger}
 use Rattle.cad_surgery.specs.Mergers.{HasSharedPath, merged_by}
 use Rattle.cad_surgery.specs.Proper.{IsProper}
-use Rattle.cad_surgery.specs.Work.{TakesWork, TicksUpTo}
+use Rattle.cad_surgery.specs.Work.{TakesWork}
 use Rattle.map_parts.specs.declared.map_rows.MapRows.{MapRows}
 use Rattle.map_parts.specs.declared.stars.Spoke.{Spoke}
-use Rattle.map_parts.specs.Chains.{IsChainOf}
 use Rattle.map_parts.specs.Handing.{home_of}
 use Rattle.map_parts.specs.Islands.{AreOfRings}
 use Rattle.map_parts.specs.Merging.{IsMerging, merged, shared_chain, first_corner, last_corner, rings_past, CanBeginMerge}
-use Rattle.map_parts.specs.Parts.{Parts, FitTogether, HasHalves, map_of, kept_at}
+use Rattle.map_parts.specs.Parts.{Parts, FitTogether, map_of, kept_at}
 use Rattle.map_parts.specs.Paths.{AreAlong, HasStringsMore}
 use Rattle.map_parts.specs.Relabelled.{cycles_length}
 use Rattle.map_parts.specs.Splitting.{FitMap}

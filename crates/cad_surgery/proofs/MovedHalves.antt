@@ -1,5 +1,5 @@
 -- The halves that are kept of the holes that pass to a new face.
-use Rattle.std.proofs.Common.{◌≡◌, ◌≢◌, ◌⊎◌, inl, inr, ℕ, zero, suc, ◌+◌, ◌<◌, ◌&&◌, Bool, true, false, true≢false, refl, sym, ap, subst, ◌∙◌, List, [], ◌∷◌, ◌++◌, map, filter, take, length, Option, Some, None, slice_get, cond, arith}
+use Rattle.std.proofs.Common.{◌≡◌, ◌≢◌, ◌⊎◌, inl, inr, ℕ, zero, suc, ◌+◌, ◌<◌, ◌&&◌, Bool, true, false, refl, sym, ap, subst, ◌∙◌, List, [], ◌∷◌, ◌++◌, map, filter, take, length, Option, Some, slice_get, cond, arith}
 use Rattle.std.specs.Prelude.{option_map, int_lt, pos, flat_map, count_by, IsPermutation}
 use Rattle.std.specs.List.{AllByRecursion, Contains}
 use Rattle.std.proofs.lemmas.List.{append-nil, length-map}
@@ -7,11 +7,11 @@ use Rattle.std.proofs.lemmas.List.Elements.{filter-append}
 use Rattle.std.proofs.lemmas.List.Sorted.{sum_by-IsPermutation}
 use Rattle.std.proofs.lemmas.Option.{slice_get-map, get_or_from_slice_get}
 use Rattle.cad_rows.specs.declared.names.Face.{Face}
-use Rattle.cad_rings.specs.Cycle.{Ring, sides_of, anchor_of, IsSameRing}
+use Rattle.cad_rings.specs.Cycle.{Ring, anchor_of, IsSameRing}
 use Rattle.cad_rings.proofs.CallerLemmas.{anchor_of-same, ring_sum-same_ring}
 use Rattle.geo_exact.specs.Measure.{doubled_area}
 use Rattle.cad_map.specs.declared.boundary.Boundary.{Boundary}
-use Rattle.cad_map.specs.Boundaries.{is_face, face_place}
+use Rattle.cad_map.specs.Boundaries.{is_face}
 use Rattle.cad_map.specs.Map.{Map, faces, has_face, is_negative, is_in_ring, position_of, rings_at}
 use Rattle.cad_map.specs.Rings.{HasWholeRings, ring_at}
 use Rattle.cad_map.specs.Valid.{EachPair}

@@ -1,8 +1,6 @@
 -- An enclosure taken back on the parts of a map on half-edges, to rest.
-use Rattle.std.proofs.Common.{◌≡◌, ◌≤◌, ◌<◌, ◌+◌, ◌*◌, ℕ, refl, sym, ap, subst, ◌∙◌, List, [], ◌∷◌, map, length, Bool, true, false, ◌||◌, if◌then◌else◌, arith}
-use Rattle.std.specs.List.{AllByRecursion}
+use Rattle.std.proofs.Common.{◌≡◌, ◌≤◌, ◌<◌, ◌+◌, ℕ, refl, sym, ap, subst, ◌∙◌, List, ◌∷◌, map, length, Bool, true, false, if◌then◌else◌, arith}
 use Rattle.std.proofs.lemmas.List.{length-map}
-use Rattle.cad_rows.specs.declared.names.Face.{Face}
 use Rattle.cad_rows.specs.declared.names.Face.TheVariants.{Parcel}
 use Rattle.cad_rows.specs.declared.rows.StringRow.{StringRow}
 use Rattle.cell_grid.specs.Grid.{Grid}
@@ -15,11 +13,10 @@ use Rattle.cad_map.proofs.CallerLemmas.{whole_valid}
 use Rattle.half_table.specs.declared.half.Half.{Half}
 use Rattle.half_table.specs.Count.{greatest, ticked}
 use Rattle.half_table.specs.Half.{forward_of, twin}
-use Rattle.half_table.specs.Rows.{HalfRows, Table, has, next, cycle}
+use Rattle.half_table.specs.Rows.{Table, has, next, cycle}
 use Rattle.half_paths.specs.Path.{AreIn, AreDifferent, strings_of}
 use Rattle.half_paths.specs.Loose.{is_of, AreLoose, DropsStrings}
 use Rattle.key_lists.specs.Held.{Held}
-use Rattle.cad_laws.specs.Counts.{sides_of_face}
 use Rattle.cad_laws.specs.Local.{IsShown}
 use Rattle.cad_laws.specs.Tried.{IsTried}
 use Rattle.cad_laws.proofs.CallerLemmas.{whole-after}
@@ -31,7 +28,7 @@ use Rattle.map_parts.specs.Enclosing.{IsEnclosing, CanBeginOpen, enclosed}
 use Rattle.cad_surgery.specs.Enclosures.{LeadsBy, enclosed_by, strings_by}
 use Rattle.edit_records.specs.HeldChains.{HeldIsland}
 use Rattle.map_parts.specs.Placed.{AreOfHoles}
-use Rattle.map_parts.specs.Parts.{Parts, FitTogether, HasHalves, map_of, kept_at}
+use Rattle.map_parts.specs.Parts.{Parts, FitTogether, map_of, kept_at}
 use Rattle.cad_surgery.specs.Proper.{IsProper}
 use Rattle.map_parts.specs.Relabelled.{cycles_length}
 use Rattle.map_parts.specs.Splitting.{FitMap}

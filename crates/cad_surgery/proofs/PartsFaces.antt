@@ -1,5 +1,5 @@
 -- The rings of the faces, one for each half that is kept.
-use Rattle.std.proofs.Common.{◌≡◌, ◌≢◌, ℕ, ◌+◌, ◌≤◌, ◌⊎◌, ◌==◌, Bool, true, false, List, [], ◌∷◌, ◌++◌, length, map, find, filter, refl, sym, ap, ◌∙◌, subst, arith, inl, inr, Option, Some, None, true≢false, cond, slice_get}
+use Rattle.std.proofs.Common.{◌≡◌, ◌≢◌, ℕ, ◌==◌, Bool, true, false, List, [], ◌∷◌, ◌++◌, map, refl, sym, ap, ◌∙◌, subst, arith, Option, Some, None, slice_get}
 use Rattle.std.specs.Prelude.{flat_map, is_some, option_map, option_and_then, if◌then◌else◌}
 use Rattle.std.specs.List.{AllByRecursion, Contains}
 use Rattle.std.proofs.lemmas.Bool.{eqb-true}
@@ -9,18 +9,17 @@ use Rattle.std.proofs.lemmas.Option.{slice_get-map}
 use Rattle.cad_rows.specs.declared.names.Face.{Face}
 use Rattle.cad_rows.specs.declared.names.Face.TheVariants.{Outside, Parcel}
 use Rattle.cad_rows.specs.declared.rows.ParcelRow.{ParcelRow}
-use Rattle.cad_rings.specs.Cycle.{Ring, Side, sides_of}
+use Rattle.cad_rings.specs.Cycle.{Ring, Side}
 use Rattle.cad_map.specs.declared.boundary.Boundary.{Boundary}
 use Rattle.cad_map.specs.Boundaries.{is_face}
 use Rattle.cad_map.specs.Map.{faces, rings_at, has_face, has_parcel}
 use Rattle.cad_map.specs.Table.{row_with}
 use Rattle.cad_map.specs.Valid.{EachPair}
 use Rattle.cad_map.specs.Walk.{first_side}
-use Rattle.cad_map.proofs.CallerLemmas.{Contains-first, Contains-later, Contains-map, Contains-flat_map, Contains-at, is_face-refl, begins_with, has_first}
+use Rattle.cad_map.proofs.CallerLemmas.{Contains-first, Contains-later, Contains-map, Contains-flat_map, Contains-at, begins_with, has_first}
 use Rattle.half_table.specs.declared.half.Half.{Half}
 use Rattle.half_table.specs.Half.{twin}
 use Rattle.half_table.specs.Rows.{HalfRows, has, next, origin_of, cycle}
-use Rattle.cad_laws.specs.Local.{IsShown}
 use Rattle.map_parts.specs.KeptRings.{kept_ring}
 use Rattle.map_parts.specs.Parts.{Parts, FitTogether, rows_of, in_face, kept_at, kept_halves, rings_kept}
 use Rattle.map_parts.proofs.CycleRings.{cycle-sides}

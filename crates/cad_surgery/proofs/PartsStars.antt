@@ -1,26 +1,21 @@
 -- What the stars tell of the sides of the map.
-use Rattle.std.proofs.Common.{◌≡◌, ◌≢◌, ℕ, ◌+◌, ◌≤◌, ◌⊎◌, ◌==◌, Bool, true, false, List, [], ◌∷◌, ◌++◌, length, map, find, filter, refl, sym, ap, ◌∙◌, subst, arith, inl, inr, Option, Some, None, true≢false, cond, length-append}
-use Rattle.std.specs.Prelude.{IsPermutation, flat_map, IfSome, IfNone, ◌||◌, if◌then◌else◌, option_map}
-use Rattle.std.specs.List.{AllByRecursion, Contains}
-use Rattle.std.proofs.lemmas.Bool.{eqb-true}
-use Rattle.std.proofs.lemmas.Cmp.{nat_eq_equiv}
-use Rattle.std.proofs.lemmas.List.Sorted.{IsPermutation-sym, Contains-permutation, length_permutation}
-use Rattle.cad_rows.specs.declared.names.Face.{Face}
+use Rattle.std.proofs.Common.{◌≡◌, ℕ, ◌==◌, Bool, true, false, List, [], ◌∷◌, length, filter, refl, sym, ap, ◌∙◌, subst, arith, Option, Some, None}
+use Rattle.std.specs.Prelude.{IfSome, IfNone, option_map}
+use Rattle.std.proofs.lemmas.List.Sorted.{length_permutation}
 use Rattle.cad_rows.specs.declared.rows.StringRow.{StringRow}
 use Rattle.cad_rings.specs.Cycle.{Side, opposite, has_side}
-use Rattle.cad_map.specs.Map.{Map, is_end, degree, string_of, all_sides, side_of}
+use Rattle.cad_map.specs.Map.{is_end, degree, string_of, all_sides}
 use Rattle.cad_map.specs.Views.{HasSide, IsNoSide, ComesAfter, HasFaces, HasNoFaces}
-use Rattle.cad_map.proofs.CallerLemmas.{Contains-cases, Contains-first, Contains-later, Contains-flat_map, Contains-in_part, All-at_each, find-Contains, has_side-Contains}
+use Rattle.cad_map.proofs.CallerLemmas.{find-Contains, has_side-Contains}
 use Rattle.half_table.specs.declared.half.Half.{Half}
-use Rattle.half_table.specs.Half.{twin, forward_of, backward_of, half_of}
+use Rattle.half_table.specs.Half.{twin, forward_of, backward_of}
 use Rattle.half_table.specs.Rows.{HalfRows, has, next, origin_of, face}
-use Rattle.map_parts.specs.declared.stars.Spoke.{Spoke}
 use Rattle.key_lists.specs.Held.{items_at}
-use Rattle.cad_laws.specs.Local.{IsShown, side_by}
-use Rattle.map_parts.specs.Stars.{spoke, spokes_of, spokes_at}
-use Rattle.map_parts.specs.Parts.{Parts, FitTogether, HasHalves, rows_of, map_of}
+use Rattle.cad_laws.specs.Local.{side_by}
+use Rattle.map_parts.specs.Stars.{spokes_at}
+use Rattle.map_parts.specs.Parts.{Parts, FitTogether, rows_of, map_of}
 use Rattle.map_parts.specs.Stars.{half_along}
-use Rattle.map_parts.specs.Views.{view_half, view_face, view_next, view_faces}
+use Rattle.map_parts.specs.Views.{view_half}
 use Rattle.map_parts.specs.Labels.{IsAlong}
 use Rattle.map_parts.proofs.StarHalves.{along-some, half-told}
 use Rattle.half_table.proofs.Halves.{twin-twin}

@@ -1,5 +1,5 @@
 -- Rows that went from a map, by the chain or the ring along which they led.
-use Rattle.std.proofs.Common.{◌≡◌, ℕ, ◌+◌, Bool, true, false, refl, sym, ap, subst, ◌∙◌, List, [], ◌∷◌, map, length, Option, Some, arith}
+use Rattle.std.proofs.Common.{◌≡◌, ℕ, Bool, true, false, refl, sym, ap, subst, ◌∙◌, List, [], ◌∷◌, map, length, Option, arith}
 use Rattle.std.specs.Prelude.{IsPermutation, unwrap_or}
 use Rattle.std.specs.List.{AllByRecursion, Contains}
 use Rattle.std.proofs.lemmas.List.Sorted.{IsPermutation-map}

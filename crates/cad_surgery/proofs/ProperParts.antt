@@ -1,6 +1,6 @@
 -- Parts that stand for a map with whole rings, and have no other halves, are proper for it.
-use Rattle.std.proofs.Common.{◌≡◌, ℕ, ◌+◌, ◌≤◌, ◌⊎◌, Bool, true, false, List, [], ◌∷◌, ◌++◌, map, refl, sym, ap, ◌∙◌, subst, arith, inl, inr, cond, true≢false}
-use Rattle.std.specs.Prelude.{IsPermutation, count_by, flat_map, filter}
+use Rattle.std.proofs.Common.{◌≡◌, ◌+◌, ◌≤◌, Bool, true, false, List, [], ◌∷◌, map, refl, sym, ap, ◌∙◌, subst, arith, cond}
+use Rattle.std.specs.Prelude.{IsPermutation, count_by, filter}
 use Rattle.std.specs.List.{Contains}
 use Rattle.std.proofs.lemmas.List.Sums.{sum_by-append}
 use Rattle.std.proofs.lemmas.List.Sorted.{IsPermutation-map}
@@ -9,18 +9,17 @@ use Rattle.cad_rings.specs.Cycle.{Ring, Side, is_side, sides_of}
 use Rattle.cad_rings.specs.Canonical.{least_rotation}
 use Rattle.cad_map.specs.declared.boundary.Boundary.{Boundary}
 use Rattle.cad_map.specs.Boundaries.{is_face, canonical_order, sides_in, canonical_form}
-use Rattle.cad_map.specs.Map.{Map, faces, has_face, has_string, rings_at, all_sides}
+use Rattle.cad_map.specs.Map.{faces, has_string, rings_at, all_sides}
 use Rattle.cad_map.specs.Rings.{HasWholeRings}
-use Rattle.cad_map.proofs.CallerLemmas.{Contains-cases, Contains-first, Contains-later, Contains-map, All-at_each, count-some, count-map, count-yes, count-no, count-part, IsPermutation-canonical_order, sides_in-canonical_order, is_side-refl, once-from_pairs, Contains-in_part, list_any-Contains, map-Contains, canonical_order-filter}
+use Rattle.cad_map.proofs.CallerLemmas.{Contains-first, Contains-later, All-at_each, count-some, count-map, count-yes, count-no, count-part, IsPermutation-canonical_order, sides_in-canonical_order, is_side-refl, once-from_pairs, Contains-in_part, list_any-Contains, map-Contains, canonical_order-filter}
 use Rattle.half_table.specs.declared.half.Half.{Half}
-use Rattle.half_table.specs.Cycle.{IsRun, orbit, holds}
-use Rattle.half_table.specs.Rows.{HalfRows, has, next, origin_of, face, cycle, halves, IsLinked}
-use Rattle.half_table.proofs.Closed.{cycle-closes}
+use Rattle.half_table.specs.Cycle.{holds}
+use Rattle.half_table.specs.Rows.{HalfRows, has, next, origin_of, face, cycle}
 use Rattle.half_table.proofs.Halves.{is_half-self}
 use Rattle.cad_laws.specs.Local.{IsShown, side_by}
 use Rattle.map_parts.specs.KeptRings.{kept_ring}
 use Rattle.map_parts.specs.Parts.{Parts, FitTogether, HasHalves, rows_of, map_of, in_face, kept_at, kept_halves, rings_kept}
-use Rattle.cad_surgery.specs.Proper.{IsProper, cycle_ring}
+use Rattle.cad_surgery.specs.Proper.{IsProper}
 use Rattle.map_parts.proofs.Labels.{any-there}
 use Rattle.map_parts.proofs.PartsRings.{in_table, side-there}
 use Rattle.cad_surgery.proofs.PartsFaces.{rings-face, in_kept}

@@ -1,5 +1,5 @@
 -- What the record of a merger round an island tells was so.
-use Rattle.std.proofs.Common.{◌≡◌, ◌≤◌, ℕ, ◌+◌, sym, subst, ◌∙◌, List, [], ◌∷◌, map, length, length-append, slice_get, Some, arith}
+use Rattle.std.proofs.Common.{◌≡◌, ◌≤◌, ℕ, sym, subst, ◌∙◌, List, [], ◌∷◌, map, length, length-append, slice_get, Some, arith}
 use Rattle.std.specs.List.{AllByRecursion}
 use Rattle.cad_rows.specs.declared.names.Face.{Face}
 use Rattle.cad_rows.specs.declared.rows.ParcelRow.{ParcelRow}

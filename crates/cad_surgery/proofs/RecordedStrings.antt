@@ -1,5 +1,5 @@
 -- What the record of a merger tells of the strings that went was so.
-use Rattle.std.proofs.Common.{◌≡◌, ℕ, ◌+◌, sym, ap, subst, ◌∙◌, List, map, length, slice_get, Some, arith}
+use Rattle.std.proofs.Common.{◌≡◌, ℕ, ◌+◌, sym, ap, subst, ◌∙◌, List, length, slice_get, Some, arith}
 use Rattle.std.specs.Prelude.{IsPermutation}
 use Rattle.std.specs.List.{AllByRecursion, Contains}
 use Rattle.std.proofs.lemmas.List.{length-map}
@@ -14,7 +14,7 @@ use Rattle.cad_map.specs.Merger.{is_shared}
 use Rattle.cad_map.specs.Valid.{IsValid}
 use Rattle.cad_map.proofs.CallerLemmas.{filter-Contains, map-Contains}
 use Rattle.half_table.specs.declared.half.Half.{Half}
-use Rattle.half_table.specs.Rows.{HalfRows, origin_of}
+use Rattle.half_table.specs.Rows.{HalfRows}
 use Rattle.half_paths.specs.Path.{strings_of}
 use Rattle.half_paths.specs.Loose.{numbers_of}
 use Rattle.cad_laws.specs.Counts.{shared_strings}

@@ -1,13 +1,12 @@
 -- Parts whose rows change beside halves that stay: they fit together as before, with the same rings.
-use Rattle.std.proofs.Common.{◌≡◌, ◌≢◌, ℕ, Bool, true, List, [], ◌∷◌, map, refl, sym, ap, ◌∙◌, subst}
-use Rattle.std.specs.Prelude.{IsPermutation, flat_map, IsTrue, is_some, ◌==◌}
+use Rattle.std.proofs.Common.{◌≡◌, ◌≢◌, ℕ, List, [], ◌∷◌, map, refl, sym, ap, ◌∙◌, subst}
+use Rattle.std.specs.Prelude.{IsPermutation, flat_map, ◌==◌}
 use Rattle.std.specs.List.{AllByRecursion, Contains, list_any}
 use Rattle.std.proofs.lemmas.List.Folds.{flat_map-map}
 use Rattle.cad_rows.specs.declared.names.Face.{Face}
 use Rattle.cad_rows.specs.declared.names.Face.TheVariants.{Outside, Parcel}
 use Rattle.cad_rows.specs.declared.rows.ParcelRow.{ParcelRow}
 use Rattle.cad_rows.specs.declared.rows.StringRow.{StringRow}
-use Rattle.cad_rings.specs.Cycle.{Ring}
 use Rattle.cad_map.specs.declared.boundary.Boundary.{Boundary}
 use Rattle.cad_map.specs.Boundaries.{canonical_order}
 use Rattle.cad_map.specs.Map.{Map, faces, has_face, has_string, has_parcel, rings_at}
@@ -21,7 +20,7 @@ use Rattle.map_parts.specs.KeptRings.{kept_ring}
 use Rattle.map_parts.specs.Parts.{Parts, FitTogether, HasHalves, IsOnKeptCycle, rows_of, map_of, in_face, kept_at, kept_halves}
 use Rattle.cad_surgery.specs.Proper.{IsProper, cycle_ring}
 use Rattle.cad_surgery.specs.RowEdits.{HasSameEnds, ends_of, with_rows}
-use Rattle.map_parts.specs.Stars.{spokes_of, spokes_at}
+use Rattle.map_parts.specs.Stars.{spokes_of}
 use Rattle.map_parts.specs.declared.stars.Spoke.{Spoke}
 use Rattle.map_parts.proofs.CycleRings.{map-map}
 use Rattle.map_parts.proofs.RowLists.{some-by_numbers}

@@ -16,7 +16,7 @@ use Rattle.cad_rows.specs.declared.rows.SourceRow.{SourceRow}
 use Rattle.cad_map.specs.Changes.{change_point, change_parcel, change_sources}
 use Rattle.cad_map.specs.Effects.{after}
 use Rattle.cad_map.specs.Map.{Map, point_of, parcel_of, string_of}
-use Rattle.cad_map.specs.Refusals.{first_refusal, is_there, item_named, is_attached, sources_at}
+use Rattle.cad_map.specs.Refusals.{is_there, item_named, is_attached, sources_at}
 use Rattle.cad_map.specs.Table.{row_with, without_row}
 use Rattle.cad_map.specs.Valid.{IsValid, EachPair, AreSources}
 use Rattle.cad_map.proofs.CallerLemmas.{IsAllowed, allowed, free-source, free-point, there-one, not-when, find-Contains, All-at_each}

@@ -1,6 +1,6 @@
 -- The ring that two parcels share round an island, as a path of half-edges.
 use Rattle.std.proofs.Common.{◌≡◌, ◌≢◌, ◌≤◌, ◌||◌, ℕ, Bool, true, false, true≢false, refl, sym, ap, subst, ◌∙◌, List, [], ◌∷◌, map, filter, length, None, arith}
-use Rattle.std.specs.Prelude.{not, if◌then◌else◌, IsPermutation, Option, Some, IsFalse, IsSome, IfNone}
+use Rattle.std.specs.Prelude.{not, IsPermutation, Option, Some, IsFalse, IsSome, IfNone}
 use Rattle.std.specs.List.{AllByRecursion, Contains}
 use Rattle.std.proofs.lemmas.List.{length-map}
 use Rattle.std.proofs.lemmas.List.Sorted.{Contains-permutation, IsPermutation-sym, length_permutation}

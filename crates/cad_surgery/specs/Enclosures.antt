@@ -1,5 +1,5 @@
 -- What an enclosure names and gives, and what its record tells.
-use Rattle.std.specs.Prelude.{◌+◌, List, [], ◌∷◌, ◌++◌, map}
+use Rattle.std.specs.Prelude.{List, [], ◌∷◌, ◌++◌}
 use Rattle.cad_rows.specs.declared.edits.Edit.{Edit}
 use Rattle.cad_rows.specs.declared.edits.Edit.TheVariants.{Enclose}
 use Rattle.cad_rows.specs.declared.names.Face.TheVariants.{Parcel}

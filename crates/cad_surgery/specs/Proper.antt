@@ -1,6 +1,6 @@
 -- That a table of half-edges is the doubly connected edge list of a map (M. de Berg, O. Cheong,
 -- M. van Kreveld, M. Overmars, Computational Geometry, chapter 2), with one half kept of each cycle.
-use Rattle.std.specs.Prelude.{◌≡◌, ℕ, true, List, map, count_by, IsPermutation}
+use Rattle.std.specs.Prelude.{◌≡◌, true, List, map, count_by, IsPermutation}
 use Rattle.std.specs.List.{Contains}
 use Rattle.cad_rows.specs.declared.names.Face.{Face}
 use Rattle.cad_rows.specs.declared.rows.StringRow.{StringRow}
@@ -8,7 +8,7 @@ use Rattle.cad_rings.specs.Cycle.{Ring}
 use Rattle.cad_rings.specs.Canonical.{least_rotation}
 use Rattle.cad_map.specs.Map.{Map, has_string, rings_of}
 use Rattle.half_table.specs.declared.half.Half.{Half}
-use Rattle.half_table.specs.Half.{twin, forward_of, backward_of}
+use Rattle.half_table.specs.Half.{twin}
 use Rattle.half_table.specs.Cycle.{holds}
 use Rattle.half_table.specs.Rows.{HalfRows, has, next, prev, origin_of, face, cycle}
 use Rattle.cad_laws.specs.Local.{HasEnds}

@@ -1,5 +1,5 @@
 -- Edits of rows alone, beside halves that stay.
-use Rattle.std.specs.Prelude.{◌≡◌, ℕ, Bool, true, false, List, [], map}
+use Rattle.std.specs.Prelude.{◌≡◌, ℕ, Bool, true, false, [], map}
 use Rattle.cad_rows.specs.declared.edits.Edit.{Edit}
 use Rattle.cad_rows.specs.declared.edits.Edit.TheVariants.{Split, Join, Divide, Merge, Enclose}
 use Rattle.cad_rows.specs.declared.rows.StringRow.{StringRow}

@@ -1,7 +1,7 @@
 -- What an edit takes out of the grid of a map is what only the map before it has, and what it puts
 -- in what only the map after it has.
-use Rattle.std.proofs.Common.{◌≡◌, ◌≢◌, ℕ, ℤ, ◌⊎◌, inl, inr, refl, sym, ap, subst, ◌∙◌, List, [], ◌∷◌, ◌++◌, ◌+◌, length, map, filter, not, ◌==◌, Bool, true, false, true≢false, Option, None, Some, is_some, arith}
-use Rattle.std.proofs.lemmas.Bool.{eqb-true, eq-eqb}
+use Rattle.std.proofs.Common.{◌≡◌, ◌≢◌, ℕ, ℤ, inl, inr, refl, sym, ap, subst, ◌∙◌, List, [], ◌∷◌, ◌++◌, ◌+◌, length, map, filter, not, ◌==◌, Bool, true, false, true≢false, Option, None, Some, is_some, arith}
+use Rattle.std.proofs.lemmas.Bool.{eqb-true}
 use Rattle.std.proofs.lemmas.Bool.Decides.{Decides-int_eq}
 use Rattle.std.specs.Prelude.{IsTrue, if◌then◌else◌, option_map, unwrap_or}
 use Rattle.std.specs.List.{AllByRecursion, Contains}
@@ -16,7 +16,6 @@ use Rattle.cad_rows.specs.declared.names.Name.TheVariants as name
 use Rattle.cad_rows.specs.declared.rows.ParcelRow.{ParcelRow}
 use Rattle.cad_rows.specs.declared.rows.PointRow.{PointRow}
 use Rattle.cad_rows.specs.declared.rows.StringRow.{StringRow}
-use Rattle.cad_map.specs.Boundaries.{canonical_order}
 use Rattle.cad_map.specs.Chain.{start_of, strings_along}
 use Rattle.cad_map.specs.Changes.{with_point, change_point, change_string, change_parcel, change_sources, split, join, merge, by_number, string_joining}
 use Rattle.cad_map.specs.Effects.{after}

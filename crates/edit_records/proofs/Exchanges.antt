@@ -1,6 +1,5 @@
 -- Grids of two maps, of which each has entries that the other hasn't.
 use Rattle.std.proofs.Common.{◌≡◌, ◌⊎◌, inl, inr, refl, subst, Bool, true, false, true≢false, sym, ap, ◌∙◌, List, [], ◌∷◌, arith}
-use Rattle.std.specs.Prelude.{◌↔◌}
 use Rattle.std.specs.List.{Contains}
 use Rattle.cad_map.specs.Map.{Map}
 use Rattle.cad_map.proofs.CallerLemmas.{Contains-cases, Contains-first, Contains-later}
@@ -11,7 +10,7 @@ use Rattle.cell_grid.specs.Together.{Listed, HoldsMore, HoldsLess, AreNew, AreHe
 use Rattle.cell_grid.specs.Grid.{Grid}
 use Rattle.cell_grid.proofs.CallerLemmas.{same_entry, is_itself}
 use Rattle.cad_valid.specs.Near.{HoldsMap}
-use Rattle.edit_records.specs.Gridded.{HoldsJust, IsGridOf, string_entry, point_entry}
+use Rattle.edit_records.specs.Gridded.{HoldsJust}
 use Rattle.edit_records.specs.Exchanged.{AreOnlyOf, IsExchange, HoldsBoth, IsGridOfBoth}
 use Rattle.edit_records.proofs.GridRows.{held-strings, held-points}
 

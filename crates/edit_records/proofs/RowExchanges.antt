@@ -1,11 +1,11 @@
 -- What only one of two lists of rows has, as entries, where some rows go, some come and some move.
-use Rattle.std.proofs.Common.{◌≡◌, ◌≢◌, ℕ, ◌⊎◌, inl, inr, refl, sym, ap, subst, ◌∙◌, List, [], ◌∷◌, ◌++◌, map, filter, not, Bool, true, false, true≢false, None, Some, Option, is_some, arith}
+use Rattle.std.proofs.Common.{◌≡◌, ◌≢◌, ℕ, inl, inr, refl, sym, ap, subst, ◌∙◌, List, [], ◌∷◌, ◌++◌, map, filter, not, Bool, true, false, true≢false, None, arith}
 use Rattle.std.proofs.lemmas.List.Elements.{Contains-append_left, Contains-append_right, Contains-append_cases}
 use Rattle.std.proofs.lemmas.List.{append-nil}
-use Rattle.std.specs.List.{Contains, AllByRecursion}
+use Rattle.std.specs.List.{Contains}
 use Rattle.cad_map.specs.Table.{row_with}
 use Rattle.cad_map.specs.Valid.{EachPair}
-use Rattle.cad_map.proofs.CallerLemmas.{AllPairs-from_EachPair, All-at_each, All-from_each, Contains-cases, Contains-first, Contains-later, Contains-map, map-Contains, Contains-filter, filter-Contains, others-from_none}
+use Rattle.cad_map.proofs.CallerLemmas.{AllPairs-from_EachPair, All-at_each, All-from_each, Contains-cases, Contains-map, map-Contains, Contains-filter, filter-Contains, others-from_none}
 use Rattle.cell_grid.specs.declared.entry.Entry.{Entry}
 use Rattle.cell_grid.specs.Together.{AreDistinct}
 use Rattle.cad_laws.proofs.CallerLemmas.{filter-all, filter-none}

@@ -1,13 +1,12 @@
 -- The strings that two faces share, found by the sides of one of them.
-use Rattle.std.proofs.Common.{◌≡◌, ◌≢◌, ◌≤◌, ◌+◌, ◌⊎◌, inl, inr, ℕ, refl, sym, ap, subst, ◌∙◌, List, [], ◌∷◌, ◌++◌, Bool, true, false, cond, map, filter, length, nat_eq, arith}
+use Rattle.std.proofs.Common.{◌≡◌, ◌≢◌, ◌≤◌, ◌+◌, inl, inr, ℕ, refl, sym, ap, subst, ◌∙◌, List, [], ◌∷◌, ◌++◌, Bool, true, false, cond, map, filter, length, arith}
 use Rattle.std.specs.Prelude.{◌||◌, IsPermutation}
 use Rattle.std.specs.List.{AllByRecursion, Contains}
 use Rattle.std.proofs.lemmas.List.{length-map, length-append}
-use Rattle.std.proofs.lemmas.Bool.{eqb-true, eq-eqb, and_parts, or_left, or_right}
 use Rattle.cad_rows.specs.declared.edits.Edit.TheVariants.{Merge}
 use Rattle.cad_rows.specs.declared.names.Face.{Face}
 use Rattle.cad_rows.specs.declared.rows.StringRow.{StringRow}
-use Rattle.cad_rings.specs.Cycle.{Side, has_side, opposite, sides_of}
+use Rattle.cad_rings.specs.Cycle.{Side, has_side, opposite}
 use Rattle.cad_map.specs.Crossings.{HasPlacedRows}
 use Rattle.cad_map.specs.Map.{Map, face_sides, is_end, side_of}
 use Rattle.cad_map.specs.Merger.{is_shared, shared_sides}
@@ -16,7 +15,7 @@ use Rattle.cad_map.specs.Valid.{EachPair, IsValid, MeetAtEnds}
 use Rattle.cad_map.specs.Views.{HasSide}
 use Rattle.cad_map.proofs.CallerLemmas.{All-at_each, Contains-has_side, EachPair-two, Joins, all-placed, filter-Contains, filter-append, has_side-Contains, joins-end, map-Contains}
 use Rattle.cad_map.proofs.Ends.Parallel.{not_parallel}
-use Rattle.cad_map.proofs.Ends.StringEnds.{IsString, two_ends}
+use Rattle.cad_map.proofs.Ends.StringEnds.{two_ends}
 use Rattle.cad_map.proofs.Lists.EachElement.{EachPair-filter-map}
 use Rattle.cad_map.proofs.Lists.TakenOut.{fills}
 use Rattle.cad_laws.specs.Counts.{shared_strings}

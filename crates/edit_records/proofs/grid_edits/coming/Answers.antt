@@ -1,4 +1,4 @@
-use Rattle.std.proofs.Common.{◌≡◌, ◌≤◌, inl, inr, ap, sym, refl, subst, ◌∙◌, ℕ, length, arith}
+use Rattle.std.proofs.Common.{◌≡◌, inl, inr, ap, sym, refl, subst, ◌∙◌, ℕ, arith}
 use Rattle.cad_rows.specs.declared.edits.Edit.{Edit}
 use Rattle.cad_rows.specs.declared.edits.Edit.TheVariants.{AddSource, AddPoint, DropPoint, Split, Join, Divide, Merge, Move, Attach, Detach, Rename, Enclose}
 use Rattle.cad_map.proofs.CallerLemmas.{allowed, two-joined, meet-at, can-divide, can-enclose}

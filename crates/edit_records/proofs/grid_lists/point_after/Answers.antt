@@ -1,4 +1,4 @@
-use Rattle.std.proofs.Common.{◌≡◌, ℕ, ◌+◌, ap, sym, refl, subst, ◌∙◌, ◌++◌, ◌∷◌, [], List, length, slice_get, Some, arith}
+use Rattle.std.proofs.Common.{◌+◌, ap, refl, ◌∙◌, ◌∷◌, [], Some, arith}
 use Rattle.std.proofs.lemmas.Option.{slice_get_read}
 use Rattle.cad_map.specs.Chain.{start_of}
 use Rattle.edit_records.proofs.GridLists.{closed-at, closed-last, starts-at}

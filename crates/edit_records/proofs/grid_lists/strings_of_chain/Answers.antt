@@ -1,4 +1,4 @@
-use Rattle.std.proofs.Common.{◌≡◌, ◌≤◌, ◌<◌, ℕ, suc, ◌+◌, add-one, ap, sym, refl, subst, ◌∙◌, ◌++◌, ◌∷◌, [], List, map, take, length, slice_get, Some, arith}
+use Rattle.std.proofs.Common.{◌≡◌, ◌<◌, ℕ, suc, ◌+◌, add-one, ap, sym, refl, subst, ◌∙◌, ◌++◌, ◌∷◌, [], List, map, take, length, slice_get, Some, arith}
 use Rattle.std.proofs.lemmas.List.{take_all}
 use Rattle.std.proofs.lemmas.Option.{slice_get_read}
 use Rattle.cad_rows.specs.declared.rows.StringRow.{StringRow}

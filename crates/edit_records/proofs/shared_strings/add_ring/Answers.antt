@@ -1,8 +1,7 @@
-use Rattle.std.proofs.Common.{◌≡◌, ◌≤◌, ◌+◌, ◌∷◌, [], List, ap, sym, subst, inl, inr, filter, length, arith}
+use Rattle.std.proofs.Common.{◌≡◌, ◌∷◌, [], List, ap, sym, subst, inl, inr, filter, length, arith}
 use Rattle.std.specs.List.{Contains}
 use Rattle.std.proofs.lemmas.List.Elements.{Contains-append_cases}
 use Rattle.cad_rings.specs.Cycle.{Side, opposite, sides_of}
-use Rattle.cad_rows.specs.declared.rows.StringRow.{StringRow}
 use Rattle.cad_map.specs.Steps.{has_twin_in}
 use Rattle.cad_map.specs.Views.{HasSide}
 use Rattle.cad_map.specs.Rings.{ring_at}

@@ -1,8 +1,7 @@
-use Rattle.std.proofs.Common.{◌≡◌, ◌≤◌, ◌≢◌, ℕ, inl, inr, refl, sym, ap, subst, ◌∙◌, arith, List, [], ◌∷◌, take, length, slice_get, Some, true≢false}
-use Rattle.std.specs.List.{AllByRecursion, Contains}
+use Rattle.std.proofs.Common.{◌≡◌, ◌≤◌, ◌≢◌, ℕ, sym, ap, subst, ◌∙◌, arith, take, length, Some, true≢false}
+use Rattle.std.specs.List.{AllByRecursion}
 use Rattle.std.proofs.lemmas.List.Sorted.{length_permutation, Contains-permutation, IsPermutation-sym}
 use Rattle.std.proofs.lemmas.Bool.{eqb-true, eq-eqb}
-use Rattle.cad_rows.specs.declared.rows.StringRow.{StringRow}
 use Rattle.cad_map.specs.Map.{far_end, is_end, strings_at}
 use Rattle.cad_map.proofs.CallerLemmas.{All-at_each, All-push, Contains-at, Contains-filter, Joins, filter-Contains, joins-end, joins-far, joins-far_end, take-more, lent-some, lent-is, all-told}
 use Rattle.edit_records.specs.GridLists.{span_of}

@@ -1,5 +1,4 @@
-use Rattle.std.proofs.Common.{◌≡◌, ◌≤◌, ℕ, sym, ap, subst, ◌∙◌, arith, inl, inr, Some, List, [], ◌∷◌, ◌++◌, take, length}
-use Rattle.std.specs.Prelude.{IsPermutation, is_some}
+use Rattle.std.proofs.Common.{◌≤◌, ℕ, sym, subst, arith, inl, inr, List, [], ◌∷◌, ◌++◌, take, length}
 use Rattle.std.specs.List.{Contains}
 use Rattle.std.proofs.lemmas.List.Elements.{Contains-append_cases, Contains-append_left, Contains-append_right}
 use Rattle.std.proofs.lemmas.List.Sorted.{length_permutation, IsPermutation-sym, Contains-permutation}

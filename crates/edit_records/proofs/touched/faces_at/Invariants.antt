@@ -1,4 +1,4 @@
-use Rattle.std.proofs.Common.{◌≡◌, ◌<◌, take}
+use Rattle.std.proofs.Common.{◌<◌, take}
 use Rattle.std.specs.Prelude.{IsPermutation}
 use Rattle.std.specs.List.{Contains}
 use Rattle.cad_rows.specs.declared.rows.StringRow.{StringRow}

@@ -1,5 +1,3 @@
-use Rattle.std.proofs.Common.{◌≡◌, ◌∙◌, []}
-use Rattle.cad_map.specs.Map.{Map}
 use Rattle.cad_map.proofs.CallerLemmas.{whole_valid}
 use Rattle.cad_surgery.proofs.Built.{built-fit, built-map}
 use Rattle.cad_surgery.proofs.draft.Draft.of.Goals as goal

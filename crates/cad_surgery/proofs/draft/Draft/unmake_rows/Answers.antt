@@ -1,9 +1,8 @@
-use Rattle.std.proofs.Common.{◌≡◌, ◌∙◌, ap, subst, sym}
+use Rattle.std.proofs.Common.{◌∙◌, ap, subst}
 use Rattle.std.proofs.lemmas.Result.{on_ok_weaker}
-use Rattle.cad_map.specs.Effects.{after}
 use Rattle.map_parts.specs.Building.{parts_of}
 use Rattle.map_parts.specs.Parts.{map_of}
-use Rattle.edit_records.specs.Record.{edit_of, IsMadeOf}
+use Rattle.edit_records.specs.Record.{edit_of}
 use Rattle.cad_surgery.specs.RowEdits.{KeepsBeside, with_rows}
 use Rattle.map_parts.specs.Rows.{map_in}
 use Rattle.cad_surgery.proofs.RowsKept.{rows-fit}

@@ -1,4 +1,4 @@
-use Rattle.std.proofs.Common.{◌≡◌, subst, sym}
+use Rattle.std.proofs.Common.{subst, sym}
 use Rattle.edit_records.specs.Exchanged.{IsGridOfBoth}
 use Rattle.map_parts.specs.Building.{parts_of}
 use Rattle.map_parts.specs.Rows.{map_in}

@@ -1,5 +1,4 @@
 use Rattle.std.proofs.Common.{sym, subst}
-use Rattle.cad_rows.specs.declared.names.Face.{Face}
 use Rattle.cad_map.specs.Views.{HasSide}
 use Rattle.map_parts.specs.Parts.{Parts, rows_of, map_of}
 use Rattle.map_parts.specs.Labels.{IsAlong}

@@ -4,7 +4,7 @@ use Rattle.std.specs.List.{AllByRecursion}
 use Rattle.cad_map.specs.Map.{rings_at}
 use Rattle.cad_map.specs.Walk.{first_side}
 use Rattle.cad_laws.specs.Local.{side_by}
-use Rattle.map_parts.specs.Parts.{Parts, rings_kept, kept_at}
+use Rattle.map_parts.specs.Parts.{Parts, rings_kept}
 use Rattle.map_parts.proofs.PartsRings.{rings-two}
 use Rattle.cad_surgery.proofs.PartsFaces.{ring-told, kept-there}
 use Rattle.cad_surgery.proofs.draft.DraftMapView.ring_side.Goals as goal

@@ -1,4 +1,4 @@
-use Rattle.std.proofs.Common.{◌≡◌, ◌∙◌, sym, ap, subst, slice_get, Some, None}
+use Rattle.std.proofs.Common.{◌≡◌, ◌∙◌, sym, ap, subst, slice_get, None}
 use Rattle.std.specs.Prelude.{IsPermutation}
 use Rattle.std.specs.Option.{option_copied}
 use Rattle.cad_rows.specs.declared.rows.StringRow.{StringRow}

@@ -1,4 +1,4 @@
-use Rattle.std.proofs.Common.{◌≡◌, ◌∙◌, ap, sym, subst}
+use Rattle.std.proofs.Common.{◌∙◌, ap, sym, subst}
 use Rattle.cad_map.specs.Rings.{HasWholeRings}
 use Rattle.map_parts.specs.Building.{parts_of}
 use Rattle.map_parts.specs.Parts.{Parts, map_of}

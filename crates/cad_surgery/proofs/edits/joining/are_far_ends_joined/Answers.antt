@@ -1,4 +1,4 @@
-use Rattle.std.proofs.Common.{◌≡◌, ◌∙◌, sym, subst, true, false}
+use Rattle.std.proofs.Common.{◌∙◌, sym, subst}
 use Rattle.std.specs.Prelude.{IfSome, IfNone}
 use Rattle.cad_rings.specs.Cycle.{Side}
 use Rattle.cad_map.specs.Views.{HasSide, IsNoSide}

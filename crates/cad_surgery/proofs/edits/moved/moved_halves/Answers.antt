@@ -1,4 +1,4 @@
-use Rattle.std.proofs.Common.{◌≡◌, ◌∙◌, ap, sym, refl, subst, ◌++◌, ◌∷◌, [], length, List, filter, take, slice_get, arith}
+use Rattle.std.proofs.Common.{◌∙◌, ap, sym, refl, subst, ◌++◌, ◌∷◌, [], length, List, filter, take, slice_get, arith}
 use Rattle.std.proofs.lemmas.List.{take_all}
 use Rattle.std.proofs.lemmas.Option.{slice_get_read}
 use Rattle.half_table.specs.declared.half.Half.{Half}

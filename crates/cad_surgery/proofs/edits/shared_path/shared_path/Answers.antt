@@ -1,4 +1,4 @@
-use Rattle.std.proofs.Common.{◌≡◌, ◌∙◌, ◌+◌, ◌<◌, ℕ, sym, ap, subst, not, filter, map, take, length, arith}
+use Rattle.std.proofs.Common.{◌∙◌, ◌+◌, sym, ap, subst, not, filter, map, take, length, arith}
 use Rattle.std.proofs.lemmas.List.{length-take-le}
 use Rattle.half_table.specs.Cycle.{holds}
 use Rattle.half_table.specs.Half.{twin}
@@ -6,7 +6,7 @@ use Rattle.half_table.specs.Rows.{next, origin_of, cycle}
 use Rattle.half_paths.specs.Path.{AreIn}
 use Rattle.cad_rows.specs.declared.names.Face.TheVariants.{Parcel}
 use Rattle.key_lists.specs.Held.{items_at}
-use Rattle.map_parts.specs.Parts.{Parts, FitTogether, map_of, kept_at}
+use Rattle.map_parts.specs.Parts.{Parts, FitTogether, kept_at}
 use Rattle.cad_surgery.proofs.FoundPaths.{begin-there, finish-there, fewer, found-path, round-in}
 use Rattle.cad_surgery.proofs.edits.shared_path.shared_path.Goals as goal
 

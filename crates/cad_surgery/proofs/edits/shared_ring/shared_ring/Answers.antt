@@ -1,4 +1,4 @@
-use Rattle.std.proofs.Common.{◌≡◌, ◌∙◌, sym, ap, subst, not, filter, Option, Some}
+use Rattle.std.proofs.Common.{◌∙◌, sym, ap, subst, not, filter, Option}
 use Rattle.half_table.specs.Cycle.{holds}
 use Rattle.std.specs.Prelude.{IfSome}
 use Rattle.cad_rows.specs.declared.names.Face.TheVariants.{Parcel}

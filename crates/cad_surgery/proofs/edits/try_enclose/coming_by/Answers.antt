@@ -1,4 +1,4 @@
-use Rattle.std.proofs.Common.{◌≡◌, ◌≤◌, subst, arith}
+use Rattle.std.proofs.Common.{subst, arith}
 use Rattle.cad_rings.specs.Cycle.{Ring}
 use Rattle.cad_map.proofs.CallerLemmas.{whole_valid}
 use Rattle.map_parts.specs.Parts.{map_of}

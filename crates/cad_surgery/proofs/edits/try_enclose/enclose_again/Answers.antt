@@ -1,4 +1,4 @@
-use Rattle.std.proofs.Common.{◌≡◌, ◌∙◌, sym}
+use Rattle.std.proofs.Common.{◌∙◌, sym}
 use Rattle.map_parts.specs.Parts.{map_of}
 use Rattle.cad_surgery.proofs.EnclosedDraft as draft
 use Rattle.cad_surgery.proofs.edits.try_enclose.enclose_again.Goals as goal

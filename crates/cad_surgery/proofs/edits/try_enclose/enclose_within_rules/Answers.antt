@@ -1,4 +1,4 @@
-use Rattle.std.proofs.Common.{◌≡◌, ◌∙◌, sym}
+use Rattle.std.proofs.Common.{◌∙◌, sym}
 use Rattle.cad_map.specs.Outcome.{out_of_memory}
 use Rattle.cad_valid.specs.Near.{touched_of}
 use Rattle.map_parts.specs.Parts.{map_of}

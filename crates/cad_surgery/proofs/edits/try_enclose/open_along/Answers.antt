@@ -1,4 +1,4 @@
-use Rattle.std.proofs.Common.{◌≡◌, ◌∙◌, sym}
+use Rattle.std.proofs.Common.{◌∙◌, sym}
 use Rattle.map_parts.specs.Parts.{map_of}
 use Rattle.cad_surgery.proofs.DraftFits.{in-err}
 use Rattle.cad_surgery.proofs.OpenedDraft as opened

@@ -1,4 +1,4 @@
-use Rattle.std.proofs.Common.{◌≡◌, ◌∙◌}
+use Rattle.std.proofs.Common.{◌∙◌}
 use Rattle.cad_surgery.proofs.DraftFits.{in-err}
 use Rattle.cad_surgery.proofs.JoinTried as join
 use Rattle.cad_surgery.proofs.edits.try_join.join_again.Goals as goal

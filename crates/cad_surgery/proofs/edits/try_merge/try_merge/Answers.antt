@@ -1,4 +1,4 @@
-use Rattle.std.proofs.Common.{◌≡◌, ◌∙◌, sym, ap, subst, Bool, true, false, true≢false, refl, List, [], length, Option, Some, None}
+use Rattle.std.proofs.Common.{◌≡◌, ◌∙◌, sym, ap, subst, false, true≢false, refl, List, [], length, Option, Some, None}
 use Rattle.std.specs.Prelude.{◌==◌, IsSome, IfNone}
 use Rattle.cad_rows.specs.declared.edits.Edit.TheVariants.{Merge}
 use Rattle.cad_rows.specs.declared.names.Face.{Face}

@@ -1,7 +1,6 @@
-use Rattle.std.proofs.Common.{◌≡◌, ◌<◌, ◌+◌, ℕ, suc, add-one, ap, sym, refl, subst, ◌∙◌, ◌++◌, ◌∷◌, [], List, map, take, length, slice_get, Some, arith}
+use Rattle.std.proofs.Common.{◌≡◌, ◌<◌, ◌+◌, ℕ, suc, add-one, ap, sym, refl, subst, ◌∙◌, ◌++◌, ◌∷◌, [], map, take, length, slice_get, Some, arith}
 use Rattle.std.proofs.lemmas.List.{take_more}
 use Rattle.std.proofs.lemmas.Option.{get_or_from_slice_get, slice_get_read}
-use Rattle.cad_rows.specs.declared.rows.StringRow.{StringRow}
 use Rattle.edit_records.specs.declared.record.ChainString.{ChainString}
 use Rattle.edit_records.specs.HeldChains.{row_between, rows_along}
 use Rattle.edit_records.proofs.ChainSpans.{rows-push}

@@ -1,4 +1,4 @@
-use Rattle.std.proofs.Common.{◌≡◌, sym, subst}
+use Rattle.std.proofs.Common.{sym, subst}
 use Rattle.half_paths.specs.Path.{AreIn}
 use Rattle.map_parts.specs.Parts.{Parts, FitTogether, map_of}
 use Rattle.map_parts.proofs.MergedRows.{within}

@@ -1,4 +1,4 @@
-use Rattle.std.proofs.Common.{◌≡◌, ◌∙◌, sym, ap, subst, ℕ, List}
+use Rattle.std.proofs.Common.{◌∙◌, sym, ap, subst, ℕ, List}
 use Rattle.cad_map.specs.Outcome.{out_of_memory}
 use Rattle.half_paths.specs.Path.{strings_of}
 use Rattle.edit_records.specs.declared.record.ChainString.{ChainString}

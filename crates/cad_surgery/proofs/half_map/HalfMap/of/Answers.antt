@@ -1,10 +1,8 @@
-use Rattle.std.proofs.Common.{◌≡◌, ◌∙◌, subst, sym, ap}
+use Rattle.std.proofs.Common.{◌∙◌, subst, sym, ap}
 use Rattle.cad_map.specs.Map.{Map, has_string}
 use Rattle.cad_map.specs.Rings.{HasWholeRings}
 use Rattle.cad_map.proofs.CallerLemmas.{whole_valid}
-use Rattle.half_table.specs.declared.half.Half.{Half}
-use Rattle.half_table.specs.Rows.{has}
-use Rattle.map_parts.specs.Parts.{rows_of, map_of, kept_at}
+use Rattle.map_parts.specs.Parts.{kept_at}
 use Rattle.cad_surgery.specs.Proper.{IsProper}
 use Rattle.edit_records.specs.Gridded.{IsGridOf}
 use Rattle.cad_surgery.proofs.ProperParts.{proper}
