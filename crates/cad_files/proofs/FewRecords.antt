@@ -1,12 +1,12 @@
 -- A plan has at most 600,002 records: the first one, one for each row, and `open`.
-use Rattle.std.proofs.Common.{◌≡◌, ◌≤◌, ◌∙◌, sym, ap, refl, subst, ℕ, ◌+◌, ◌<◌, List, [], ◌∷◌, ◌++◌, length, length-append, Option, Some, None, Bool, true, false, arith, nat_lt, nat_le}
+use Rattle.std.proofs.Common.{◌≡◌, ◌≤◌, sym, refl, subst, ℕ, ◌+◌, ◌<◌, List, [], ◌∷◌, ◌++◌, length, length-append, Option, Some, None, Bool, true, false, arith, nat_lt, nat_le}
 use Rattle.std.specs.Prelude.{fold, option_and_then, option_map, ◌&&◌, if◌then◌else◌}
 use Rattle.std.proofs.lemmas.Bool.Decides.{nat_tests}
 use Rattle.cad_rows.specs.Limits.{row_limit, string_limit, source_limit}
 use Rattle.cad_files.specs.Record.{seven_of}
 use Rattle.cad_files.specs.PlanRecords.{plan_of_fields, version_of}
 use Rattle.cad_files.specs.Rows.{Rows, row_count, plan_limit}
-use Rattle.cad_files.specs.Plan.{Plan, beginning, reading, opened, passed, faulty, plan_of, plan_step, first_step, record_step, point_step, goes_on, is_within, with_source, with_point_record, with_parcel_record, with_string_record, with_retired}
+use Rattle.cad_files.specs.Plan.{Plan, beginning, reading, opened, passed, faulty, plan_of, plan_step, first_step, record_step, point_step, goes_on, is_within, with_source, with_parcel_record, with_string_record, with_retired}
 use Rattle.cad_files.specs.declared.faults.PlanFault.TheVariants as faults
 use Rattle.cad_files.specs.declared.plan_records.Version.{Version}
 use Rattle.cad_files.specs.declared.plan_records.PointRecord.{PointRecord}

@@ -1,5 +1,5 @@
 -- The map of a plan's rows is one, and so is what a plan comes to.
-use Rattle.std.proofs.Common.{◌≡◌, ◌≢◌, ℕ, zero, suc, ◌+◌, ◌≤◌, ◌⊎◌, inl, inr, refl, sym, ap, subst, ◌∙◌, List, [], ◌∷◌, ◌++◌, length, map, Some, None, Bool, true, cond, true≢false, arith}
+use Rattle.std.proofs.Common.{◌≡◌, ◌≢◌, ℕ, zero, suc, ◌+◌, ◌≤◌, inl, inr, refl, sym, ap, subst, ◌∙◌, List, [], ◌∷◌, ◌++◌, length, map, Some, None, true, cond, true≢false, arith}
 use Rattle.std.proofs.lemmas.Bool.{eqb-true}
 use Rattle.std.proofs.lemmas.List.{take_all}
 use Rattle.std.proofs.lemmas.Option.{same_Some}
@@ -7,10 +7,9 @@ use Rattle.std.proofs.lemmas.List.Sums.{sum_by-append}
 use Rattle.std.proofs.lemmas.List.Sorted.{IsPermutation-refl, IsPermutation-cons, IsPermutation-sym, IsPermutation-trans, IsPermutation-middle, Contains-permutation, sum_by-IsPermutation}
 use Rattle.std.specs.Prelude.{IsPermutation, count_by, ◌==◌, get_or}
 use Rattle.std.specs.List.{AllByRecursion, Contains}
-use Rattle.cad_rows.specs.declared.refusals.Rule.{Rule}
 use Rattle.cad_rows.specs.declared.rows.StringRow.{StringRow}
 use Rattle.cad_rings.specs.Canonical.{least_rotation}
-use Rattle.cad_rings.specs.Cycle.{Ring, Side, is_side, sides_of, Corner, corners_of, opposite, turned}
+use Rattle.cad_rings.specs.Cycle.{Ring, Side, is_side, sides_of, corners_of, opposite, turned}
 use Rattle.cad_rings.proofs.CallerLemmas.{IsSameRing-turned, least_rotation-same}
 use Rattle.cad_map.specs.declared.boundary.Boundary.{Boundary}
 use Rattle.cad_map.specs.Boundaries.{bounding, canonical_form, canonical_order, sides_in}
@@ -18,8 +17,8 @@ use Rattle.cad_map.specs.Map.{Map, all_sides, all_corners, face_at, side_of, str
 use Rattle.cad_map.specs.Steps.{steps}
 use Rattle.cad_map.specs.Valid.{IsValid, FirstBroken}
 use Rattle.cad_map.specs.Walk.{first_side}
-use Rattle.cad_map.proofs.CallerLemmas.{All-at_each, All-permuted, Contains-cases, Contains-first, Contains-later, Contains-flat_map, Contains-in_part, Contains-map, HaveDistinctSides, IsWalked, broken-one, canonical_order-permuted, count-some, each_canonical, has_first, is_side-refl, map-canonical_form, none_broken, once-from_pairs, once-in_ring, one_face, parted-at, points_along-ring, round-least, side-place, side_before, side_behind, sides-before, steps-round, times-flat_map, times-permuted, walked-same}
-use Rattle.cad_files.specs.Follower.{followers, labelled_sides, HasRingsOf}
+use Rattle.cad_map.proofs.CallerLemmas.{All-at_each, All-permuted, Contains-cases, Contains-first, Contains-later, Contains-flat_map, Contains-in_part, Contains-map, HaveDistinctSides, IsWalked, broken-one, canonical_order-permuted, count-some, each_canonical, has_first, is_side-refl, map-canonical_form, none_broken, once-from_pairs, once-in_ring, one_face, parted-at, points_along-ring, round-least, side-place, side_before, sides-before, steps-round, times-flat_map, times-permuted, walked-same}
+use Rattle.cad_files.specs.Follower.{followers, labelled_sides}
 use Rattle.cad_files.specs.Rows.{Rows}
 use Rattle.cad_files.specs.Building.{map_of, first_fault, IsMapOf, IsBuilt, IsBuildFault}
 use Rattle.cad_files.specs.Building.IsBuildFault.{at_once, breaking}

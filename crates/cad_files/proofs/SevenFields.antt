@@ -4,10 +4,9 @@ use Rattle.std.proofs.lemmas.Bool.{cases_Bool, eqb-false, eqb-true}
 use Rattle.std.proofs.lemmas.List.Folds.{fold_stays}
 use Rattle.csv.specs.Reading.{expected_len}
 use Rattle.csv.specs.declared.reader.Reader.{Reader}
-use Rattle.cad_files.specs.Input.{HasRead, BeginsWith, AreTaken}
+use Rattle.cad_files.specs.Input.{HasRead, AreTaken}
 use Rattle.cad_files.specs.Record.{seven_of}
 use Rattle.cad_files.specs.Plan.{Plan, plan_of, plan_step, beginning, faulty}
-use Rattle.cad_files.specs.declared.faults.PlanFault.{PlanFault}
 use Rattle.cad_files.specs.declared.faults.PlanFault.TheVariants as faults
 use Rattle.cad_files.proofs.InputFacts.{begins}
 

@@ -1,7 +1,7 @@
-use Rattle.std.proofs.Common.{◌≡◌, ◌≢◌, ◌++◌, ◌∷◌, [], ℕ, List, length, refl, ap, sym, ◌∙◌, inl, inr, arith, true}
+use Rattle.std.proofs.Common.{◌≡◌, ◌++◌, ◌∷◌, [], ℕ, List, length, refl, ap, sym, ◌∙◌, inl, inr, arith}
 use Rattle.std.proofs.lemmas.List.Elements.{All-nil}
 use Rattle.csv.specs.Records.{fields_of}
-use Rattle.cad_files.specs.Plan.{Plan, beginning, reading, opened, faulty, plan_of, is_unfinished}
+use Rattle.cad_files.specs.Plan.{beginning, faulty, is_unfinished}
 use Rattle.cad_files.specs.Plan.HasPlanFault.{of_record, of_first, of_end}
 use Rattle.cad_files.specs.declared.faults.PlanFault.TheVariants as faults
 use Rattle.cad_files.proofs.InputFacts.{begins}

@@ -1,6 +1,5 @@
 use Rattle.std.proofs.Common.{ap, refl, sym, codes, true, map, Option, Some, None, ◌≡◌, ◌∙◌, arith}
 use Rattle.clap.specs.Words.{App, Text, app_of, first_of, one_of, found_of, is_simple, matches_of, one_text, rows_of}
-use Rattle.clap.specs.declared.builder.value_parser.ValueParser.TheVariants as parsers
 use Rattle.clap.proofs.WalkLemmas.{first_value-rows, one_text-rows}
 use Rattle.clap.proofs.OnLiterals.{clap_on_literals}
 use Rattle.cad_job.specs.Arguments.{cadedit}
