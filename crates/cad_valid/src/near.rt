@@ -7,7 +7,8 @@ ghost use Rattle.cad_map.specs.Crossings.{HasPlacedRows};
 ghost use Rattle.cad_map.specs.Rings.{HasWholeRings};
 ghost use Rattle.std.specs.List.{AllByRecursion};
 ghost use Rattle.cad_map.specs.Touched.{Touched as TouchedOf};
-ghost use Rattle.cad_valid.specs.Near.{HoldsMap, ComesFromValid, touched_of, OfPoint, IsAlone, AreUncrossed};
+ghost use Rattle.cad_valid.specs.Near.{HoldsMap, ComesFromValid, touched_of};
+ghost use Rattle.cad_valid.specs.Near.{OfPoint, IsAlone, AreUncrossed};
 ghost use Rattle.cad_valid.specs.Seen.{IsSeen};
 
 mod corners;
@@ -55,10 +56,10 @@ pub fn first_broken_near<M: MapView>(map: &M, grid: &CellGrid, touched: &Touched
     ensures kept { IfNone result (KeepsAll (M.map map.now)) }
 {
     let seen = seen_of(map, touched);
-    if !has_distinct_positions(map, grid, touched, &seen) {
+    if !has_distinct_positions(map, grid, touched, seen.as_ref()) {
         return Some(Rule::V3);
     }
-    if !has_no_crossing(map, grid, touched, &seen) {
+    if !has_no_crossing(map, grid, touched, seen.as_ref()) {
         return Some(Rule::V4);
     }
     if !has_empty_corners(map, touched) {
@@ -73,29 +74,30 @@ pub fn first_broken_near<M: MapView>(map: &M, grid: &CellGrid, touched: &Touched
     None
 }
 
-/// Whether no two points have the same position. Two that weren't touched had others before. `seen`:
-/// what was touched, where that is little.
+/// Whether no two points have the same position. Two that weren't touched had others before.
+/// `seen`: what was touched, where that is little.
 fn has_distinct_positions<M: MapView>(
     map: &M,
     grid: &CellGrid,
     touched: &Touched,
-    seen: &Option<Seen>,
+    seen: Option<&Seen>,
 ) -> bool
     requires sound { HasSoundRows (M.map map.now) }
     requires two { HasTwoEnds (M.map map.now) }
     requires held { HoldsMap grid.now (M.map map.now) }
     requires touched { ComesFromValid (touched_of touched.now) (M.map map.now) }
-    requires seen { IfSome seen.now (IsSeen (M.map map.now) (touched_of touched.now)) }
+    requires seen { IfSome seen (λ v. IsSeen (M.map map.now) (touched_of touched.now) v.now) }
     ensures { IsTrue result ↔ Keeps (M.map map.now) V3 }
 {
     are_seen_apart(map, grid, seen) || are_alone(map, grid, touched.points.as_slice())
 }
 
 /// Whether points that were gathered are seen to lie apart from all others.
-fn are_seen_apart<M: MapView>(map: &M, grid: &CellGrid, seen: &Option<Seen>) -> bool
+fn are_seen_apart<M: MapView>(map: &M, grid: &CellGrid, seen: Option<&Seen>) -> bool
     requires sound { HasSoundRows (M.map map.now) }
     requires held { HoldsMap grid.now (M.map map.now) }
-    ensures { (t : TouchedOf) → IfSome seen.now (IsSeen (M.map map.now) t) → IsTrue result
+    ensures { (t : TouchedOf) → IfSome seen.entry (λ v. IsSeen (M.map map.now) t v.now)
+        → IsTrue result
         → AllByRecursion (OfPoint (M.map map.now) (IsAlone (M.map map.now))) t.points }
 {
     match seen {
@@ -104,18 +106,18 @@ fn are_seen_apart<M: MapView>(map: &M, grid: &CellGrid, seen: &Option<Seen>) -> 
     }
 }
 
-/// Whether strings and points meet only at ends. Those that weren't touched did before. `seen`: what
-/// was touched, where that is little.
+/// Whether strings and points meet only at ends. Those that weren't touched did before. `seen`:
+/// what was touched, where that is little.
 fn has_no_crossing<M: MapView>(
     map: &M,
     grid: &CellGrid,
     touched: &Touched,
-    seen: &Option<Seen>,
+    seen: Option<&Seen>,
 ) -> bool
     requires rows { HasPlacedRows (M.map map.now) }
     requires held { HoldsMap grid.now (M.map map.now) }
     requires touched { ComesFromValid (touched_of touched.now) (M.map map.now) }
-    requires seen { IfSome seen.now (IsSeen (M.map map.now) (touched_of touched.now)) }
+    requires seen { IfSome seen (λ v. IsSeen (M.map map.now) (touched_of touched.now) v.now) }
     ensures { IsTrue result ↔ Keeps (M.map map.now) V4 }
 {
     are_seen_uncrossed(map, grid, seen)
@@ -124,11 +126,11 @@ fn has_no_crossing<M: MapView>(
 }
 
 /// Whether strings and points that were gathered are seen to meet others only at ends.
-fn are_seen_uncrossed<M: MapView>(map: &M, grid: &CellGrid, seen: &Option<Seen>) -> bool
+fn are_seen_uncrossed<M: MapView>(map: &M, grid: &CellGrid, seen: Option<&Seen>) -> bool
     requires rows { HasPlacedRows (M.map map.now) }
     requires held { HoldsMap grid.now (M.map map.now) }
-    ensures { (t : TouchedOf) → IfSome seen.now (IsSeen (M.map map.now) t) → IsTrue result
-        → AreUncrossed (M.map map.now) t }
+    ensures { (t : TouchedOf) → IfSome seen.entry (λ v. IsSeen (M.map map.now) t v.now)
+        → IsTrue result → AreUncrossed (M.map map.now) t }
 {
     match seen {
         Some(seen) => sees_strings_clear(map, grid, seen) && sees_points_clear(map, grid, seen),

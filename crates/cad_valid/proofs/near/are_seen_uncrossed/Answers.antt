@@ -7,5 +7,5 @@ use Rattle.cad_valid.proofs.near.are_seen_uncrossed.Goals as goal
 pub returns-then-sees_strings_clear : goal.returns-then-sees_strings_clear
 returns-then-sees_strings_clear g c t seen sees =
     let m = g.M.MapView.map c.args.map.now in
-    uncrossed-by_sight m c.requires.rows t c.in-Some.seen (subst (λ o. IfSome o (IsSeen m t)) c.in-Some.is seen)
+    uncrossed-by_sight m c.requires.rows t c.in-Some.seen.now (subst (λ o. IfSome o (λ v. IsSeen m t v.now)) c.in-Some.is seen)
     (c.sees_strings_clear.ensures.0 c.if-sees_strings_clear.true) (c.sees_points_clear.ensures.0 sees)
