@@ -3,7 +3,7 @@ ghost use Rattle.std.specs.Prelude.{◌≡◌, true};
 ghost use Rattle.cad_map.specs.Valid.{IsValid};
 ghost use Rattle.half_table.specs.Rows.{has};
 
-use crate::plans::{ISLAND, PINCH, SQUARE, map_of};
+use crate::plans::{ISLAND, PINCH, Plan, SQUARE, map_of, text_of};
 use cad_files::{area_text, outline_text, plan_text};
 use cad_map::{MapView, PlainMap};
 use cad_rows::{Face, Memory, ParcelNo, StringNo};
@@ -47,8 +47,9 @@ fn shown_on_halves(alloc: Global, map: &PlainMap) -> Result<Vec<u8>, Memory>
 }
 
 /// Fails where the map on half-edges of a plan shows another thing than the plain map.
-fn compare<R: Abort + AllocGlobal>(rt: &R, plan: &str) -> Result<(), Fail> {
-    let map = map_of(rt.alloc(), plan)?;
+fn compare<R: Abort + AllocGlobal>(rt: &R, plan: Plan) -> Result<(), Fail> {
+    let text = text_of(rt.alloc(), plan)?;
+    let map = map_of(rt.alloc(), text.as_str())?;
     let plain = shown_by(rt.alloc(), &map)?;
     let halves = shown_on_halves(rt.alloc(), &map)?;
     assert!(rt; plain.as_slice() == halves.as_slice());
@@ -65,9 +66,10 @@ fn maps_of_worked_plans(rt: HostRuntime) -> Result<(), Fail> {
 
 #[test]
 fn what_the_island_shows(rt: HostRuntime) -> Result<(), Fail> {
-    let map = map_of(rt.alloc(), ISLAND)?;
+    let text = text_of(rt.alloc(), ISLAND)?;
+    let map = map_of(rt.alloc(), text.as_str())?;
     let shown = shown_on_halves(rt.alloc(), &map)?;
-    let rest = shown.as_slice().strip_prefix(ISLAND.as_bytes());
+    let rest = shown.as_slice().strip_prefix(text.as_bytes());
     let wanted = "area,1,A,1980000,0.99,,\narea,2,B,20000,0.01,,\nend,,,,,,\n\
         ring,0,hole,1 4 3 2,,,\nend,,,,,,\n\
         ring,1,outer,1 2 3 4,,,\nring,1,hole,6 8 7,,,\nend,,,,,,\n\
@@ -109,7 +111,8 @@ fn check_links(rt: &impl Abort, table: &HalfTable<Ticks>) {
 
 #[test]
 fn halves_of_the_island(rt: HostRuntime) -> Result<(), Fail> {
-    let map = map_of(rt.alloc(), ISLAND)?;
+    let text = text_of(rt.alloc(), ISLAND)?;
+    let map = map_of(rt.alloc(), text.as_str())?;
     let halves = HalfMap::of(rt.alloc(), &map, Ticks::new())?;
     check_links(&rt, halves.table());
     Ok(())

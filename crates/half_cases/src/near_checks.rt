@@ -8,7 +8,7 @@ ghost use Rattle.cad_valid.specs.Near.{HoldsMap, ComesFromValid, touched_of};
 
 use crate::counted::Counted;
 use crate::far::{far_plan, with_records};
-use crate::plans::{ISLAND, SQUARE, edit_of, map_of};
+use crate::plans::{ISLAND, Plan, SQUARE, SQUARE_RECORDS, edit_of, map_of, text_of};
 use crate::plans_after::{DIVIDED, DIVIDED_ISLAND, JOINED};
 use crate::plans_enclosed::{FREE_CORNERS, WITH_FRAME};
 use cad_edit::try_edit;
@@ -23,28 +23,23 @@ use std::process::Abort;
 use std::test::Fail;
 
 /// The square in three parcels: one on each side of its diagonal, and one in its corner at point 2.
-const WITH_CORNER: &str = "\
-plan,2,,,,,
-source,1,Plan 7,,,,
-point,1,0,0,1,,
+const WITH_CORNER: Plan = &[
+    SQUARE_RECORDS,
+    "\
 point,5,600,0,,,
-point,2,1000,0,,,
 point,6,1000,400,,,
-point,3,1000,1000,,,
-point,4,0,1000,,,
-parcel,1,A,,,,
 parcel,2,B,,,,
 parcel,3,C,,,,
 string,11,1,5,1,0,
-string,15,5,2,2,0,
 string,12,2,6,2,0,
-string,16,6,3,1,0,
 string,13,3,4,3,0,
 string,14,4,1,3,0,
+string,15,5,2,2,0,
+string,16,6,3,1,0,
 string,21,1,3,3,1,
 string,22,5,6,1,2,
-open,,,,,,
-";
+",
+];
 
 /// An island in that corner.
 const ISLAND_IN_CORNER: &str = "\
@@ -138,63 +133,71 @@ fn calls_after<R: Abort + AllocGlobal>(rt: &R, plan: &str, edit: &str) -> Result
     Ok(check_edit(rt, &map, &edit)?)
 }
 
-#[test]
-fn points_and_strings_changed(rt: HostRuntime) -> Result<(), Fail> {
-    for (plan, edit) in [
-        (SQUARE, "split,11,5,500,0,22,23"),
-        (SQUARE, "join,1,21,,,,"),
-        (JOINED, "join,2,22,,,,"),
-        (SQUARE, "move,3,500,-500,,,"),
-        (SQUARE, "move,3,-1000,-1000,,,"),
-        (SQUARE, "move,3,1200,1000,,,"),
-        (SQUARE, "add-point,5,500,500,,,"),
-        (SQUARE, "add-point,6,1000,1000,,,"),
-        (SQUARE, "add-point,6,500,0,,,"),
-    ] {
-        let calls = calls_after(&rt, plan, edit)?;
+/// Fails where the near check asks nothing of the map that one of these edits makes.
+fn check_edits<R: Abort + AllocGlobal>(rt: &R, edits: &[(Plan, &'static str)]) -> Result<(), Fail> {
+    for (plan, edit) in edits {
+        let text = text_of(rt.alloc(), plan)?;
+        let calls = calls_after(rt, text.as_str(), edit)?;
         assert!(rt; calls > 0);
     }
     Ok(())
+}
+
+#[test]
+fn points_and_strings_changed(rt: HostRuntime) -> Result<(), Fail> {
+    check_edits(
+        &rt,
+        &[
+            (SQUARE, "split,11,5,500,0,22,23"),
+            (SQUARE, "join,1,21,,,,"),
+            (JOINED, "join,2,22,,,,"),
+            (SQUARE, "move,3,500,-500,,,"),
+            (SQUARE, "move,3,-1000,-1000,,,"),
+            (SQUARE, "move,3,1200,1000,,,"),
+            (SQUARE, "add-point,5,500,500,,,"),
+            (SQUARE, "add-point,6,1000,1000,,,"),
+            (SQUARE, "add-point,6,500,0,,,"),
+        ],
+    )
 }
 
 #[test]
 fn parcels_divided_and_merged(rt: HostRuntime) -> Result<(), Fail> {
-    for (plan, edit) in [
-        (SQUARE, "divide,1,1 3,21,2,C,1"),
-        (SQUARE, "divide,1,3 1,21,2,C,1"),
-        (DIVIDED, "merge,1,2,,,,"),
-        (ISLAND, "divide,1,1 3,21,3,C,1"),
-        (DIVIDED_ISLAND, "merge,1,3,,,,"),
-        (ISLAND, "move,3,400,400,,,"),
-        (ISLAND, "merge,1,2,,,,"),
-        (ISLAND, "merge,2,1,,,,"),
-    ] {
-        let calls = calls_after(&rt, plan, edit)?;
-        assert!(rt; calls > 0);
-    }
-    Ok(())
+    check_edits(
+        &rt,
+        &[
+            (SQUARE, "divide,1,1 3,21,2,C,1"),
+            (SQUARE, "divide,1,3 1,21,2,C,1"),
+            (DIVIDED, "merge,1,2,,,,"),
+            (ISLAND, "divide,1,1 3,21,3,C,1"),
+            (DIVIDED_ISLAND, "merge,1,3,,,,"),
+            (ISLAND, "move,3,400,400,,,"),
+            (ISLAND, "merge,1,2,,,,"),
+            (ISLAND, "merge,2,1,,,,"),
+        ],
+    )
 }
 
 #[test]
 fn islands_enclosed(rt: HostRuntime) -> Result<(), Fail> {
-    for (plan, edit) in [
-        (FREE_CORNERS, "enclose,0,1 2 3 4,11 12 13 14,1,A,1"),
-        (FREE_CORNERS, "enclose,0,4 3 2 1,11 12 13 14,1,A,1"),
-        (WITH_FRAME, "enclose,1,9 10 11 12,41 42 43 44,3,C,1"),
-        (WITH_FRAME, "enclose,2,9 10 11 12,41 42 43 44,3,C,1"),
-        (WITH_FRAME, "enclose,1,9 10 11,41 42 43,3,C,1"),
-    ] {
-        let calls = calls_after(&rt, plan, edit)?;
-        assert!(rt; calls > 0);
-    }
-    Ok(())
+    check_edits(
+        &rt,
+        &[
+            (FREE_CORNERS, "enclose,0,1 2 3 4,11 12 13 14,1,A,1"),
+            (FREE_CORNERS, "enclose,0,4 3 2 1,11 12 13 14,1,A,1"),
+            (WITH_FRAME, "enclose,1,9 10 11 12,41 42 43 44,3,C,1"),
+            (WITH_FRAME, "enclose,2,9 10 11 12,41 42 43 44,3,C,1"),
+            (WITH_FRAME, "enclose,1,9 10 11,41 42 43,3,C,1"),
+        ],
+    )
 }
 
 #[test]
 fn division_is_checked_no_longer_on_a_larger_map(rt: HostRuntime) -> Result<(), Fail> {
     let division = "divide,1,1 3,21,2,C,1";
-    let far = far_plan(rt.alloc(), SQUARE)?;
-    let few = calls_after(&rt, SQUARE, division)?;
+    let square = text_of(rt.alloc(), SQUARE)?;
+    let far = far_plan(rt.alloc(), square.as_str())?;
+    let few = calls_after(&rt, square.as_str(), division)?;
     let many = calls_after(&rt, far.as_str(), division)?;
     assert!(rt; few > 0);
     assert_eq!(rt; few, many);
@@ -236,16 +239,18 @@ fn check_larger<R: Abort + AllocGlobal>(
 }
 
 /// And where the plan has a hundred far squares more.
-fn check_far<R: Abort + AllocGlobal>(rt: &R, plan: &str, edit: &str) -> Result<(), Fail> {
-    let far = far_plan(rt.alloc(), plan)?;
-    check_larger(rt, plan, far.as_str(), edit)
+fn check_far<R: Abort + AllocGlobal>(rt: &R, plan: Plan, edit: &str) -> Result<(), Fail> {
+    let near = text_of(rt.alloc(), plan)?;
+    let far = far_plan(rt.alloc(), near.as_str())?;
+    check_larger(rt, near.as_str(), far.as_str(), edit)
 }
 
 #[test]
 fn what_lies_near_is_seen_without_its_rows(rt: HostRuntime) -> Result<(), Fail> {
     // The box of the diagonal has the island, in a parcel that the edit doesn't touch.
-    let near = with_records(rt.alloc(), WITH_CORNER, ISLAND_IN_CORNER)?;
-    check_larger(&rt, WITH_CORNER, near.as_str(), "move,3,1100,1100,,,")
+    let few = text_of(rt.alloc(), WITH_CORNER)?;
+    let more = with_records(rt.alloc(), few.as_str(), ISLAND_IN_CORNER)?;
+    check_larger(&rt, few.as_str(), more.as_str(), "move,3,1100,1100,,,")
 }
 
 #[test]

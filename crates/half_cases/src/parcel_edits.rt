@@ -20,7 +20,7 @@ fn parcels_divided(rt: HostRuntime) -> Result<(), Fail> {
         made(SQUARE, "divide,1,3 1,21,2,C,1", TURNED),
         made(WITH_BEND, "divide,1,1 5 3,21 22,2,C,1", BENT),
         made(BENT, "divide,1,1 3,23,3,D,1", BENT_TWICE),
-        refused(BENT_TWICE, "move,5,600,400,,,", "refused,18,breaks,V6,,,\n"),
+        refused(BENT_TWICE, "move,5,600,400,,,", "18,breaks,V6"),
         made(WITH_POCKET, "divide,1,5 7 6,24 25,3,D,1", POCKET),
     ] {
         check_step(&rt, &step)?;
@@ -34,11 +34,7 @@ fn holes_of_divided_parcels(rt: HostRuntime) -> Result<(), Fail> {
         made(ISLAND, "divide,1,1 3,21,3,C,1", DIVIDED_ISLAND),
         made(ISLAND, "divide,1,3 1,21,3,C,1", TURNED_ISLAND),
         made(WITH_NOTCH, "divide,1,7 9 8,41 42,3,C,1", NOTCHED),
-        refused(
-            WITH_NOTCH,
-            "divide,1,8 9 7,41 42,3,C,1",
-            "refused,18,breaks,V7,,,\n",
-        ),
+        refused(WITH_NOTCH, "divide,1,8 9 7,41 42,3,C,1", "18,breaks,V7"),
     ] {
         check_step(&rt, &step)?;
     }
@@ -51,7 +47,7 @@ fn outside_divided(rt: HostRuntime) -> Result<(), Fail> {
         refused(
             WITH_POINT_BESIDE,
             "divide,0,3 5 2,22 23,2,C,1",
-            "refused,18,breaks,V7,,,\n",
+            "18,breaks,V7",
         ),
         made(WITH_POINT_BESIDE, "divide,0,2 5 3,22 23,2,C,1", BESIDE),
         made(TWO_ISLANDS, "divide,0,2 8 9 3,21 22 23,3,C,1", SURROUNDED),
@@ -64,37 +60,13 @@ fn outside_divided(rt: HostRuntime) -> Result<(), Fail> {
 #[test]
 fn divisions_refused(rt: HostRuntime) -> Result<(), Fail> {
     for step in [
-        refused(
-            ISLAND,
-            "divide,1,2 7,21,3,C,1",
-            "refused,11,chain-joins-rings,,,,\n",
-        ),
-        refused(ISLAND, "divide,1,2 4,21,3,C,1", "refused,18,breaks,V4,,,\n"),
-        refused(
-            SQUARE,
-            "divide,1,1 3,21 22,2,C,1",
-            "refused,9,bad-chain,,,,\n",
-        ),
-        refused(
-            SQUARE,
-            "divide,1,1 2,21,2,C,1",
-            "refused,10,not-in-parcel,point,1,,\n",
-        ),
-        refused(
-            SQUARE,
-            "divide,1,1 2 3,21 22,2,C,1",
-            "refused,7,not-free,point,2,,\n",
-        ),
-        refused(
-            DIVIDED,
-            "divide,1,1 3,22,2,C,1",
-            "refused,3,taken,parcel,2,,\n",
-        ),
-        refused(
-            MERGED,
-            "divide,1,1 3,21,2,C,1",
-            "refused,4,retired,parcel,2,,\n",
-        ),
+        refused(ISLAND, "divide,1,2 7,21,3,C,1", "11,chain-joins-rings"),
+        refused(ISLAND, "divide,1,2 4,21,3,C,1", "18,breaks,V4"),
+        refused(SQUARE, "divide,1,1 3,21 22,2,C,1", "9,bad-chain"),
+        refused(SQUARE, "divide,1,1 2,21,2,C,1", "10,not-in-parcel,point,1"),
+        refused(SQUARE, "divide,1,1 2 3,21 22,2,C,1", "7,not-free,point,2"),
+        refused(DIVIDED, "divide,1,1 3,22,2,C,1", "3,taken,parcel,2"),
+        refused(MERGED, "divide,1,1 3,21,2,C,1", "4,retired,parcel,2"),
     ] {
         check_step(&rt, &step)?;
     }
@@ -122,27 +94,23 @@ fn enclosures_refused(rt: HostRuntime) -> Result<(), Fail> {
         refused(
             FREE_CORNERS,
             "enclose,0,4 3 2 1,11 12 13 14,1,A,1",
-            "refused,18,breaks,V7,,,\n",
+            "18,breaks,V7",
         ),
         refused(
             WITH_FRAME,
             "enclose,2,9 10 11 12,41 42 43 44,3,C,1",
-            "refused,18,breaks,V8,,,\n",
+            "18,breaks,V8",
         ),
         refused(
             WITH_FRAME,
             "enclose,1,9 10 11,41 42 43,3,C,1",
-            "refused,18,breaks,V4,,,\n",
+            "18,breaks,V4",
         ),
-        refused(
-            WITH_FRAME,
-            "enclose,1,9 10,41 42,3,C,1",
-            "refused,9,bad-chain,,,,\n",
-        ),
+        refused(WITH_FRAME, "enclose,1,9 10,41 42,3,C,1", "9,bad-chain"),
         refused(
             SQUARE,
             "enclose,1,1 2 3,21 22 23,2,C,1",
-            "refused,7,not-free,point,1,,\n",
+            "7,not-free,point,1",
         ),
     ] {
         check_step(&rt, &step)?;
@@ -183,12 +151,12 @@ fn islands_merged(rt: HostRuntime) -> Result<(), Fail> {
 #[test]
 fn mergers_refused(rt: HostRuntime) -> Result<(), Fail> {
     for step in [
-        refused(SQUARE, "merge,9,8,,,,", "refused,2,unknown,parcel,9,,\n"),
-        refused(SQUARE, "merge,1,0,,,,", "refused,5,outside,,,,\n"),
-        refused(SQUARE, "merge,0,1,,,,", "refused,5,outside,,,,\n"),
-        refused(SQUARE, "merge,1,1,,,,", "refused,12,same-parcel,,,,\n"),
-        refused(APART, "merge,2,3,,,,", "refused,13,not-neighbours,,,,\n"),
-        refused(POCKET, "merge,1,2,,,,", "refused,14,not-one-chain,,,,\n"),
+        refused(SQUARE, "merge,9,8,,,,", "2,unknown,parcel,9"),
+        refused(SQUARE, "merge,1,0,,,,", "5,outside"),
+        refused(SQUARE, "merge,0,1,,,,", "5,outside"),
+        refused(SQUARE, "merge,1,1,,,,", "12,same-parcel"),
+        refused(APART, "merge,2,3,,,,", "13,not-neighbours"),
+        refused(POCKET, "merge,1,2,,,,", "14,not-one-chain"),
     ] {
         check_step(&rt, &step)?;
     }
@@ -198,16 +166,12 @@ fn mergers_refused(rt: HostRuntime) -> Result<(), Fail> {
 #[test]
 fn rings_that_pass_a_point_twice(rt: HostRuntime) -> Result<(), Fail> {
     for step in [
-        refused(
-            PINCH,
-            "divide,2,1 3,41,9,C,1",
-            "refused,10,not-in-parcel,point,1,,\n",
-        ),
+        refused(PINCH, "divide,2,1 3,41,9,C,1", "10,not-in-parcel,point,1"),
         made(PINCH, "divide,2,5 3,43,9,C,1", PINCH_DIVIDED),
         made(PINCH_DIVIDED, "merge,2,9,,,,", PINCH_MERGED),
-        refused(PINCH, "merge,1,3,,,,", "refused,13,not-neighbours,,,,\n"),
-        refused(PINCH, "merge,1,2,,,,", "refused,14,not-one-chain,,,,\n"),
-        refused(PINCH, "merge,3,2,,,,", "refused,14,not-one-chain,,,,\n"),
+        refused(PINCH, "merge,1,3,,,,", "13,not-neighbours"),
+        refused(PINCH, "merge,1,2,,,,", "14,not-one-chain"),
+        refused(PINCH, "merge,3,2,,,,", "14,not-one-chain"),
     ] {
         check_step(&rt, &step)?;
     }

@@ -1,4 +1,4 @@
-//! Worked plans as they are read, and the maps and edits of texts.
+//! Worked plans, told by groups of records, and the maps and edits of texts.
 ghost use Rattle.std.specs.Prelude.{IfOk};
 ghost use Rattle.cad_map.specs.Valid.{IsValid};
 
@@ -8,12 +8,15 @@ use cad_map::PlainMap;
 use cad_rows::Edit;
 use csv::{ByteRecord, ReaderBuilder};
 use number_hash::NumberHash;
-use std::alloc::Global;
+use std::alloc::{AllocError, Global};
 use std::test::Fail;
 
-/// A square of a metre.
-pub(crate) const SQUARE: &str = "\
-plan,2,,,,,
+/// A plan: groups of records, put into an empty one after another. A record stands in the place of that with its kind and
+/// number, or else behind the others of its kind; "-string,11" takes string 11 out.
+pub(crate) type Plan = &'static [&'static str];
+
+/// The records of a square of a metre.
+pub(crate) const SQUARE_RECORDS: &str = "\
 source,1,Plan 7,,,,
 point,1,0,0,1,,
 point,2,1000,0,,,
@@ -24,35 +27,27 @@ string,11,1,2,1,0,
 string,12,2,3,1,0,
 string,13,3,4,1,0,
 string,14,4,1,1,0,
-open,,,,,,
 ";
 
-/// The square with an island.
-pub(crate) const ISLAND: &str = "\
-plan,2,,,,,
-source,1,Plan 7,,,,
-point,1,0,0,1,,
-point,2,1000,0,,,
-point,3,1000,1000,,,
-point,4,0,1000,,,
+/// A square of a metre.
+pub(crate) const SQUARE: Plan = &[SQUARE_RECORDS];
+
+/// An island in that square.
+pub(crate) const ISLAND_RECORDS: &str = "\
 point,6,700,300,,,
 point,7,800,300,,,
 point,8,800,500,,,
-parcel,1,A,,,,
 parcel,2,B,,,,
-string,11,1,2,1,0,
-string,12,2,3,1,0,
-string,13,3,4,1,0,
-string,14,4,1,1,0,
 string,31,6,7,2,1,
 string,32,7,8,2,1,
 string,33,8,6,2,1,
-open,,,,,,
 ";
 
-/// A parcel round a triangle, which holds a triangle: all three meet in point 1.
-pub(crate) const PINCH: &str = "\
-plan,2,,,,,
+/// The square with an island.
+pub(crate) const ISLAND: Plan = &[SQUARE_RECORDS, ISLAND_RECORDS];
+
+/// A parcel round a triangle, which holds a triangle.
+pub(crate) const PINCH_RECORDS: &str = "\
 source,1,Plan 7,,,,
 point,1,0,1000,,,
 point,2,3000,500,,,
@@ -77,10 +72,86 @@ string,23,3,1,2,1,
 string,31,1,4,3,2,
 string,32,4,5,3,2,
 string,33,5,1,3,2,
-open,,,,,,
 ";
 
-/// The map of a plan.
+/// A parcel round a triangle, which holds a triangle: all three meet in point 1.
+pub(crate) const PINCH: Plan = &[PINCH_RECORDS];
+
+/// The kind of a record, and the number behind it.
+fn name_of(record: &str) -> (&str, &str) {
+    let mut fields = record.split(',');
+    let kind = fields.next().unwrap_or("");
+    (kind, fields.next().unwrap_or(""))
+}
+
+/// Where the records of a kind stand in a plan.
+fn rank(record: &str) -> u32 {
+    match name_of(record).0 {
+        "plan" => 0,
+        "source" => 1,
+        "point" => 2,
+        "parcel" => 3,
+        "string" => 4,
+        "retired" => 5,
+        _ => 6,
+    }
+}
+
+/// Appends a record as a line.
+fn append(text: &mut String, record: &str) -> Result<(), AllocError> {
+    text.push_str(record)?;
+    text.push_str("\n")
+}
+
+/// A plan without the record that has this one's name.
+fn without(alloc: Global, plan: &str, record: &str) -> Result<String, AllocError> {
+    let mut text = String::new(alloc);
+    for line in plan.lines() {
+        if name_of(line) != name_of(record) {
+            append(&mut text, line)?;
+        }
+    }
+    Ok(text)
+}
+
+/// A plan with a record in the place of that with its name, or else behind the others of its kind.
+fn with_record(alloc: Global, plan: &str, record: &str) -> Result<String, AllocError> {
+    let mut text = String::new(alloc);
+    let mut is_put = false;
+    for line in plan.lines() {
+        let is_old = name_of(line) == name_of(record);
+        if !is_put && (is_old || rank(line) > rank(record)) {
+            append(&mut text, record)?;
+            is_put = true;
+        }
+        if !is_old {
+            append(&mut text, line)?;
+        }
+    }
+    Ok(text)
+}
+
+/// A plan with a group of records.
+fn with_group(alloc: Global, mut text: String, group: &str) -> Result<String, AllocError> {
+    for record in group.lines() {
+        text = match record.strip_prefix('-') {
+            Some(gone) => without(alloc, text.as_str(), gone)?,
+            None => with_record(alloc, text.as_str(), record)?,
+        };
+    }
+    Ok(text)
+}
+
+/// The text of a plan.
+pub(crate) fn text_of(alloc: Global, plan: Plan) -> Result<String, AllocError> {
+    let mut text = format!(in alloc; "plan,2,,,,,\nopen,,,,,,\n")?;
+    for group in plan {
+        text = with_group(alloc, text, group)?;
+    }
+    Ok(text)
+}
+
+/// The map of a plan's text.
 pub(crate) fn map_of(alloc: Global, plan: &str) -> Result<PlainMap, Fail>
     ensures { IfOk result IsValid }
 {

@@ -1,165 +1,94 @@
 //! Plans that edits of the worked jobs come to.
+use crate::plans::{ISLAND_RECORDS, Plan, SQUARE_RECORDS};
 
 /// An empty plan.
-pub(crate) const EMPTY: &str = "\
-plan,2,,,,,
-open,,,,,,
-";
+pub(crate) const EMPTY: Plan = &[];
 
 /// The square whose first side is split.
-pub(crate) const SPLIT: &str = "\
-plan,2,,,,,
-source,1,Plan 7,,,,
-point,1,0,0,1,,
-point,2,1000,0,,,
-point,3,1000,1000,,,
-point,4,0,1000,,,
+pub(crate) const SPLIT: Plan = &[
+    SQUARE_RECORDS,
+    "\
+-string,11
 point,5,500,0,,,
-parcel,1,A,,,,
-string,12,2,3,1,0,
-string,13,3,4,1,0,
-string,14,4,1,1,0,
 string,22,1,5,1,0,
 string,23,5,2,1,0,
-open,,,,,,
-";
+",
+];
 
 /// The square whose first corner is taken out.
-pub(crate) const JOINED: &str = "\
-plan,2,,,,,
-source,1,Plan 7,,,,
-point,2,1000,0,,,
-point,3,1000,1000,,,
-point,4,0,1000,,,
-parcel,1,A,,,,
-string,12,2,3,1,0,
-string,13,3,4,1,0,
+pub(crate) const JOINED: Plan = &[
+    SQUARE_RECORDS,
+    "\
+-point,1
+-string,11
+-string,14
 string,21,2,4,0,1,
-open,,,,,,
-";
+",
+];
 
 /// The square with a point in its middle.
-pub(crate) const WITH_POINT: &str = "\
-plan,2,,,,,
-source,1,Plan 7,,,,
-point,1,0,0,1,,
-point,2,1000,0,,,
-point,3,1000,1000,,,
-point,4,0,1000,,,
+pub(crate) const WITH_POINT: Plan = &[
+    SQUARE_RECORDS,
+    "\
 point,5,500,500,,,
-parcel,1,A,,,,
-string,11,1,2,1,0,
-string,12,2,3,1,0,
-string,13,3,4,1,0,
-string,14,4,1,1,0,
-open,,,,,,
-";
+",
+];
 
 /// The square with two points in it.
-pub(crate) const WITH_POINTS: &str = "\
-plan,2,,,,,
-source,1,Plan 7,,,,
-point,1,0,0,1,,
-point,2,1000,0,,,
-point,3,1000,1000,,,
-point,4,0,1000,,,
+pub(crate) const WITH_POINTS: Plan = &[
+    SQUARE_RECORDS,
+    "\
 point,5,500,500,,,
 point,6,600,600,,,
-parcel,1,A,,,,
-string,11,1,2,1,0,
-string,12,2,3,1,0,
-string,13,3,4,1,0,
-string,14,4,1,1,0,
-open,,,,,,
-";
+",
+];
 
 /// The square with another label.
-pub(crate) const RENAMED: &str = "\
-plan,2,,,,,
-source,1,Plan 7,,,,
-point,1,0,0,1,,
-point,2,1000,0,,,
-point,3,1000,1000,,,
-point,4,0,1000,,,
+pub(crate) const RENAMED: Plan = &[
+    SQUARE_RECORDS,
+    "\
 parcel,1,\"North, B\",,,,
-string,11,1,2,1,0,
-string,12,2,3,1,0,
-string,13,3,4,1,0,
-string,14,4,1,1,0,
-open,,,,,,
-";
+",
+];
 
 /// The same, with a corner moved.
-pub(crate) const MOVED: &str = "\
-plan,2,,,,,
-source,1,Plan 7,,,,
-point,1,0,0,1,,
-point,2,1000,0,,,
+pub(crate) const MOVED: Plan = &[
+    SQUARE_RECORDS,
+    "\
 point,3,1200,1000,,,
-point,4,0,1000,,,
 parcel,1,\"North, B\",,,,
-string,11,1,2,1,0,
-string,12,2,3,1,0,
-string,13,3,4,1,0,
-string,14,4,1,1,0,
-open,,,,,,
-";
+",
+];
 
 /// The same, with no source at its first corner.
-pub(crate) const DETACHED: &str = "\
-plan,2,,,,,
-source,1,Plan 7,,,,
+pub(crate) const DETACHED: Plan = &[
+    SQUARE_RECORDS,
+    "\
 point,1,0,0,,,
-point,2,1000,0,,,
 point,3,1200,1000,,,
-point,4,0,1000,,,
 parcel,1,\"North, B\",,,,
-string,11,1,2,1,0,
-string,12,2,3,1,0,
-string,13,3,4,1,0,
-string,14,4,1,1,0,
-open,,,,,,
-";
+",
+];
 
-/// The square divided from its first corner to the third.
-pub(crate) const DIVIDED: &str = "\
-plan,2,,,,,
-source,1,Plan 7,,,,
-point,1,0,0,1,,
-point,2,1000,0,,,
-point,3,1000,1000,,,
-point,4,0,1000,,,
-parcel,1,A,,,,
+/// The parcel beyond the diagonal.
+pub(crate) const DIVIDED_RECORDS: &str = "\
 parcel,2,C,1,,,
-string,11,1,2,1,0,
-string,12,2,3,1,0,
 string,13,3,4,2,0,
 string,14,4,1,2,0,
 string,21,1,3,2,1,1
-open,,,,,,
 ";
 
+/// The square divided from its first corner to the third.
+pub(crate) const DIVIDED: Plan = &[SQUARE_RECORDS, DIVIDED_RECORDS];
+
 /// The square with an island, divided in the same way.
-pub(crate) const DIVIDED_ISLAND: &str = "\
-plan,2,,,,,
-source,1,Plan 7,,,,
-point,1,0,0,1,,
-point,2,1000,0,,,
-point,3,1000,1000,,,
-point,4,0,1000,,,
-point,6,700,300,,,
-point,7,800,300,,,
-point,8,800,500,,,
-parcel,1,A,,,,
-parcel,2,B,,,,
+pub(crate) const DIVIDED_ISLAND: Plan = &[
+    SQUARE_RECORDS,
+    ISLAND_RECORDS,
+    "\
 parcel,3,C,1,,,
-string,11,1,2,1,0,
-string,12,2,3,1,0,
 string,13,3,4,3,0,
 string,14,4,1,3,0,
-string,31,6,7,2,1,
-string,32,7,8,2,1,
-string,33,8,6,2,1,
 string,21,1,3,3,1,1
-open,,,,,,
-";
+",
+];

@@ -1,296 +1,154 @@
 //! Plans before and after parcels are merged.
+use crate::plans::{ISLAND_RECORDS, PINCH_RECORDS, Plan, SQUARE_RECORDS};
+use crate::plans_after::DIVIDED_RECORDS;
+use crate::plans_enclosed::WITH_FRAME_RECORDS;
 
 /// The divided square merged again.
-pub(crate) const MERGED: &str = "\
-plan,2,,,,,
-source,1,Plan 7,,,,
-point,1,0,0,1,,
-point,2,1000,0,,,
-point,3,1000,1000,,,
-point,4,0,1000,,,
-parcel,1,A,,,,
-string,11,1,2,1,0,
-string,12,2,3,1,0,
-string,13,3,4,1,0,
-string,14,4,1,1,0,
+pub(crate) const MERGED: Plan = &[
+    SQUARE_RECORDS,
+    "\
 retired,2,,,,,
-open,,,,,,
-";
+",
+];
 
 /// The same, where the new parcel is kept.
-pub(crate) const MERGED_INTO_NEW: &str = "\
-plan,2,,,,,
-source,1,Plan 7,,,,
-point,1,0,0,1,,
-point,2,1000,0,,,
-point,3,1000,1000,,,
-point,4,0,1000,,,
+pub(crate) const MERGED_INTO_NEW: Plan = &[
+    SQUARE_RECORDS,
+    "\
+-parcel,1
 parcel,2,C,1,,,
 string,11,1,2,2,0,
 string,12,2,3,2,0,
 string,13,3,4,2,0,
 string,14,4,1,2,0,
 retired,1,,,,,
-open,,,,,,
-";
+",
+];
 
 /// The square divided by a point, merged again: the point stays.
-pub(crate) const BENT_MERGED: &str = "\
-plan,2,,,,,
-source,1,Plan 7,,,,
-point,1,0,0,1,,
-point,2,1000,0,,,
-point,3,1000,1000,,,
-point,4,0,1000,,,
+pub(crate) const BENT_MERGED: Plan = &[
+    SQUARE_RECORDS,
+    "\
 point,5,400,600,,,
-parcel,1,A,,,,
-string,11,1,2,1,0,
-string,12,2,3,1,0,
-string,13,3,4,1,0,
-string,14,4,1,1,0,
 retired,2,,,,,
-open,,,,,,
-";
+",
+];
 
 /// The square with an island, whose new parcel is merged away again.
-pub(crate) const ISLAND_TAKEN_OVER: &str = "\
-plan,2,,,,,
-source,1,Plan 7,,,,
-point,1,0,0,1,,
-point,2,1000,0,,,
-point,3,1000,1000,,,
-point,4,0,1000,,,
-point,6,700,300,,,
-point,7,800,300,,,
-point,8,800,500,,,
-parcel,1,A,,,,
-parcel,2,B,,,,
-string,11,1,2,1,0,
-string,12,2,3,1,0,
-string,13,3,4,1,0,
-string,14,4,1,1,0,
-string,31,6,7,2,1,
-string,32,7,8,2,1,
-string,33,8,6,2,1,
+pub(crate) const ISLAND_TAKEN_OVER: Plan = &[
+    SQUARE_RECORDS,
+    ISLAND_RECORDS,
+    "\
 retired,3,,,,,
-open,,,,,,
-";
+",
+];
 
 /// The square with an island, and a point that was a corner of a parcel beside it.
-pub(crate) const NOTCH_MERGED: &str = "\
-plan,2,,,,,
-source,1,Plan 7,,,,
-point,1,0,0,1,,
-point,2,1000,0,,,
-point,3,1000,1000,,,
-point,4,0,1000,,,
-point,6,700,300,,,
-point,7,800,300,,,
-point,8,800,500,,,
+pub(crate) const NOTCH_MERGED: Plan = &[
+    SQUARE_RECORDS,
+    ISLAND_RECORDS,
+    "\
 point,9,900,400,,,
-parcel,1,A,,,,
-parcel,2,B,,,,
-string,11,1,2,1,0,
-string,12,2,3,1,0,
-string,13,3,4,1,0,
-string,14,4,1,1,0,
-string,31,6,7,2,1,
-string,32,7,8,2,1,
-string,33,8,6,2,1,
 retired,3,,,,,
-open,,,,,,
-";
+",
+];
 
 /// The parcel round a triangle, which holds a triangle, once divided and merged again.
-pub(crate) const PINCH_MERGED: &str = "\
-plan,2,,,,,
-source,1,Plan 7,,,,
-point,1,0,1000,,,
-point,2,3000,500,,,
-point,3,3000,1500,,,
-point,4,2000,900,,,
-point,5,2000,1100,,,
-point,6,1000,0,,,
-point,7,4000,0,,,
-point,8,4000,2000,,,
-point,9,1000,2000,,,
-parcel,1,A,,,,
-parcel,2,B,,,,
-parcel,3,C,,,,
-string,11,1,6,1,0,
-string,12,6,7,1,0,
-string,13,7,8,1,0,
-string,14,8,9,1,0,
-string,15,9,1,1,0,
-string,21,1,2,2,1,
-string,22,2,3,2,1,
-string,23,3,1,2,1,
-string,31,1,4,3,2,
-string,32,4,5,3,2,
-string,33,5,1,3,2,
+pub(crate) const PINCH_MERGED: Plan = &[
+    PINCH_RECORDS,
+    "\
 retired,9,,,,,
-open,,,,,,
+",
+];
+
+/// What divides the island.
+const PARTED_RECORDS: &str = "\
+point,9,760,350,,,
+parcel,3,C,1,,,
+string,31,6,7,3,1,
+string,41,7,9,3,2,1
+string,42,9,6,3,2,1
 ";
 
 /// The square with a divided island.
-pub(crate) const PARTED: &str = "\
-plan,2,,,,,
-source,1,Plan 7,,,,
-point,1,0,0,1,,
-point,2,1000,0,,,
-point,3,1000,1000,,,
-point,4,0,1000,,,
-point,6,700,300,,,
-point,7,800,300,,,
-point,8,800,500,,,
-point,9,760,350,,,
-parcel,1,A,,,,
-parcel,2,B,,,,
-parcel,3,C,1,,,
-string,11,1,2,1,0,
-string,12,2,3,1,0,
-string,13,3,4,1,0,
-string,14,4,1,1,0,
-string,31,6,7,3,1,
-string,32,7,8,2,1,
-string,33,8,6,2,1,
-string,41,7,9,3,2,1
-string,42,9,6,3,2,1
-open,,,,,,
-";
+pub(crate) const PARTED: Plan = &[SQUARE_RECORDS, ISLAND_RECORDS, PARTED_RECORDS];
 
 /// The same, with one part merged with the parcel round it.
-pub(crate) const PART_TAKEN_IN: &str = "\
-plan,2,,,,,
-source,1,Plan 7,,,,
-point,1,0,0,1,,
-point,2,1000,0,,,
-point,3,1000,1000,,,
-point,4,0,1000,,,
-point,6,700,300,,,
-point,7,800,300,,,
-point,8,800,500,,,
-point,9,760,350,,,
-parcel,1,A,,,,
-parcel,2,B,,,,
-string,11,1,2,1,0,
-string,12,2,3,1,0,
-string,13,3,4,1,0,
-string,14,4,1,1,0,
-string,32,7,8,2,1,
-string,33,8,6,2,1,
+pub(crate) const PART_TAKEN_IN: Plan = &[
+    SQUARE_RECORDS,
+    ISLAND_RECORDS,
+    PARTED_RECORDS,
+    "\
+-parcel,3
+-string,31
 string,41,7,9,1,2,1
 string,42,9,6,1,2,1
 retired,3,,,,,
-open,,,,,,
-";
+",
+];
 
 /// The same, with the other part too.
-pub(crate) const PARTS_TAKEN_IN: &str = "\
-plan,2,,,,,
-source,1,Plan 7,,,,
-point,1,0,0,1,,
-point,2,1000,0,,,
-point,3,1000,1000,,,
-point,4,0,1000,,,
-point,6,700,300,,,
-point,7,800,300,,,
-point,8,800,500,,,
+pub(crate) const PARTS_TAKEN_IN: Plan = &[
+    SQUARE_RECORDS,
+    ISLAND_RECORDS,
+    "\
+-parcel,2
+-string,31
+-string,32
+-string,33
 point,9,760,350,,,
-parcel,1,A,,,,
-string,11,1,2,1,0,
-string,12,2,3,1,0,
-string,13,3,4,1,0,
-string,14,4,1,1,0,
 retired,3,,,,,
 retired,2,,,,,
-open,,,,,,
-";
+",
+];
 
 /// The square merged with its island.
-pub(crate) const ISLAND_MERGED: &str = "\
-plan,2,,,,,
-source,1,Plan 7,,,,
-point,1,0,0,1,,
-point,2,1000,0,,,
-point,3,1000,1000,,,
-point,4,0,1000,,,
-point,6,700,300,,,
-point,7,800,300,,,
-point,8,800,500,,,
-parcel,1,A,,,,
-string,11,1,2,1,0,
-string,12,2,3,1,0,
-string,13,3,4,1,0,
-string,14,4,1,1,0,
+pub(crate) const ISLAND_MERGED: Plan = &[
+    SQUARE_RECORDS,
+    ISLAND_RECORDS,
+    "\
+-parcel,2
+-string,31
+-string,32
+-string,33
 retired,2,,,,,
-open,,,,,,
-";
+",
+];
 
 /// The same, where the island is kept.
-pub(crate) const ISLAND_KEPT: &str = "\
-plan,2,,,,,
-source,1,Plan 7,,,,
-point,1,0,0,1,,
-point,2,1000,0,,,
-point,3,1000,1000,,,
-point,4,0,1000,,,
-point,6,700,300,,,
-point,7,800,300,,,
-point,8,800,500,,,
-parcel,2,B,,,,
+pub(crate) const ISLAND_KEPT: Plan = &[
+    SQUARE_RECORDS,
+    ISLAND_RECORDS,
+    "\
+-parcel,1
+-string,31
+-string,32
+-string,33
 string,11,1,2,2,0,
 string,12,2,3,2,0,
 string,13,3,4,2,0,
 string,14,4,1,2,0,
 retired,1,,,,,
-open,,,,,,
-";
+",
+];
 
 /// The square merged with the parcel round its island, which it takes over.
-pub(crate) const FRAME_MERGED: &str = "\
-plan,2,,,,,
-source,1,Plan 7,,,,
-point,1,0,0,1,,
-point,2,1000,0,,,
-point,3,1000,1000,,,
-point,4,0,1000,,,
-point,6,700,300,,,
-point,7,800,300,,,
-point,8,800,500,,,
-point,9,600,100,,,
-point,10,900,100,,,
-point,11,900,700,,,
-point,12,600,700,,,
-parcel,1,A,,,,
-parcel,2,B,,,,
-string,11,1,2,1,0,
-string,12,2,3,1,0,
-string,13,3,4,1,0,
-string,14,4,1,1,0,
-string,31,6,7,2,1,
-string,32,7,8,2,1,
-string,33,8,6,2,1,
+pub(crate) const FRAME_MERGED: Plan = &[
+    SQUARE_RECORDS,
+    ISLAND_RECORDS,
+    WITH_FRAME_RECORDS,
+    "\
 retired,3,,,,,
-open,,,,,,
-";
+",
+];
 
 /// The same, where the parcel round the island is kept.
-pub(crate) const FRAME_KEPT: &str = "\
-plan,2,,,,,
-source,1,Plan 7,,,,
-point,1,0,0,1,,
-point,2,1000,0,,,
-point,3,1000,1000,,,
-point,4,0,1000,,,
-point,6,700,300,,,
-point,7,800,300,,,
-point,8,800,500,,,
-point,9,600,100,,,
-point,10,900,100,,,
-point,11,900,700,,,
-point,12,600,700,,,
-parcel,2,B,,,,
+pub(crate) const FRAME_KEPT: Plan = &[
+    SQUARE_RECORDS,
+    ISLAND_RECORDS,
+    WITH_FRAME_RECORDS,
+    "\
+-parcel,1
 parcel,3,C,1,,,
 string,11,1,2,3,0,
 string,12,2,3,3,0,
@@ -300,27 +158,18 @@ string,31,6,7,2,3,
 string,32,7,8,2,3,
 string,33,8,6,2,3,
 retired,1,,,,,
-open,,,,,,
-";
+",
+];
 
 /// The divided square with a third parcel on its eastern side.
-pub(crate) const APART: &str = "\
-plan,2,,,,,
-source,1,Plan 7,,,,
-point,1,0,0,1,,
-point,2,1000,0,,,
-point,3,1000,1000,,,
-point,4,0,1000,,,
+pub(crate) const APART: Plan = &[
+    SQUARE_RECORDS,
+    DIVIDED_RECORDS,
+    "\
 point,5,2000,500,,,
-parcel,1,A,,,,
-parcel,2,C,1,,,
 parcel,3,D,1,,,
-string,11,1,2,1,0,
 string,12,2,3,1,3,
-string,13,3,4,2,0,
-string,14,4,1,2,0,
-string,21,1,3,2,1,1
 string,22,2,5,3,0,1
 string,23,5,3,3,0,1
-open,,,,,,
-";
+",
+];

@@ -8,7 +8,7 @@ ghost use Rattle.map_parts.specs.Parts.{map_of as map_that_stands};
 ghost use Rattle.edit_records.specs.Record.{Belongs};
 
 use crate::half_maps::half;
-use crate::plans::{edit_of, map_of};
+use crate::plans::{Plan, edit_of, map_of, text_of};
 use cad_edit::PlainStore;
 use cad_files::{answer_text, plan_text};
 use cad_history::Answer;
@@ -16,16 +16,26 @@ use cad_map::{MapStore, MapView, PlainMap};
 use cad_rows::{Edit, Face, Memory, Refusal, StringNo};
 use cad_surgery::{HalfMap, SmallRecord};
 use half_table::{Half, HalfTable, Ticks};
+use std::alloc::{AllocError, Global};
 use std::process::Abort;
 use std::test::Fail;
 
-/// An edit of a worked job: the plan, the record, its answer and the plan after it.
+/// An edit of a worked job: the plan, the record, why it is refused, as the fields of the answer say it, and the plan
+/// after it.
 #[derive(Drop)]
 pub(crate) struct Step {
-    before: &'static str,
+    before: Plan,
     edit: &'static str,
-    answer: &'static str,
-    after: &'static str,
+    refusal: Option<&'static str>,
+    after: Plan,
+}
+
+/// The texts of an edit's answer, and of the plans before it and after it.
+#[derive(Clone, Copy)]
+struct Texts<'a> {
+    before: &'a str,
+    answer: &'a str,
+    after: &'a str,
 }
 
 /// What is seen of a map on half-edges: its plan text, what follows and what has each half, and the work on its table.
@@ -217,14 +227,14 @@ fn go_both_ways<R: Abort + AllocGlobal>(
     rt: &R,
     store: &mut HalfMap<Ticks>,
     change: &SmallRecord,
-    step: &Step,
+    texts: &Texts<'_>,
 ) -> Result<(), Memory>
     requires belongs { (before : Map) × Belongs change.now before (map_that_stands store.old) }
 {
     go_back(rt, store, change)?;
-    check_text(rt, store, step.before)?;
+    check_text(rt, store, texts.before)?;
     go_forward(rt, store, change)?;
-    check_text(rt, store, step.after)
+    check_text(rt, store, texts.after)
 }
 
 /// Goes both ways on another map on half-edges.
@@ -232,12 +242,12 @@ fn go_on_another<R: Abort + AllocGlobal>(
     rt: &R,
     after: &PlainMap,
     change: &SmallRecord,
-    step: &Step,
+    texts: &Texts<'_>,
 ) -> Result<(), Memory>
     requires belongs { (before : Map) × Belongs change.now before after.now }
 {
     let mut other = HalfMap::of(rt.alloc(), after, Ticks::new())?;
-    go_both_ways(rt, &mut other, change, step)
+    go_both_ways(rt, &mut other, change, texts)
 }
 
 /// Goes both ways by a record, on its own map and on another one.
@@ -245,14 +255,14 @@ fn check_record<R: Abort + AllocGlobal>(
     rt: &R,
     store: &mut HalfMap<Ticks>,
     change: &SmallRecord,
-    step: &Step,
+    texts: &Texts<'_>,
 ) -> Result<(), Memory>
     requires { (before : Map) × Belongs change.now before (map_that_stands store.old) }
 {
-    check_text(rt, store, step.after)?;
+    check_text(rt, store, texts.after)?;
     let after = PlainMap::of_view(rt.alloc(), store)?;
-    go_on_another(rt, &after, change, step)?;
-    go_both_ways(rt, store, change, step)
+    go_on_another(rt, &after, change, texts)?;
+    go_both_ways(rt, store, change, texts)
 }
 
 /// Makes an edit on half-edges, and looks at its answer, its map and its record.
@@ -260,18 +270,18 @@ fn check_made<R: Abort + AllocGlobal>(
     rt: &R,
     store: &mut HalfMap<Ticks>,
     edit: &Edit,
-    step: &Step,
+    texts: &Texts<'_>,
 ) -> Result<(), Memory>
     requires valid { IsValid (map_that_stands store.old) }
 {
     match make(rt, store, edit)? {
         Ok(change) => {
-            check_answer(rt, None, step.answer)?;
-            check_record(rt, store, &change, step)
+            check_answer(rt, None, texts.answer)?;
+            check_record(rt, store, &change, texts)
         }
         Err(refusal) => {
-            check_answer(rt, Some(refusal), step.answer)?;
-            check_text(rt, store, step.after)
+            check_answer(rt, Some(refusal), texts.answer)?;
+            check_text(rt, store, texts.after)
         }
     }
 }
@@ -281,12 +291,12 @@ fn check_on_halves<R: Abort + AllocGlobal>(
     rt: &R,
     map: &PlainMap,
     edit: &Edit,
-    step: &Step,
+    texts: &Texts<'_>,
 ) -> Result<(), Memory>
     requires { IsValid map.now }
 {
     let mut halves = HalfMap::of(rt.alloc(), map, Ticks::new())?;
-    check_made(rt, &mut halves, edit, step)
+    check_made(rt, &mut halves, edit, texts)
 }
 
 /// Why the plain store refuses an edit. One that it doesn't refuse is made.
@@ -305,7 +315,7 @@ fn check_plain<R: Abort + AllocGlobal>(
     rt: &R,
     store: &mut PlainStore,
     edit: &Edit,
-    step: &Step,
+    texts: &Texts<'_>,
 ) -> Result<(), Memory>
     requires { IsValid store.old.map }
 {
@@ -313,37 +323,56 @@ fn check_plain<R: Abort + AllocGlobal>(
     if refusal == Some(Refusal::Memory) {
         return Err(Memory);
     }
-    check_answer(rt, refusal, step.answer)?;
-    check_text(rt, &store.map, step.after)
+    check_answer(rt, refusal, texts.answer)?;
+    check_text(rt, &store.map, texts.after)
+}
+
+/// The record of an answer: it has seven fields.
+fn answer_record(alloc: Global, refusal: Option<&str>) -> Result<String, AllocError> {
+    let Some(why) = refusal else {
+        return format!(in alloc; "ok,,,,,,\n");
+    };
+    let mut record = format!(in alloc; "refused,{why}")?;
+    for _ in why.split(',').count()..6 {
+        record.push_str(",")?;
+    }
+    record.push_str("\n")?;
+    Ok(record)
 }
 
 /// Makes an edit of a worked job on both stores.
 pub(crate) fn check_step<R: Abort + AllocGlobal>(rt: &R, step: &Step) -> Result<(), Fail> {
+    let before = text_of(rt.alloc(), step.before)?;
+    let after = text_of(rt.alloc(), step.after)?;
+    let answer = answer_record(rt.alloc(), step.refusal)?;
+    let texts = Texts {
+        before: before.as_str(),
+        answer: answer.as_str(),
+        after: after.as_str(),
+    };
     let edit = edit_of(rt.alloc(), step.edit)?;
-    let map = map_of(rt.alloc(), step.before)?;
-    check_on_halves(rt, &map, &edit, step)?;
-    check_plain(rt, &mut PlainStore { map }, &edit, step)?;
+    let map = map_of(rt.alloc(), texts.before)?;
+    check_on_halves(rt, &map, &edit, &texts)?;
+    check_plain(rt, &mut PlainStore { map }, &edit, &texts)?;
     Ok(())
 }
 
-const OK: &str = "ok,,,,,,\n";
-
 /// A refusal on a plan, which stays as it is.
-pub(crate) fn refused(before: &'static str, edit: &'static str, answer: &'static str) -> Step {
+pub(crate) fn refused(before: Plan, edit: &'static str, why: &'static str) -> Step {
     Step {
         before,
         edit,
-        answer,
+        refusal: Some(why),
         after: before,
     }
 }
 
 /// An edit that is made.
-pub(crate) fn made(before: &'static str, edit: &'static str, after: &'static str) -> Step {
+pub(crate) fn made(before: Plan, edit: &'static str, after: Plan) -> Step {
     Step {
         before,
         edit,
-        answer: OK,
+        refusal: None,
         after,
     }
 }

@@ -5,7 +5,7 @@ ghost use Rattle.cad_map.specs.Valid.{IsValid};
 ghost use Rattle.map_parts.specs.Parts.{map_of as map_that_stands};
 
 use crate::far::{far_plan, long_lot};
-use crate::plans::{ISLAND, SQUARE, edit_of, map_of};
+use crate::plans::{ISLAND, Plan, SQUARE, edit_of, map_of, text_of};
 use crate::plans_after::DIVIDED;
 use crate::plans_enclosed::WITH_FRAME;
 use cad_map::PlainMap;
@@ -55,12 +55,13 @@ fn cost_of(alloc: Global, plan: &str, edit: &str) -> Result<Cost, Fail> {
 /// Fails where the record of an edit has another weight, or where either grows with a hundred far squares more.
 fn check_far<R: Abort + AllocGlobal>(
     rt: &R,
-    plan: &str,
+    plan: Plan,
     edit: &str,
     wanted: u64,
 ) -> Result<(), Fail> {
-    let far = far_plan(rt.alloc(), plan)?;
-    let few = cost_of(rt.alloc(), plan, edit)?;
+    let near = text_of(rt.alloc(), plan)?;
+    let far = far_plan(rt.alloc(), near.as_str())?;
+    let few = cost_of(rt.alloc(), near.as_str(), edit)?;
     let many = cost_of(rt.alloc(), far.as_str(), edit)?;
     assert_eq!(rt; few.weight, wanted);
     assert_eq!(rt; many.weight, wanted);
