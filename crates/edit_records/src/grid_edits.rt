@@ -13,6 +13,7 @@ ghost use Rattle.edit_records.specs.GridLists.{AreEntries, span_of as span_of_ro
 use crate::grid_lists::{
     Span, lone_point, lone_string, point_with_strings, strings_of_chain, two_strings,
 };
+use crate::point_strings::string_at;
 use crate::shared_strings::strings_shared;
 use cad_map::{MapView, far_end, position};
 use cad_rows::{Edit, Memory, PointNo, StringNo, StringRow};
@@ -46,8 +47,8 @@ fn far_ends<M: MapView>(map: &M, point: PointNo) -> (PointNo, PointNo)
     ensures { (s t : StringOf) → by_number (strings_at (M.map map.now) point) ≡ s ∷ t ∷ []
         → result ≡ (far_end_of s point, far_end_of t point) }
 {
-    let first = map.string_with(point, 0).unwrap();
-    let second = map.string_with(point, 1).unwrap();
+    let first = string_at(map, point, 0);
+    let second = string_at(map, point, 1);
     if second.number.get() < first.number.get() {
         (far_end(second, point), far_end(first, point))
     } else {

@@ -16,6 +16,7 @@ ghost use Rattle.edit_records.specs.GridEdits.{gone_by, come_by};
 ghost use Rattle.edit_records.specs.HeldChains.{closed, rows_along};
 ghost use Rattle.edit_records.specs.GridLists.{span_of, AreEntries, IsBeside, position_by as position_by_of, span_entry, span_at};
 
+use crate::point_strings::string_at;
 use crate::record::ChainString;
 use cad_map::{MapView, position};
 use cad_rows::{Memory, PointNo, StringNo};
@@ -129,7 +130,7 @@ fn strings_by<M: MapView>(alloc: Global, map: &M, point: PointNo, at: Pt) -> Res
 {
     let mut entries = Entries::new(alloc);
     for place in 0..map.degree(point) {
-        let row = map.string_with(point, place).unwrap();
+        let row = string_at(map, point, place);
         let span = Span {
             string: row.number,
             from: row.from,

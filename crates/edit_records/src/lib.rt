@@ -6,6 +6,7 @@ mod grid;
 mod grid_edits;
 mod grid_lists;
 mod grid_records;
+mod point_strings;
 mod record;
 mod shared_strings;
 mod touched;

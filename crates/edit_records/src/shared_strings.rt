@@ -17,6 +17,7 @@ ghost use Rattle.edit_records.specs.declared.grid_lists.Span.{Span as SpanOf};
 
 use crate::grid_edits::span_of;
 use crate::grid_lists::{Span, several_strings};
+use crate::point_strings::string_at;
 use crate::touched::is_behind;
 use cad_map::{MapView, Walk, far_end, ring_count};
 use cad_rows::{Face, Memory, PointNo};
@@ -30,7 +31,7 @@ fn span_joining<M: MapView>(map: &M, from: PointNo, to: PointNo) -> Option<Span>
         → result ≡ Some (span_of_row s) }
 {
     for place in 0..map.degree(from) {
-        let row = map.string_with(from, place).unwrap();
+        let row = string_at(map, from, place);
         if far_end(row, from) == to {
             return Some(span_of(row));
         }

@@ -16,6 +16,7 @@ ghost use Rattle.cad_laws.specs.Touching.{goes_along, passes, touching};
 ghost use Rattle.cad_laws.specs.Tried.{IsTried};
 ghost use Rattle.cad_valid.specs.Near.{touched_of};
 
+use crate::point_strings::string_at;
 use cad_map::{MapView, Walk, far_end, is_face, ring_count};
 use cad_rows::{Edit, Face, Memory, ParcelNo, PointNo, StringNo, StringRow};
 use cad_valid::Touched;
@@ -70,7 +71,7 @@ pub(crate) fn faces_at<M: MapView>(
 {
     let mut faces = Vec::new(alloc);
     for place in 0..map.degree(point) {
-        let row = map.string_with(point, place).unwrap();
+        let row = string_at(map, point, place);
         faces.push(face_out(map, point, row))?;
     }
     Ok(faces)
@@ -87,7 +88,7 @@ pub(crate) fn strings_of<M: MapView>(
 {
     let mut strings = Vec::new(alloc);
     for place in 0..map.degree(point) {
-        let row = map.string_with(point, place).unwrap();
+        let row = string_at(map, point, place);
         strings.push(row.number)?;
     }
     Ok(strings)
@@ -176,7 +177,7 @@ fn far_ends<M: MapView>(alloc: Global, map: &M, point: PointNo) -> Result<Vec<Po
 {
     let mut points = Vec::new(alloc);
     for place in 0..map.degree(point) {
-        let row = map.string_with(point, place).unwrap();
+        let row = string_at(map, point, place);
         points.push(far_end(row, point))?;
     }
     Ok(points)

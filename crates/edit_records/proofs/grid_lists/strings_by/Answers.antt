@@ -1,31 +1,23 @@
-use Rattle.std.proofs.Common.{◌≤◌, ℕ, sym, ap, subst, ◌∙◌, arith, List, [], ◌∷◌, ◌++◌, take, map, length}
+use Rattle.std.proofs.Common.{◌≤◌, ℕ, sym, ap, subst, ◌∙◌, List, [], ◌∷◌, ◌++◌, take, map, length}
 use Rattle.std.specs.Prelude.{IsPermutation}
-use Rattle.std.proofs.lemmas.List.Sorted.{length_permutation, IsPermutation-map}
+use Rattle.std.proofs.lemmas.List.Sorted.{IsPermutation-map}
 use Rattle.cad_map.specs.Map.{strings_at}
-use Rattle.cad_map.proofs.CallerLemmas.{take-more, lent-some, lent-is, all-told}
+use Rattle.cad_map.proofs.CallerLemmas.{take-more, all-told}
 use Rattle.cell_grid.specs.declared.entry.Entry.{Entry}
 use Rattle.edit_records.specs.GridLists.{span_at}
 use Rattle.edit_records.proofs.GridRows.{map-last}
 use Rattle.edit_records.proofs.grid_lists.strings_by.Goals as goal
 
-pub unwrap-row-requires : goal.unwrap-row-requires
-unwrap-row-requires g c =
-    let told = c.string_with.ensures in
-    let strings = g.M.MapView.view_strings c.args.map.now c.args.point in
-    let same = length_permutation (strings_at (g.M.MapView.map c.args.map.now) c.args.point) strings told.each in
-    lent-some c.string_with.result strings c.loop-place.place told.string (omega (arith, same, c.degree-place-end.ensures, c.loop-place-test.true))
-
 pub loop-place-preserved : goal.loop-place-preserved
 loop-place-preserved g c =
     let entry = span_at (g.M.MapView.map c.args.map.now) c.args.point c.args.at in
     let strings = g.M.MapView.view_strings c.args.map.now c.args.point in
-    let row = c.unwrap-row.result.now in
-    let told = lent-is c.string_with.result c.unwrap-row.result strings c.loop-place.place c.string_with.ensures.string c.unwrap-row.ensures in
+    let row = c.string_at-row.result.now in
     record {
       strings = c.in_ok-add_span_by.ensures.strings ∙ ap (λ (es : List Entry). es ++ entry row ∷ []) c.loop-place.invariant.strings
-          ∙ sym (map-last entry (take c.loop-place.place strings) row) ∙ ap (map entry) (take-more strings c.loop-place.place row told);
+          ∙ sym (map-last entry (take c.loop-place.place strings) row) ∙ ap (map entry) (take-more strings c.loop-place.place row c.string_at-row.ensures.told);
       points = c.add_span_by.ensures.points ∙ c.loop-place.invariant.points;
-      each = λ _. c.string_with.ensures.each;
+      each = λ _. c.string_at-row.ensures.each;
     }
 
 pub returns-clause-strings : goal.returns-clause-strings

@@ -1,28 +1,20 @@
-use Rattle.std.proofs.Common.{◌≡◌, ◌≤◌, ◌≢◌, ℕ, sym, ap, subst, ◌∙◌, arith, take, length, Some, true≢false}
+use Rattle.std.proofs.Common.{◌≡◌, ◌≤◌, ◌≢◌, ℕ, sym, ap, subst, ◌∙◌, take, length, Some, true≢false}
 use Rattle.std.specs.List.{AllByRecursion}
-use Rattle.std.proofs.lemmas.List.Sorted.{length_permutation, Contains-permutation, IsPermutation-sym}
+use Rattle.std.proofs.lemmas.List.Sorted.{Contains-permutation, IsPermutation-sym}
 use Rattle.std.proofs.lemmas.Bool.{eqb-true, eq-eqb}
 use Rattle.cad_map.specs.Map.{far_end, is_end, strings_at}
-use Rattle.cad_map.proofs.CallerLemmas.{All-at_each, All-push, Contains-at, Contains-filter, Joins, filter-Contains, joins-end, joins-far, joins-far_end, take-more, lent-some, lent-is, all-told}
+use Rattle.cad_map.proofs.CallerLemmas.{All-at_each, All-push, Contains-at, Contains-filter, Joins, filter-Contains, joins-end, joins-far, joins-far_end, take-more, all-told}
 use Rattle.edit_records.specs.GridLists.{span_of}
 use Rattle.edit_records.proofs.SharedStrings.{joined-apart, leads-joins, one-between}
 use Rattle.edit_records.proofs.shared_strings.span_joining.Goals as goal
-
-pub unwrap-row-requires : goal.unwrap-row-requires
-unwrap-row-requires g c =
-    let told = c.string_with.ensures in
-    let strings = g.M.MapView.view_strings c.args.map.now c.args.from in
-    let same = length_permutation (strings_at (g.M.MapView.map c.args.map.now) c.args.from) strings told.each in
-    lent-some c.string_with.result strings c.loop-place.place told.string (omega (arith, same, c.degree-place-end.ensures, c.loop-place-test.true))
 
 pub returns-then-eq : goal.returns-then-eq
 returns-then-eq g c s there leads =
     let m = g.M.MapView.map c.args.map.now in
     let from = c.args.from in
     let strings = g.M.MapView.view_strings c.args.map.now from in
-    let row = c.unwrap-row.result.now in
-    let at = lent-is c.string_with.result c.unwrap-row.result strings c.loop-place.place c.string_with.ensures.string c.unwrap-row.ensures in
-    let among = Contains-permutation strings (strings_at m from) row (IsPermutation-sym (strings_at m from) strings c.string_with.ensures.each) (Contains-at strings c.loop-place.place row at) in
+    let row = c.string_at-row.result.now in
+    let among = Contains-permutation strings (strings_at m from) row (IsPermutation-sym (strings_at m from) strings c.string_at-row.ensures.each) (Contains-at strings c.loop-place.place row c.string_at-row.ensures.told) in
     let of_map = filter-Contains (λ r. is_end r from) m.strings row among in
     let far : far_end row from ≡ c.args.to = sym c.far_end.ensures ∙ eqb-true c.far_end.result c.args.to (sym c.eq.ensures ∙ c.if-eq.true) in
     let joins = subst (Joins row from) far (joins-far row from of_map.1) in
@@ -32,13 +24,12 @@ returns-then-eq g c s there leads =
 pub loop-place-preserved : goal.loop-place-preserved
 loop-place-preserved g c =
     let strings = g.M.MapView.view_strings c.args.map.now c.args.from in
-    let row = c.unwrap-row.result.now in
-    let at = lent-is c.string_with.result c.unwrap-row.result strings c.loop-place.place c.string_with.ensures.string c.unwrap-row.ensures in
+    let row = c.string_at-row.result.now in
     let other : far_end row c.args.from ≢ c.args.to = λ same. true≢false (sym (eq-eqb c.far_end.result c.args.to (c.far_end.ensures ∙ same)) ∙ sym c.eq.ensures ∙ c.if-eq.false) in
     record {
-      none = subst (AllByRecursion (λ s. far_end s c.args.from ≢ c.args.to)) (take-more strings c.loop-place.place row at)
+      none = subst (AllByRecursion (λ s. far_end s c.args.from ≢ c.args.to)) (take-more strings c.loop-place.place row c.string_at-row.ensures.told)
           (All-push (λ s. far_end s c.args.from ≢ c.args.to) (take c.loop-place.place strings) row c.loop-place.invariant.none other);
-      each = λ _. c.string_with.ensures.each;
+      each = λ _. c.string_at-row.ensures.each;
     }
 
 pub returns : goal.returns

@@ -1,37 +1,28 @@
 use Rattle.std.proofs.Common.{◌≤◌, ℕ, sym, subst, arith, inl, inr, List, [], ◌∷◌, ◌++◌, take, length}
 use Rattle.std.specs.List.{Contains}
 use Rattle.std.proofs.lemmas.List.Elements.{Contains-append_cases, Contains-append_left, Contains-append_right}
-use Rattle.std.proofs.lemmas.List.Sorted.{length_permutation, IsPermutation-sym, Contains-permutation}
+use Rattle.std.proofs.lemmas.List.Sorted.{IsPermutation-sym, Contains-permutation}
 use Rattle.cad_rings.specs.Cycle.{Side, sides_of}
 use Rattle.cad_rows.specs.declared.rows.StringRow.{StringRow}
 use Rattle.cad_map.specs.Map.{strings_at, far_end}
-use Rattle.cad_map.proofs.CallerLemmas.{take-more, lent-some, lent-is, all-told, Contains-at, Contains-cases, Contains-first}
+use Rattle.cad_map.proofs.CallerLemmas.{take-more, all-told, Contains-at, Contains-cases, Contains-first}
 use Rattle.edit_records.proofs.TouchedLists.{leaves-along}
 use Rattle.edit_records.proofs.touched.faces_at.Goals as goal
-
-pub unwrap-row-requires : goal.unwrap-row-requires
-unwrap-row-requires g c =
-    let told = c.string_with.ensures in
-    let strings = g.M.MapView.view_strings c.args.map.now c.args.point in
-    let same = length_permutation (strings_at (g.M.MapView.map c.args.map.now) c.args.point) strings told.each in
-    lent-some c.string_with.result strings c.loop-place.place told.string (omega (arith, same, c.degree-place-end.ensures, c.loop-place-test.true))
 
 pub face_out-requires-clause-there : goal.face_out-requires-clause-there
 face_out-requires-clause-there g c =
     let m = g.M.MapView.map c.args.map.now in
     let strings = g.M.MapView.view_strings c.args.map.now c.args.point in
-    let row = c.unwrap-row.result.now in
-    let told = lent-is c.string_with.result c.unwrap-row.result strings c.loop-place.place c.string_with.ensures.string c.unwrap-row.ensures in
-    Contains-permutation strings (strings_at m c.args.point) row (IsPermutation-sym (strings_at m c.args.point) strings c.string_with.ensures.each) (Contains-at strings c.loop-place.place row told)
+    let row = c.string_at-row.result.now in
+    Contains-permutation strings (strings_at m c.args.point) row (IsPermutation-sym (strings_at m c.args.point) strings c.string_at-row.ensures.each) (Contains-at strings c.loop-place.place row c.string_at-row.ensures.told)
 
 pub loop-place-preserved : goal.loop-place-preserved
 loop-place-preserved g c =
     let strings = g.M.MapView.view_strings c.args.map.now c.args.point in
-    let row = c.unwrap-row.result.now in
-    let told = lent-is c.string_with.result c.unwrap-row.result strings c.loop-place.place c.string_with.ensures.string c.unwrap-row.ensures in
+    let row = c.string_at-row.result.now in
     record {
       faces = λ s among b there out.
-          subst (λ l. Contains l b.face) (sym c.in_ok-push.ensures.items) (elim (Contains-append_cases (take c.loop-place.place strings) (row ∷ []) s (subst (λ (l : List StringRow). Contains l s) (sym (take-more strings c.loop-place.place row told)) among)) [
+          subst (λ l. Contains l b.face) (sym c.in_ok-push.ensures.items) (elim (Contains-append_cases (take c.loop-place.place strings) (row ∷ []) s (subst (λ (l : List StringRow). Contains l s) (sym (take-more strings c.loop-place.place row c.string_at-row.ensures.told)) among)) [
             | inl before ↦ Contains-append_left c.loop-place.faces.items (c.face_out.result ∷ []) b.face (c.loop-place.invariant.faces s before b there out)
             | inr last ↦ elim (Contains-cases row [] s last) [
               | inl same ↦ subst (λ f. Contains (c.loop-place.faces.items ++ c.face_out.result ∷ []) f) (c.face_out.ensures b there (subst (λ (r : StringRow). Contains {X = Side} (sides_of b.ring) (c.args.point, far_end r c.args.point)) (sym same) out))
@@ -39,7 +30,7 @@ loop-place-preserved g c =
               | inr none ↦ let low = none.1 in absurd (omega arith)
             ]
           ]);
-      each = λ _. c.string_with.ensures.each;
+      each = λ _. c.string_at-row.ensures.each;
     }
 
 pub returns : goal.returns

@@ -1,31 +1,23 @@
-use Rattle.std.proofs.Common.{◌≤◌, ℕ, sym, ap, subst, ◌∙◌, arith, List, [], ◌∷◌, ◌++◌, take, map, length}
+use Rattle.std.proofs.Common.{◌≤◌, ℕ, sym, ap, subst, ◌∙◌, List, [], ◌∷◌, ◌++◌, take, map, length}
 use Rattle.std.specs.List.{Contains}
-use Rattle.std.proofs.lemmas.List.Sorted.{length_permutation, Contains-permutation}
+use Rattle.std.proofs.lemmas.List.Sorted.{Contains-permutation}
 use Rattle.cad_rows.specs.declared.rows.StringRow.{StringRow}
 use Rattle.cad_map.specs.Map.{far_end, strings_at}
-use Rattle.cad_map.proofs.CallerLemmas.{take-more, lent-some, lent-is, all-told, Contains-map, map-Contains}
+use Rattle.cad_map.proofs.CallerLemmas.{take-more, all-told, Contains-map, map-Contains}
 use Rattle.edit_records.proofs.GridRows.{map-last}
 use Rattle.edit_records.proofs.touched.far_ends.Goals as goal
-
-pub unwrap-row-requires : goal.unwrap-row-requires
-unwrap-row-requires g c =
-    let told = c.string_with.ensures in
-    let strings = g.M.MapView.view_strings c.args.map.now c.args.point in
-    let same = length_permutation (strings_at (g.M.MapView.map c.args.map.now) c.args.point) strings told.each in
-    lent-some c.string_with.result strings c.loop-place.place told.string (omega (arith, same, c.degree-place-end.ensures, c.loop-place-test.true))
 
 pub loop-place-preserved : goal.loop-place-preserved
 loop-place-preserved g c =
     let strings = g.M.MapView.view_strings c.args.map.now c.args.point in
     let far : StringRow → ℕ = λ s. far_end s c.args.point in
-    let row = c.unwrap-row.result.now in
-    let told = lent-is c.string_with.result c.unwrap-row.result strings c.loop-place.place c.string_with.ensures.string c.unwrap-row.ensures in
+    let row = c.string_at-row.result.now in
     record {
       points = c.in_ok-push.ensures.items ∙ ap (λ (p : ℕ). c.loop-place.points.items ++ p ∷ []) c.far_end.ensures
           ∙ ap (λ (l : List ℕ). l ++ far row ∷ []) c.loop-place.invariant.points
           ∙ sym (map-last far (take c.loop-place.place strings) row)
-          ∙ ap (map far) (take-more strings c.loop-place.place row told);
-      each = λ _. c.string_with.ensures.each;
+          ∙ ap (map far) (take-more strings c.loop-place.place row c.string_at-row.ensures.told);
+      each = λ _. c.string_at-row.ensures.each;
     }
 
 pub returns : goal.returns
