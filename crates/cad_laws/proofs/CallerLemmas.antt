@@ -17,6 +17,7 @@ pub use Rattle.cad_laws.proofs.TouchedAfter.{touched-after}
 pub use Rattle.cad_laws.proofs.CornersElsewhere.{corners-parted, corners-island, corners-joined, to-point}
 -- rows and positions where one row comes, goes or changes, and lists that a test leaves empty
 pub use Rattle.cad_laws.proofs.Elsewhere.{same-pushed, same-without, same-with_row, own-with_row, filter-none}
+pub use Rattle.cad_laws.proofs.ChangedRows.{if-changed, found-own}
 pub use Rattle.cad_laws.proofs.TouchedRows.{same-position}
 -- what the halves of a table go on to
 pub use Rattle.cad_laws.proofs.TablesParted.{corner_of, next-side, goes-on_parted, goes-on_whole, goes-on_with, goes-on_without}

@@ -15,18 +15,19 @@ use Rattle.cad_rows.specs.declared.rows.SourceRow.{SourceRow}
 use Rattle.cad_rows.specs.declared.rows.StringRow.{StringRow}
 use Rattle.cad_map.specs.declared.boundary.Boundary.{Boundary}
 use Rattle.cad_map.specs.Asked.{GivesInRange}
-use Rattle.cad_map.specs.Changes.{divide_at, change_point, change_parcel, change_string, change_sources, split, join, merge, by_number, string_joining, with_boundaries, with_new_parcel}
+use Rattle.cad_map.specs.Changes.{with_point, with_string, with_parcel, divide_at, change_point, change_parcel, change_string, change_sources, split, join, merge, by_number, string_joining, with_boundaries, with_new_parcel}
 use Rattle.cad_map.specs.Chain.{start_of, next_of, end_of, last_but_one, strings_along, chosen_corner}
 use Rattle.cad_map.specs.Division.{boundaries_enclosed}
 use Rattle.cad_map.specs.Effects.{after}
 use Rattle.cad_map.specs.Merger.{is_shared}
 use Rattle.cad_map.specs.Map.{Map, point_of, parcel_of, string_of, strings_at, is_end, degree}
 use Rattle.cad_map.specs.Refusals.{first_refusal, sources_at}
-use Rattle.cad_map.specs.Table.{row_with, without_row, with_row}
+use Rattle.cad_map.specs.Table.{row_with, without_row}
 use Rattle.cad_map.specs.Valid.{IsValid}
-use Rattle.cad_map.proofs.CallerLemmas.{allowed, free-point, free-source, free-split, free-join, two-joined, there-one, can-divide, can-enclose, can-merge, Contains-cases, Contains-map, found-number, map-with_row, All-Contains, numbers-strings_along, MeetAt, meet-at, length-push}
+use Rattle.cad_map.proofs.CallerLemmas.{allowed, free-point, free-source, free-split, free-join, two-joined, there-one, can-divide, can-enclose, can-merge, Contains-cases, Contains-map, found-number, All-Contains, numbers-strings_along, MeetAt, meet-at, length-push}
 use Rattle.cad_laws.specs.Counts.{rows_by, sources_by, shared_strings, sources_of_strings}
-use Rattle.cad_laws.proofs.CountedRows.{Turn, Turns, turns, turned, turned-put, turned-out, turned-same, row-out, row-turned, filter-alike}
+use Rattle.cad_laws.proofs.ChangedRows.{if-changed}
+use Rattle.cad_laws.proofs.CountedRows.{Turn, Turns, turns, turned, turned-put, turned-out, turned-same, turned-in_place, row-out, row-turned, filter-alike}
 use Rattle.cad_laws.proofs.NamedParcels.{of-parcels}
 
 -- a list of one
@@ -55,44 +56,26 @@ module _ (m : Map) (v : IsValid m) where
   unturned : Turns m m 0 0
   unturned = turns m m [] [] [] [] [] [] [] [] same-points same-strings same-parcels same-sources
 
-  changed-point : (n : ℕ) (change : PointRow → PointRow) → Turns m (change_point n change m) 0 0
-  changed-point n change = by (point_of m n) refl
-    where
-      by : (o : Option PointRow) → point_of m n ≡ o → Turns m (change_point n change m) 0 0
-      by None is = rw is unturned
-      by (Some r) is =
-          let news = with_row (λ (r : PointRow). r.number) (change r) m.points in
-          rw is (turns m (record m { points = news }) [] [] [] [] [] [] [] []
-          (turned-same (λ r. r.number) m.points v.sound.v1.points.distinct news
-          (map-with_row (λ r. r.number) (change r) m.points))
-          same-strings same-parcels same-sources)
+  abbrev Unturned : Map → Type 0
+  Unturned new = Turns m new 0 0
 
-  changed-string : (n : ℕ) (change : StringRow → StringRow)
-      → Turns m (change_string n change m) 0 0
-  changed-string n change = by (string_of m n) refl
-    where
-      by : (o : Option StringRow) → string_of m n ≡ o → Turns m (change_string n change m) 0 0
-      by None is = rw is unturned
-      by (Some r) is =
-          let news = with_row (λ (r : StringRow). r.number) (change r) m.strings in
-          rw is (turns m (record m { strings = news }) [] [] [] [] [] [] [] [] same-points
-          (turned-same (λ r. r.number) m.strings v.sound.v1.strings.distinct news
-          (map-with_row (λ r. r.number) (change r) m.strings))
-          same-parcels same-sources)
+  changed-point : (n : ℕ) (change : PointRow → PointRow) → Unturned (change_point n change m)
+  changed-point n change = if-changed Unturned m (point_of m n) _ unturned (λ r is.
+      turns m (with_point m (change r)) [] [] [] [] [] [] [] []
+      (turned-in_place (λ r. r.number) m.points v.sound.v1.points.distinct (change r))
+      same-strings same-parcels same-sources)
 
-  changed-parcel : (n : ℕ) (change : ParcelRow → ParcelRow)
-      → Turns m (change_parcel n change m) 0 0
-  changed-parcel n change = by (parcel_of m n) refl
-    where
-      by : (o : Option ParcelRow) → parcel_of m n ≡ o → Turns m (change_parcel n change m) 0 0
-      by None is = rw is unturned
-      by (Some r) is =
-          let news = with_row (λ (r : ParcelRow). r.number) (change r) m.parcels in
-          rw is (turns m (record m { parcels = news }) [] [] [] [] [] [] [] [] same-points
-          same-strings
-          (turned-same (λ r. r.number) m.parcels v.sound.v1.parcels.distinct news
-          (map-with_row (λ r. r.number) (change r) m.parcels))
-          same-sources)
+  changed-string : (n : ℕ) (change : StringRow → StringRow) → Unturned (change_string n change m)
+  changed-string n change = if-changed Unturned m (string_of m n) _ unturned (λ r is.
+      turns m (with_string m (change r)) [] [] [] [] [] [] [] [] same-points
+      (turned-in_place (λ r. r.number) m.strings v.sound.v1.strings.distinct (change r))
+      same-parcels same-sources)
+
+  changed-parcel : (n : ℕ) (change : ParcelRow → ParcelRow) → Unturned (change_parcel n change m)
+  changed-parcel n change = if-changed Unturned m (parcel_of m n) _ unturned (λ r is.
+      turns m (with_parcel m (change r)) [] [] [] [] [] [] [] [] same-points same-strings
+      (turned-in_place (λ r. r.number) m.parcels v.sound.v1.parcels.distinct (change r))
+      same-sources)
 
   changed-sources : (i : Item) (change : List ℕ → List ℕ)
       → Turns m (change_sources i change m) 0 0

@@ -13,9 +13,9 @@ use Rattle.cad_rows.specs.declared.rows.ParcelRow.{ParcelRow}
 use Rattle.cad_rows.specs.declared.rows.SourceRow.{SourceRow}
 use Rattle.cad_map.specs.Costs.{rows_changed, sources_removed}
 use Rattle.cad_map.specs.Map.{Map}
-use Rattle.cad_map.specs.Table.{row_with, without_row}
+use Rattle.cad_map.specs.Table.{row_with, without_row, with_row}
 use Rattle.cad_map.specs.Valid.{EachPair}
-use Rattle.cad_map.proofs.CallerLemmas.{Contains-cases, Contains-first, Contains-later, Contains-map, filter-Contains, filter-append, All-Contains, none-filter}
+use Rattle.cad_map.proofs.CallerLemmas.{Contains-cases, Contains-first, Contains-later, Contains-map, filter-Contains, filter-append, All-Contains, none-filter, map-with_row}
 use Rattle.cad_laws.proofs.Elsewhere.{filter-none}
 
 -- ---- Tests of the elements of one list
@@ -229,6 +229,10 @@ module _ {R : Type 0} (number : R → ℕ) where
       gains = filter-none (λ r. not (there (number r) rows)) news
           (λ r h. ap not (sym (there-alike (number r) news rows same) ∙ there-in news r h));
     }
+
+    -- as one row does
+    pub turned-in_place : (row : R) → Turn rows (with_row number row rows) [] []
+    turned-in_place row = turned-same (with_row number row rows) (map-with_row number row rows)
 
     -- the row of one number goes
     pub row-out : (n : ℕ) (row : R) → row_with number n rows ≡ Some row

@@ -14,6 +14,7 @@ pub mod SplitCorners
 pub mod SplitAt
 pub mod ApartHalves
 pub mod CallerLemmas
+pub mod ChangedRows
 pub mod Elsewhere
 pub mod StandsElsewhere
 pub mod CornersElsewhere

@@ -214,32 +214,24 @@ module _ (a : ℕ) (xs : List ℕ) (b : ℕ) (ys inner : List ℕ) (rest : List 
     | inr other ↦ inr (Contains-append_right one rest c other)
   ]
 
+  -- of two corners one has the chain behind it and one before it
+  two-on : (x y : Corner) → Contains (both_ways chain) (side_behind x)
+      → Contains (both_ways chain) (side_before y)
+      → (c : Corner) → Contains (x ∷ y ∷ []) c → IsOn chain c
+  two-on x y behind before c h = elim (Contains-cases x (y ∷ []) c h) [
+    | inl is ↦ inr (subst (λ (d : Corner). Contains (both_ways chain) (side_behind d)) is behind)
+    | inr later ↦ elim (Contains-cases y [] c later) [
+      | inl is ↦ inl (subst (λ (d : Corner). Contains (both_ways chain) (side_before d)) is before)
+      | inr none ↦ absurd (no_element c none)
+    ]
+  ]
+
   -- what comes has a side of the chain
   fresh-on : (c : Corner) → Contains fresh c → IsOn chain c
   fresh-on c h = elim (Contains-append_cases (parted_by w at_a) (parted_by v at_b ++ both) c h) [
-    | inl here ↦
-        elim (Contains-cases (corner (last_of b ys) a w)
-        (corner w a (first_of xs b) ∷ []) c here) [
-          | inl is ↦
-              inr (subst (λ (d : Corner). Contains (both_ways chain) (side_behind d)) is start.0)
-          | inr later ↦ elim (Contains-cases (corner w a (first_of xs b)) [] c later) [
-            | inl is ↦
-                inl (subst (λ (d : Corner). Contains (both_ways chain) (side_before d)) is start.1)
-            | inr none ↦ absurd (no_element c none)
-          ]
-        ]
+    | inl here ↦ two-on (corner (last_of b ys) a w) (corner w a (first_of xs b)) start.0 start.1 c here
     | inr k ↦ elim (Contains-append_cases (parted_by v at_b) both c k) [
-      | inl here ↦
-          elim (Contains-cases (corner (last_of a xs) b v)
-          (corner v b (first_of ys a) ∷ []) c here) [
-            | inl is ↦
-                inr (subst (λ (d : Corner). Contains (both_ways chain) (side_behind d)) is end.1)
-            | inr later ↦ elim (Contains-cases (corner v b (first_of ys a)) [] c later) [
-              | inl is ↦
-                  inl (subst (λ (d : Corner). Contains (both_ways chain) (side_before d)) is end.0)
-              | inr none ↦ absurd (no_element c none)
-            ]
-          ]
+      | inl here ↦ two-on (corner (last_of a xs) b v) (corner v b (first_of ys a)) end.1 end.0 c here
       | inr k ↦
           elim (Contains-append_cases (between a inner b) (between b (reverse inner) a) c k) [
             | inl there ↦

@@ -252,23 +252,21 @@ module _ (m : Map) (valid : IsValid m) (row : StringRow) (there : Contains m.str
   same-either true = refl
   same-either false = refl
 
-  after-cases : (v q : ℕ) → AlongIt (v, q) ⊎ (after0 v q ≡ q)
-  after-cases v q = by (is_side (f, t) (v, q)) refl (is_side (t, f) (v, q)) refl
+  -- the side is the string's, or neither test says so
+  along-or : (u : Side) (P : Type 0)
+      → (is_side (f, t) u ≡ false → is_side (t, f) u ≡ false → P) → AlongIt u ⊎ P
+  along-or u P other = by (is_side (f, t) u) refl (is_side (t, f) u) refl
     where
-      by : (a : Bool) → is_side (f, t) (v, q) ≡ a → (b : Bool) → is_side (t, f) (v, q) ≡ b
-          → AlongIt (v, q) ⊎ (after0 v q ≡ q)
-      by true e b d = inl (inl (sym (is_side-same (f, t) (v, q) e)))
-      by false e true d = inl (inr (sym (is_side-same (t, f) (v, q) d)))
-      by false e false d = inr (simp (e, d) refl)
+      by : (a : Bool) → is_side (f, t) u ≡ a → (b : Bool) → is_side (t, f) u ≡ b → AlongIt u ⊎ P
+      by true e b d = inl (inl (sym (is_side-same (f, t) u e)))
+      by false e true d = inl (inr (sym (is_side-same (t, f) u d)))
+      by false e false d = inr (other e d)
+
+  after-cases : (v q : ℕ) → AlongIt (v, q) ⊎ (after0 v q ≡ q)
+  after-cases v q = along-or (v, q) (after0 v q ≡ q) (λ e d. simp (e, d) refl)
 
   before-cases : (o v : ℕ) → AlongIt (o, v) ⊎ (before0 o v ≡ o)
-  before-cases o v = by (is_side (f, t) (o, v)) refl (is_side (t, f) (o, v)) refl
-    where
-      by : (a : Bool) → is_side (f, t) (o, v) ≡ a → (b : Bool) → is_side (t, f) (o, v) ≡ b
-          → AlongIt (o, v) ⊎ (before0 o v ≡ o)
-      by true e b d = inl (inl (sym (is_side-same (f, t) (o, v) e)))
-      by false e true d = inl (inr (sym (is_side-same (t, f) (o, v) d)))
-      by false e false d = inr (simp (e, d) refl)
+  before-cases o v = along-or (o, v) (before0 o v ≡ o) (λ e d. simp (e, d) refl)
 
   before-along : before0 f t ≡ p
   before-along = let e = is_side-refl (f, t) in simp e (same-either (is_side (t, f) (p, t)))

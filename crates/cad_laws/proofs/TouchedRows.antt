@@ -24,6 +24,7 @@ use Rattle.cad_map.specs.Valid.{IsValid}
 use Rattle.cad_map.proofs.CallerLemmas.{allowed, free-dropped, Contains-first, Contains-map, All-at_each, All-from_each, map-Contains, is_nothing, no_end, differs, found-number, found-with_row, map-with_row-same}
 use Rattle.cad_map.proofs.CallerLemmas as maps
 use Rattle.cad_laws.specs.Touching.{touching, touched_by}
+use Rattle.cad_laws.proofs.ChangedRows.{if-changed, found-own}
 use Rattle.cad_laws.proofs.Elsewhere.{found-pushed, same-pushed, same-without, in-without, same-with_row, own-with_row}
 use Rattle.cad_laws.proofs.StandsElsewhere.{KeepsPoints, stands-elsewhere}
 
@@ -143,62 +144,44 @@ same-face m n same (Parcel k) known =
     ∙ known
 
 module _ (m : Map) (valid : IsValid m) where
-  untouched : IsTouched m m (touching [] [] [])
+  abbrev Untouched : Map → Type 0
+  Untouched new = IsTouched m new (touching [] [] [])
+
+  untouched : Untouched m
   untouched =
       nothing-touched m m (λ q. refl) (λ q h. h) refl refl (λ f h. h)
 
   -- a point as a change of its sources leaves it
   untouched-point : (n : ℕ) (change : List ℕ → List ℕ)
-      → IsTouched m (change_point n (λ r. record r { sources = change r.sources }) m)
-      (touching [] [] [])
-  untouched-point n change = by (point_of m n) refl
-    where
-      by : (o : Option PointRow) → point_of m n ≡ o
-          → IsTouched m (change_point n (λ r. record r { sources = change r.sources }) m)
-          (touching [] [] [])
-      by None is = rw is untouched
-      by (Some r) is =
-          let new : PointRow = record r { sources = change r.sources } in
-          let number = found-number (λ (q : PointRow). q.number) n m.points r is in
-          let found = ap (point_of m) number ∙ is in
-          rw is (nothing-touched m (with_point m new) (same-position m r new found refl)
-          (λ q known. sym (found-with_row (λ (q : PointRow). q.number) q new m.points) ∙ known)
-          refl refl (same-face m (with_point m new) refl))
+      → Untouched (change_point n (λ r. record r { sources = change r.sources }) m)
+  untouched-point n change = if-changed Untouched m (point_of m n) _ untouched (λ r is.
+      let new : PointRow = record r { sources = change r.sources } in
+      let found = found-own (λ (q : PointRow). q.number) n m.points r is in
+      nothing-touched m (with_point m new) (same-position m r new found refl)
+      (λ q known. sym (found-with_row (λ (q : PointRow). q.number) q new m.points) ∙ known)
+      refl refl (same-face m (with_point m new) refl))
 
   untouched-string : (n : ℕ) (change : List ℕ → List ℕ)
-      → IsTouched m (change_string n (λ r. record r { sources = change r.sources }) m)
-      (touching [] [] [])
-  untouched-string n change = by (string_of m n) refl
-    where
-      by : (o : Option StringRow) → string_of m n ≡ o
-          → IsTouched m (change_string n (λ r. record r { sources = change r.sources }) m)
-          (touching [] [] [])
-      by None is = rw is untouched
-      by (Some r) is =
-          let new : StringRow = record r { sources = change r.sources } in
-          let number = found-number (λ (q : StringRow). q.number) n m.strings r is in
-          let found = ap (string_of m) number ∙ is in
-          rw is (nothing-touched m (with_string m new) (λ q. refl) (λ q h. h)
-          (map-with_row-same (λ (q : StringRow). q.number) ident new r m.strings
-          valid.sound.v1.strings.distinct found refl) refl
-          (same-face m (with_string m new) refl))
+      → Untouched (change_string n (λ r. record r { sources = change r.sources }) m)
+  untouched-string n change = if-changed Untouched m (string_of m n) _ untouched (λ r is.
+      let number = λ (q : StringRow). q.number in
+      let new : StringRow = record r { sources = change r.sources } in
+      nothing-touched m (with_string m new) (λ q. refl) (λ q h. h)
+      (map-with_row-same number ident new r m.strings
+      valid.sound.v1.strings.distinct (found-own number n m.strings r is) refl) refl
+      (same-face m (with_string m new) refl))
 
   untouched-parcel : (n : ℕ) (change : ParcelRow → ParcelRow)
-      → IsTouched m (change_parcel n change m) (touching [] [] [])
-  untouched-parcel n change = by (parcel_of m n) refl
+      → Untouched (change_parcel n change m)
+  untouched-parcel n change = if-changed Untouched m (parcel_of m n) _ untouched (λ r is.
+      let new = change r in
+      nothing-touched m (with_parcel m new) (λ q. refl) (λ q h. h) refl refl (there new))
     where
-      by : (o : Option ParcelRow) → parcel_of m n ≡ o
-          → IsTouched m (change_parcel n change m) (touching [] [] [])
-      by None is = rw is untouched
-      by (Some r) is =
-          let new = change r in
-          rw is (nothing-touched m (with_parcel m new) (λ q. refl) (λ q h. h) refl refl (there new))
-        where
-          there : (new : ParcelRow) (f : Face) → IsTrue (has_face (with_parcel m new) f)
-              → IsTrue (has_face m f)
-          there new Outside known = refl
-          there new (Parcel k) known =
-              sym (found-with_row (λ (q : ParcelRow). q.number) k new m.parcels) ∙ known
+      there : (new : ParcelRow) (f : Face) → IsTrue (has_face (with_parcel m new) f)
+          → IsTrue (has_face m f)
+      there new Outside known = refl
+      there new (Parcel k) known =
+          sym (found-with_row (λ (q : ParcelRow). q.number) k new m.parcels) ∙ known
 
   pub untouched-sources : (i : Item) (change : List ℕ → List ℕ)
       → IsTouched m (change_sources i change m) (touching [] [] [])

@@ -28,7 +28,7 @@ use Rattle.cell_grid.specs.declared.entry.Entry.{Entry}
 use Rattle.cell_grid.specs.Grid.{entry_of}
 use Rattle.cell_grid.specs.Together.{Listed}
 use Rattle.cad_laws.specs.Tried.{IsTried}
-use Rattle.cad_laws.proofs.CallerLemmas.{same-pushed, same-without, same-with_row, own-with_row, same-position, map-map, map-same}
+use Rattle.cad_laws.proofs.CallerLemmas.{if-changed, found-own, same-pushed, same-without, same-with_row, own-with_row, same-position, map-map, map-same}
 use Rattle.edit_records.specs.Gridded.{string_entry, point_entry, string_entries, point_entries}
 use Rattle.edit_records.specs.Exchanged.{IsExchange}
 use Rattle.edit_records.specs.GridEdits.{gone_by, come_by}
@@ -107,42 +107,32 @@ module _ (m : Map) (v : IsValid m) where
 
   -- ---- Sources and labels
 
-  unchanged : IsExchange m nothing nothing m
+  abbrev Unchanged : Map → Type 0
+  Unchanged new = IsExchange m nothing nothing new
+
+  unchanged : Unchanged m
   unchanged = exchange m [] [] [] [] (strings-stay m refl (λ s h. refl)) (points-stay m refl)
 
-  point-changed : (n : ℕ) (change : List ℕ → List ℕ) → IsExchange m nothing nothing (change_point n (λ r. record r { sources = change r.sources }) m)
-  point-changed n change = by (point_of m n) refl
-    where
-      by : (o : Option PointRow) → point_of m n ≡ o → IsExchange m nothing nothing (change_point n (λ r. record r { sources = change r.sources }) m)
-      by None is = rw is unchanged
-      by (Some r) is =
-          let row : PointRow = record r { sources = change r.sources } in
-          let found = ap (point_of m) (found-number of_point n m.points r is) ∙ is in
-          let at = same-position m r row found refl in
-          rw is (exchange (with_point m row) [] [] [] [] (strings-stay (with_point m row) refl (λ s h. laid (with_point m row) s (at s.from) (at s.to)))
-          (points-stay (with_point m row) (map-with_row-same of_point point_entry row r m.points v.sound.v1.points.distinct found refl)))
+  point-changed : (n : ℕ) (change : List ℕ → List ℕ) → Unchanged (change_point n (λ r. record r { sources = change r.sources }) m)
+  point-changed n change = if-changed Unchanged m (point_of m n) _ unchanged (λ r is.
+      let row : PointRow = record r { sources = change r.sources } in
+      let found = found-own of_point n m.points r is in
+      let at = same-position m r row found refl in
+      exchange (with_point m row) [] [] [] [] (strings-stay (with_point m row) refl (λ s h. laid (with_point m row) s (at s.from) (at s.to)))
+      (points-stay (with_point m row) (map-with_row-same of_point point_entry row r m.points v.sound.v1.points.distinct found refl)))
 
-  string-changed : (n : ℕ) (change : List ℕ → List ℕ) → IsExchange m nothing nothing (change_string n (λ r. record r { sources = change r.sources }) m)
-  string-changed n change = by (string_of m n) refl
-    where
-      by : (o : Option StringRow) → string_of m n ≡ o → IsExchange m nothing nothing (change_string n (λ r. record r { sources = change r.sources }) m)
-      by None is = rw is unchanged
-      by (Some r) is =
-          let row : StringRow = record r { sources = change r.sources } in
-          let found = ap (string_of m) (found-number of_string n m.strings r is) ∙ is in
-          let new : Map = record m { strings = with_row of_string row m.strings } in
-          rw is (exchange new [] [] [] []
-          (none-between (string_entries m) (string_entries new) (map-with_row-same of_string (string_entry m) row r m.strings v.sound.v1.strings.distinct found refl))
-          (points-stay new refl))
+  string-changed : (n : ℕ) (change : List ℕ → List ℕ) → Unchanged (change_string n (λ r. record r { sources = change r.sources }) m)
+  string-changed n change = if-changed Unchanged m (string_of m n) _ unchanged (λ r is.
+      let row : StringRow = record r { sources = change r.sources } in
+      let new : Map = record m { strings = with_row of_string row m.strings } in
+      exchange new [] [] [] []
+      (none-between (string_entries m) (string_entries new) (map-with_row-same of_string (string_entry m) row r m.strings v.sound.v1.strings.distinct (found-own of_string n m.strings r is) refl))
+      (points-stay new refl))
 
-  parcel-changed : (n : ℕ) (change : ParcelRow → ParcelRow) → IsExchange m nothing nothing (change_parcel n change m)
-  parcel-changed n change = by (parcel_of m n) refl
-    where
-      by : (o : Option ParcelRow) → parcel_of m n ≡ o → IsExchange m nothing nothing (change_parcel n change m)
-      by None is = rw is unchanged
-      by (Some r) is =
-          let new : Map = record m { parcels = with_row (λ (q : ParcelRow). q.number) (change r) m.parcels } in
-          rw is (exchange new [] [] [] [] (strings-stay new refl (λ s h. refl)) (points-stay new refl))
+  parcel-changed : (n : ℕ) (change : ParcelRow → ParcelRow) → Unchanged (change_parcel n change m)
+  parcel-changed n change = if-changed Unchanged m (parcel_of m n) _ unchanged (λ r is.
+      let new : Map = record m { parcels = with_row (λ (q : ParcelRow). q.number) (change r) m.parcels } in
+      exchange new [] [] [] [] (strings-stay new refl (λ s h. refl)) (points-stay new refl))
 
   sources-changed : (i : Item) (change : List ℕ → List ℕ) → IsExchange m nothing nothing (change_sources i change m)
   sources-changed (item.Point n) change = point-changed n change
