@@ -34,20 +34,19 @@ loop-place-preserved g c =
       points = c.add_string.ensures.points ∙ c.loop-place.invariant.points;
     }
 
+all : (g : _) (c : goal.After-loop-place g) → c.loop-place.entries.strings
+    ≡ map (string_entry (g.M.MapView.map c.args.map.now)) (strings_along [] c.args.strings.now (c.args.chain.now ++ start_of c.args.chain.now ∷ []))
+all g c =
+    c.loop-place.invariant.strings
+    ∙ ap (λ (l : List ℕ). map (string_entry (g.M.MapView.map c.args.map.now)) (strings_along [] l (c.args.chain.now ++ start_of c.args.chain.now ∷ [])))
+    (take_all c.loop-place.place c.args.strings.now c.loop-place-test.false)
+
 pub returns-clause-divides : goal.returns-clause-divides
 returns-clause-divides g c = λ b face parcel label source beside.
-    let m = g.M.MapView.map c.args.map.now in
-    let chain = c.args.chain.now in
-    let strings = c.args.strings.now in
-    divide-come m b face chain strings parcel label source c.loop-place.entries
-    (c.loop-place.invariant.strings ∙ ap (λ (l : List ℕ). map (string_entry m) (strings_along [] l (chain ++ start_of chain ∷ []))) (take_all c.loop-place.place strings c.loop-place-test.false))
-    c.loop-place.invariant.points beside
+    divide-come (g.M.MapView.map c.args.map.now) b face c.args.chain.now c.args.strings.now parcel label source c.loop-place.entries
+    (all g c) c.loop-place.invariant.points beside
 
 pub returns-clause-encloses : goal.returns-clause-encloses
 returns-clause-encloses g c = λ b face parcel label source beside.
-    let m = g.M.MapView.map c.args.map.now in
-    let chain = c.args.chain.now in
-    let strings = c.args.strings.now in
-    enclose-come m b face chain strings parcel label source c.loop-place.entries
-    (c.loop-place.invariant.strings ∙ ap (λ (l : List ℕ). map (string_entry m) (strings_along [] l (chain ++ start_of chain ∷ []))) (take_all c.loop-place.place strings c.loop-place-test.false))
-    c.loop-place.invariant.points beside
+    enclose-come (g.M.MapView.map c.args.map.now) b face c.args.chain.now c.args.strings.now parcel label source c.loop-place.entries
+    (all g c) c.loop-place.invariant.points beside
