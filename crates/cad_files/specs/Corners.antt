@@ -66,6 +66,11 @@ pub record IsFirstMet (sides : List PlanSide) (k : ℕ) : Type 0 where
 abbrev pub key_of : Side → ℕ
 key_of s = s.0 * 2 ^ 32 + s.1
 
+-- two points of a side: where it leads from and to, or where it ends and what follows
+abbrev pub two_points_of : Bool → PlanSide → Side
+two_points_of false s = (s.from, s.to)
+two_points_of true s = (s.to, s.after)
+
 -- the lesser of two places, where they are there
 abbrev pub lesser_of : Option ℕ → Option ℕ → Option ℕ
 lesser_of None b = b

@@ -1,12 +1,12 @@
 -- What a list of records is as a plan.
-use Rattle.std.specs.Prelude.{◌≡◌, ◌≢◌, ◌≤◌, ℕ, ◌+◌, ◌&&◌, nat_le, nat_lt, Bool, true, false, List, [], ◌∷◌, ◌++◌, length, fold, Option, Some, None, option_map, option_and_then, if◌then◌else◌, ℤ, pos, neg_ℤ, int_le}
+use Rattle.std.specs.Prelude.{◌≡◌, ◌≢◌, ◌≤◌, ℕ, ◌+◌, ◌&&◌, nat_le, nat_lt, Bool, true, false, List, [], ◌∷◌, ◌++◌, length, fold, Option, Some, None, option_map, option_and_then, if◌then◌else◌, ℤ, pos, neg_ℤ, int_le, Result, OnOk, IfErr}
 use Rattle.geo_exact.specs.Position.{coordinate_limit}
 use Rattle.cad_rows.specs.Limits.{row_limit, string_limit, source_limit}
 use Rattle.cad_rows.specs.declared.rows.SourceRow.{SourceRow}
 use Rattle.cad_files.specs.Record.{seven_of}
 use Rattle.cad_files.specs.PlanRecords.{version_of, plan_of_fields}
 use Rattle.cad_files.specs.Input.{BeginsWith, IsWhole, AreTaken}
-use Rattle.cad_files.specs.Rows.{Rows, no_rows, plan_limit}
+use Rattle.cad_files.specs.Rows.{Rows, no_rows, plan_limit, HasOneMore}
 use Rattle.cad_files.specs.declared.plan_records.Version.{Version}
 use Rattle.cad_files.specs.declared.plan_records.Version.TheVariants.{One, Two}
 use Rattle.cad_files.specs.declared.plan_records.PointRecord.{PointRecord}
@@ -149,6 +149,17 @@ pub data HasPlanFault (text : List ℕ) : PlanFault → Type 0 where
   of_end : (rows : List (List (List ℕ))) → AreTaken text rows → IsWhole text rows
       → length rows ≤ plan_limit + 1 → is_unfinished (plan_of rows) ≡ true
       → HasPlanFault text faults.NoOpen
+
+-- a row was taken, as the definition has it, or it has none
+pub record IsTaken (result : Result Unit PlanFault) (old new : Rows) (taken : Option Rows) : Type 0 where
+  -- the rows are those that it makes
+  pub ok : OnOk result (taken ≡ Some new)
+  -- but for memory a row is refused where it makes none
+  pub full : IfErr result (λ fault. fault ≢ faults.Memory → taken ≡ None)
+  -- for nothing but a limit
+  pub err : IfErr result (λ fault. fault ≢ faults.Memory → fault ≡ faults.Full)
+  -- and a row more was taken
+  pub grows : OnOk result (HasOneMore old new)
 
 -- the same, where neither the reader nor memory failed
 abbrev pub IsPlanFault : List ℕ → PlanFault → Type 0

@@ -1,5 +1,5 @@
 -- The rows of a plan, in the order of its records.
-use Rattle.std.specs.Prelude.{◌≡◌, ◌≤◌, ◌<◌, ℕ, ◌+◌, ◌*◌, List, [], length, All, None}
+use Rattle.std.specs.Prelude.{◌≡◌, ◌≤◌, ◌<◌, ℕ, ◌+◌, ◌*◌, List, [], length, All, None, Result, OnOk, OnErr}
 use Rattle.geo_exact.specs.Position.{OnTheMap}
 use Rattle.cad_rows.specs.Limits.{IsNumber, IsLabel, row_limit, string_limit, source_limit}
 use Rattle.cad_rows.specs.declared.names.Face.{Face}
@@ -33,6 +33,15 @@ plan_limit = row_limit * 4 + string_limit
 pub record HasOneMore (old new : Rows) : Type 0 where
   pub count : row_count new ≡ row_count old + 1
   pub room : row_count old < plan_limit
+
+-- a row was put to these, or nothing has changed
+pub record IsPut {E : Type 0} (result : Result Unit E) (old new put : Rows) : Type 0 where
+  -- the rows with it
+  pub ok : OnOk result (new ≡ put)
+  -- there was no memory
+  pub err : OnErr result (new ≡ old)
+  -- it is one row more
+  pub more : OnOk result (HasOneMore old new)
 
 -- the sources of an item: not too many, and none twice
 pub record IsSourceList (sources : List ℕ) : Type 0 where

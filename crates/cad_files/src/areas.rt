@@ -1,8 +1,8 @@
 //! The text of the areas of a map's parcels.
-ghost use Rattle.std.specs.Prelude.{◌≡◌, ◌≤◌, ◌<◌, ◌^◌, ◌++◌, OnOk, IfOk, map, unsigned_abs};
+ghost use Rattle.std.specs.Prelude.{◌≡◌, ◌≤◌, ◌<◌, ◌^◌, ◌/◌, ◌++◌, codes, decimal, OnOk, IfOk, map, unsigned_abs};
 ghost use Rattle.cad_map.specs.Valid.{IsValid};
 ghost use Rattle.cad_files.specs.Texts.{HasAppended, record_text, text_of};
-ghost use Rattle.cad_files.specs.Reports.{hundredths_of, area_field, two_digits, area_record, area_record_in, area_records};
+ghost use Rattle.cad_files.specs.Reports.{hundredths_of, area_field, sign_field, two_digits, area_record, area_record_in, area_records};
 
 use crate::writing::{finished, write_record, writer as new_writer};
 use cad_map::{MapView, sum_of};
@@ -29,20 +29,30 @@ fn push_two_digits(text: &mut Vec<u8>, number: u8) -> Result<(), Memory>
     Ok(())
 }
 
+/// The beginning of a decimal text of so many parts, where a whole has `parts` of them: the sign, the wholes and the dot.
+/// `Err` where memory runs out.
+pub fn begun_decimal(alloc: Global, value: i128, parts: u128) -> Result<Vec<u8>, Memory>
+    requires { 0 < parts }
+    ensures { IfOk result (λ text. text.items
+        ≡ sign_field value ++ (decimal (unsigned_abs value / parts) ++ codes ".")) }
+{
+    let mut text = Vec::new(alloc);
+    if value < 0 {
+        text.push(b'-')?;
+    }
+    let whole = (value.unsigned_abs() / parts).to_string(alloc)?;
+    text.extend_from_slice(whole.as_bytes())?;
+    text.push(b'.')?;
+    Ok(text)
+}
+
 /// The field of so many hundredths of a square metre, in square metres. `Err` where memory runs out.
 #[tactic(auto, unfolding(crate::specs::Reports::area_field))]
 pub fn area_text_of(alloc: Global, h: i128) -> Result<Vec<u8>, Memory>
     ensures { IfOk result (λ text. text.items ≡ area_field h) }
 {
-    let mut text = Vec::new(alloc);
-    if h < 0 {
-        text.push(b'-')?;
-    }
-    let size = h.unsigned_abs();
-    let whole = (size / 100).to_string(alloc)?;
-    text.extend_from_slice(whole.as_bytes())?;
-    text.push(b'.')?;
-    push_two_digits(&mut text, (size % 100) as u8)?;
+    let mut text = begun_decimal(alloc, h, 100)?;
+    push_two_digits(&mut text, (h.unsigned_abs() % 100) as u8)?;
     Ok(text)
 }
 

@@ -1,6 +1,6 @@
 //! The fields of a record.
 ghost use Rattle.std.specs.Prelude.{◌≡◌, ◌<◌, ◌≤◌, ◌^◌, length, map, IfSome, IfOk, ℕ, Some, decimal};
-ghost use Rattle.csv.specs.Records.{fields_of};
+ghost use Rattle.csv.specs.Records.{field_at, fields_of};
 ghost use Rattle.cad_rows.specs.Limits.{IsNumber};
 ghost use Rattle.cad_files.specs.Record.{seven_of};
 ghost use Rattle.cad_files.specs.Fields.{digits_from, starts_well as starts_well_of, magnitude_of, number_of, face_of, coordinate_of, text_of, item_of, number_and_text_of, are_blank as are_blank_of};
@@ -40,6 +40,14 @@ impl<'a> Model for Fields<'a> {
         } };
 }
 
+// The field at a place of a record.
+fn field(row: &ByteRecord, place: usize) -> &[u8]
+    requires { place < length (fields_of row.now) }
+    ensures { field_at (fields_of row.now) place ≡ Some result.now }
+{
+    row.get(place).unwrap()
+}
+
 /// The fields of a record of seven.
 pub(crate) fn seven(row: &ByteRecord) -> Option<Fields<'_>>
     ensures { result ≡ seven_of (fields_of row.now) }
@@ -47,21 +55,14 @@ pub(crate) fn seven(row: &ByteRecord) -> Option<Fields<'_>>
     if row.len() != 7 {
         return None;
     }
-    let kind = row.get(0)?;
-    let a = row.get(1)?;
-    let b = row.get(2)?;
-    let c = row.get(3)?;
-    let d = row.get(4)?;
-    let e = row.get(5)?;
-    let f = row.get(6)?;
     Some(Fields {
-        kind,
-        a,
-        b,
-        c,
-        d,
-        e,
-        f,
+        kind: field(row, 0),
+        a: field(row, 1),
+        b: field(row, 2),
+        c: field(row, 3),
+        d: field(row, 4),
+        e: field(row, 5),
+        f: field(row, 6),
     })
 }
 

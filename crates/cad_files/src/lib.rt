@@ -31,7 +31,7 @@ mod sink;
 mod writing;
 
 pub use answers::{answer_text, syntax_text};
-pub use areas::{area_text, area_text_of, hundredths};
+pub use areas::{area_text, area_text_of, begun_decimal, hundredths};
 pub use faults::PlanFault;
 pub use fields::numbers_again;
 pub use input::{InputFault, next_row, one_reading};

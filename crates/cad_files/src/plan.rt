@@ -1,9 +1,9 @@
 //! Reading a plan.
-ghost use Rattle.std.specs.Prelude.{◌≡◌, ◌≢◌, ◌+◌, ◌<◌, ◌^◌, [], ℕ, List, Some, None, true, IfOk, IfErr, OnOk, if◌then◌else◌};
+ghost use Rattle.std.specs.Prelude.{◌≡◌, ◌≢◌, ◌+◌, ◌<◌, ◌^◌, [], ℕ, List, true, IfOk, IfErr, OnOk, if◌then◌else◌};
 ghost use Rattle.csv.specs.Records.{fields_of};
 ghost use Rattle.cad_files.specs.Input.{HasRead};
 ghost use Rattle.cad_files.specs.Rows.{no_rows, HasOneMore};
-ghost use Rattle.cad_files.specs.Plan.{beginning, reading, opened, faulty, is_within as is_within_of, with_source, with_parcel_record, with_string_record, with_retired, point_step, record_step, plan_step, plan_of, IsPlanFault};
+ghost use Rattle.cad_files.specs.Plan.{beginning, reading, opened, faulty, is_within as is_within_of, with_source, with_parcel_record, with_string_record, with_retired, point_step, record_step, plan_step, plan_of, IsPlanFault, IsTaken};
 ghost use Rattle.cad_files.specs.declared.faults.PlanFault.TheVariants as faults;
 
 use crate::faults::PlanFault;
@@ -36,10 +36,7 @@ fn is_within(version: Version, z: i64) -> bool
 
 // Takes a source into the rows.
 fn take_source(rows: &mut PlanRows, row: SourceRow) -> Result<(), PlanFault>
-    ensures ok { OnOk result (with_source rows.old row ≡ Some rows.new) }
-    ensures full { IfErr result (λ fault. fault ≢ faults.Memory → with_source rows.old row ≡ None) }
-    ensures err { IfErr result (λ fault. fault ≢ faults.Memory → fault ≡ faults.Full) }
-    ensures grows { OnOk result (HasOneMore rows.old rows.new) }
+    ensures { IsTaken result rows.old rows.new (with_source rows.old row) }
 {
     if rows.sources.len() >= ROW_LIMIT {
         return Err(PlanFault::Full);
@@ -82,11 +79,7 @@ fn take_point(
 
 // Takes a parcel into the rows.
 fn take_parcel(rows: &mut PlanRows, parcel: ParcelRecord) -> Result<(), PlanFault>
-    ensures ok { OnOk result (with_parcel_record rows.old parcel ≡ Some rows.new) }
-    ensures full { IfErr result (λ fault. fault ≢ faults.Memory
-        → with_parcel_record rows.old parcel ≡ None) }
-    ensures err { IfErr result (λ fault. fault ≢ faults.Memory → fault ≡ faults.Full) }
-    ensures grows { OnOk result (HasOneMore rows.old rows.new) }
+    ensures { IsTaken result rows.old rows.new (with_parcel_record rows.old parcel) }
 {
     if parcel.sources.len() > SOURCE_LIMIT || rows.parcels.len() >= ROW_LIMIT {
         return Err(PlanFault::Full);
@@ -104,11 +97,7 @@ fn take_parcel(rows: &mut PlanRows, parcel: ParcelRecord) -> Result<(), PlanFaul
 
 // Takes a string into the rows, with the faces on its two sides.
 fn take_string(rows: &mut PlanRows, string: StringRecord) -> Result<(), PlanFault>
-    ensures ok { OnOk result (with_string_record rows.old string ≡ Some rows.new) }
-    ensures full { IfErr result (λ fault. fault ≢ faults.Memory
-        → with_string_record rows.old string ≡ None) }
-    ensures err { IfErr result (λ fault. fault ≢ faults.Memory → fault ≡ faults.Full) }
-    ensures grows { OnOk result (HasOneMore rows.old rows.new) }
+    ensures { IsTaken result rows.old rows.new (with_string_record rows.old string) }
 {
     if string.sources.len() > SOURCE_LIMIT || rows.strings.len() >= STRING_LIMIT {
         return Err(PlanFault::Full);
@@ -129,11 +118,7 @@ fn take_string(rows: &mut PlanRows, string: StringRecord) -> Result<(), PlanFaul
 
 // Takes a retired number into the rows.
 fn take_retired(rows: &mut PlanRows, parcel: ParcelNo) -> Result<(), PlanFault>
-    ensures ok { OnOk result (with_retired rows.old parcel ≡ Some rows.new) }
-    ensures full { IfErr result (λ fault. fault ≢ faults.Memory
-        → with_retired rows.old parcel ≡ None) }
-    ensures err { IfErr result (λ fault. fault ≢ faults.Memory → fault ≡ faults.Full) }
-    ensures grows { OnOk result (HasOneMore rows.old rows.new) }
+    ensures { IsTaken result rows.old rows.new (with_retired rows.old parcel) }
 {
     if rows.retired.len() >= ROW_LIMIT {
         return Err(PlanFault::Full);

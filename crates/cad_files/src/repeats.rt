@@ -1,7 +1,7 @@
 //! Sides that stand twice, and followers that do.
 ghost use Rattle.std.specs.Prelude.{◌≡◌, ◌<◌, ◌^◌, length, map, IfOk, IfSome, IfNone};
 ghost use Rattle.std.specs.List.{AllByRecursion};
-ghost use Rattle.cad_files.specs.Corners.{IsFirstMet, NoneMet, key_of, lesser_of};
+ghost use Rattle.cad_files.specs.Corners.{IsFirstMet, NoneMet, key_of, two_points_of, lesser_of};
 
 use crate::sides::PlanSide;
 use cad_rows::{Memory, PointNo};
@@ -16,28 +16,28 @@ fn key(first: PointNo, second: PointNo) -> u64
     u64::from(first.get()) * (1 << 32) + u64::from(second.get())
 }
 
-// The points that each of these sides leads from and to.
-fn side_keys(alloc: Global, sides: &[PlanSide]) -> Result<Vec<u64>, Memory>
-    ensures keys { IfOk result (λ keys. keys.items ≡ map (λ s. key_of (s.from, s.to)) sides.now) }
-    ensures small { IfOk result (λ keys. AllByRecursion (λ s. (s.from < 2 ^ 32)
-        × (s.to < 2 ^ 32)) sides.now) }
+// Two points of a side: from where and to where it leads, or where it ends and what follows.
+fn two_points(side: &PlanSide, is_onward: bool) -> (PointNo, PointNo)
+    ensures { result ≡ two_points_of is_onward side.now }
 {
-    let mut keys = Vec::with_capacity(alloc, sides.len())?;
-    for i in 0..sides.len() {
-        keys.push(key(sides[i].from, sides[i].to))?;
+    if is_onward {
+        (side.to, side.after)
+    } else {
+        (side.from, side.to)
     }
-    Ok(keys)
 }
 
-// The point that each of these sides leads to, and the one that follows.
-fn follower_keys(alloc: Global, sides: &[PlanSide]) -> Result<Vec<u64>, Memory>
-    ensures keys { IfOk result (λ keys. keys.items ≡ map (λ s. key_of (s.to, s.after)) sides.now) }
-    ensures small { IfOk result (λ keys. AllByRecursion (λ s. (s.to < 2 ^ 32)
-        × (s.after < 2 ^ 32)) sides.now) }
+// Two points of each of these sides, as one number.
+fn keys_of(alloc: Global, sides: &[PlanSide], is_onward: bool) -> Result<Vec<u64>, Memory>
+    ensures keys { IfOk result
+        (λ keys. keys.items ≡ map (λ s. key_of (two_points_of is_onward s)) sides.now) }
+    ensures small { IfOk result (λ keys. AllByRecursion (λ s. ((two_points_of is_onward s).0 < 2 ^ 32)
+        × ((two_points_of is_onward s).1 < 2 ^ 32)) sides.now) }
 {
     let mut keys = Vec::with_capacity(alloc, sides.len())?;
     for i in 0..sides.len() {
-        keys.push(key(sides[i].to, sides[i].after))?;
+        let (first, second) = two_points(&sides[i], is_onward);
+        keys.push(key(first, second))?;
     }
     Ok(keys)
 }
@@ -61,9 +61,9 @@ pub(crate) fn first_met(alloc: Global, sides: &[PlanSide]) -> Result<Option<usiz
     ensures some { IfOk result (λ place. IfSome place (IsFirstMet sides.now)) }
     ensures none { IfOk result (λ place. IfNone place (NoneMet sides.now (length sides.now))) }
 {
-    let keys = side_keys(alloc, sides)?;
+    let keys = keys_of(alloc, sides, false)?;
     let as_side = first_repeated(alloc, keys.as_slice())?;
-    let keys = follower_keys(alloc, sides)?;
+    let keys = keys_of(alloc, sides, true)?;
     let by_follower = first_repeated(alloc, keys.as_slice())?;
     Ok(lesser(as_side, by_follower))
 }

@@ -1,7 +1,7 @@
 //! The rows of a plan.
-ghost use Rattle.std.specs.Prelude.{◌≡◌, ◌∷◌, ◌++◌, ◌<◌, length, OnOk, OnErr, []};
+ghost use Rattle.std.specs.Prelude.{◌≡◌, ◌∷◌, ◌++◌, ◌<◌, length, []};
 ghost use Rattle.cad_rows.specs.Limits.{row_limit, string_limit};
-ghost use Rattle.cad_files.specs.Rows.{no_rows, IsSourceList, HasOneMore};
+ghost use Rattle.cad_files.specs.Rows.{no_rows, IsSourceList, IsPut};
 
 use cad_rows::{Face, Memory, ParcelNo, ParcelRow, PointRow, SourceRow, StringRow};
 use std::alloc::Global;
@@ -78,10 +78,7 @@ impl PlanRows {
     // Puts a source last.
     pub(crate) fn put_source(&mut self, row: SourceRow) -> Result<(), Memory>
         requires { length self.old.sources < row_limit }
-        ensures ok { OnOk result
-            (self.new ≡ record self.old { sources = self.old.sources ++ row ∷ [] }) }
-        ensures err { OnErr result (self.new ≡ self.old) }
-        ensures more { OnOk result (HasOneMore self.old self.new) }
+        ensures { IsPut result self.old self.new (record self.old { sources = self.old.sources ++ row ∷ [] }) }
     {
         self.sources.push(row)?;
         Ok(())
@@ -91,10 +88,7 @@ impl PlanRows {
     pub(crate) fn put_point(&mut self, row: PointRow) -> Result<(), Memory>
         requires room { length self.old.points < row_limit }
         requires sources { IsSourceList row.sources }
-        ensures ok { OnOk result
-            (self.new ≡ record self.old { points = self.old.points ++ row ∷ [] }) }
-        ensures err { OnErr result (self.new ≡ self.old) }
-        ensures more { OnOk result (HasOneMore self.old self.new) }
+        ensures { IsPut result self.old self.new (record self.old { points = self.old.points ++ row ∷ [] }) }
     {
         self.points.push(row)?;
         Ok(())
@@ -104,10 +98,7 @@ impl PlanRows {
     pub(crate) fn put_parcel(&mut self, row: ParcelRow) -> Result<(), Memory>
         requires room { length self.old.parcels < row_limit }
         requires sources { IsSourceList row.sources }
-        ensures ok { OnOk result
-            (self.new ≡ record self.old { parcels = self.old.parcels ++ row ∷ [] }) }
-        ensures err { OnErr result (self.new ≡ self.old) }
-        ensures more { OnOk result (HasOneMore self.old self.new) }
+        ensures { IsPut result self.old self.new (record self.old { parcels = self.old.parcels ++ row ∷ [] }) }
     {
         self.parcels.push(row)?;
         Ok(())
@@ -117,10 +108,7 @@ impl PlanRows {
     pub(crate) fn put_string(&mut self, string: PlanString) -> Result<(), Memory>
         requires room { length self.old.strings < string_limit }
         requires sources { IsSourceList string.row.sources }
-        ensures ok { OnOk result
-            (self.new ≡ record self.old { strings = self.old.strings ++ string ∷ [] }) }
-        ensures err { OnErr result (self.new ≡ self.old) }
-        ensures more { OnOk result (HasOneMore self.old self.new) }
+        ensures { IsPut result self.old self.new (record self.old { strings = self.old.strings ++ string ∷ [] }) }
     {
         self.strings.push(string)?;
         Ok(())
@@ -129,10 +117,7 @@ impl PlanRows {
     // Puts a retired number last.
     pub(crate) fn put_retired(&mut self, parcel: ParcelNo) -> Result<(), Memory>
         requires { length self.old.retired < row_limit }
-        ensures ok { OnOk result
-            (self.new ≡ record self.old { retired = self.old.retired ++ parcel ∷ [] }) }
-        ensures err { OnErr result (self.new ≡ self.old) }
-        ensures more { OnOk result (HasOneMore self.old self.new) }
+        ensures { IsPut result self.old self.new (record self.old { retired = self.old.retired ++ parcel ∷ [] }) }
     {
         self.retired.push(parcel)?;
         Ok(())
