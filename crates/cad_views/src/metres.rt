@@ -3,6 +3,7 @@ ghost use Rattle.std.specs.Prelude.{◌≡◌, ◌<◌, ◌++◌, ℤ, IfOk, OnO
 ghost use Rattle.geo_exact.specs.Position.{InRange};
 ghost use Rattle.cad_views.specs.Metres.{three_digits, metres_field, millimetres_of};
 
+use cad_files::begun_decimal;
 use cad_rows::Memory;
 use std::alloc::Global;
 
@@ -22,15 +23,8 @@ fn push_three_digits(text: &mut Vec<u8>, number: u16) -> Result<(), Memory>
 pub fn metres_text(alloc: Global, millimetres: i64) -> Result<Vec<u8>, Memory>
     ensures { IfOk result (λ text. text.items ≡ metres_field millimetres) }
 {
-    let mut text = Vec::new(alloc);
-    if millimetres < 0 {
-        text.push(b'-')?;
-    }
-    let size = millimetres.unsigned_abs();
-    let whole = (size / 1000).to_string(alloc)?;
-    text.extend_from_slice(whole.as_bytes())?;
-    text.push(b'.')?;
-    push_three_digits(&mut text, (size % 1000) as u16)?;
+    let mut text = begun_decimal(alloc, i128::from(millimetres), 1000)?;
+    push_three_digits(&mut text, (millimetres.unsigned_abs() % 1000) as u16)?;
     Ok(text)
 }
 

@@ -57,15 +57,30 @@ pub(crate) fn push_spot(text: &mut Vec<u8>, spot: &Spot) -> Result<(), Memory> {
     push_number(text, spot.y)
 }
 
+// Appends an attribute whose value is a number.
+fn push_value(text: &mut Vec<u8>, name: &str, value: i64) -> Result<(), Memory> {
+    push(text, " ")?;
+    push(text, name)?;
+    push(text, "=\"")?;
+    push_number(text, value)?;
+    push(text, "\"")
+}
+
+// Appends the beginning of an element in this class.
+fn push_begun(text: &mut Vec<u8>, element: &str, class: &str) -> Result<(), Memory> {
+    push(text, "<")?;
+    push(text, element)?;
+    push(text, " class=\"")?;
+    push(text, class)?;
+    push(text, "\"")
+}
+
 // Appends the rest of a text: its place on the page, its size, and its words.
 fn push_placed(text: &mut Vec<u8>, spot: &Spot, size: i64, words: &str) -> Result<(), Memory> {
-    push(text, " x=\"")?;
-    push_number(text, spot.x)?;
-    push(text, "\" y=\"")?;
-    push_number(text, spot.y)?;
-    push(text, "\" font-size=\"")?;
-    push_number(text, size)?;
-    push(text, "\">")?;
+    push_value(text, "x", spot.x)?;
+    push_value(text, "y", spot.y)?;
+    push_value(text, "font-size", size)?;
+    push(text, ">")?;
     push_escaped(text, words)?;
     push(text, "</text>\n")
 }
@@ -89,9 +104,7 @@ pub(crate) fn push_text(
     size: i64,
     words: &str,
 ) -> Result<(), Memory> {
-    push(text, "<text class=\"")?;
-    push(text, class)?;
-    push(text, "\"")?;
+    push_begun(text, "text", class)?;
     push_placed(text, spot, size, words)
 }
 
@@ -102,15 +115,11 @@ pub(crate) fn push_circle(
     centre: &Spot,
     radius: i64,
 ) -> Result<(), Memory> {
-    push(text, "<circle class=\"")?;
-    push(text, class)?;
-    push(text, "\" cx=\"")?;
-    push_number(text, centre.x)?;
-    push(text, "\" cy=\"")?;
-    push_number(text, centre.y)?;
-    push(text, "\" r=\"")?;
-    push_number(text, radius)?;
-    push(text, "\"/>\n")
+    push_begun(text, "circle", class)?;
+    push_value(text, "cx", centre.x)?;
+    push_value(text, "cy", centre.y)?;
+    push_value(text, "r", radius)?;
+    push(text, "/>\n")
 }
 
 /// Appends a rectangle.
@@ -121,15 +130,10 @@ pub(crate) fn push_box(
     width: i64,
     height: i64,
 ) -> Result<(), Memory> {
-    push(text, "<rect class=\"")?;
-    push(text, class)?;
-    push(text, "\" x=\"")?;
-    push_number(text, corner.x)?;
-    push(text, "\" y=\"")?;
-    push_number(text, corner.y)?;
-    push(text, "\" width=\"")?;
-    push_number(text, width)?;
-    push(text, "\" height=\"")?;
-    push_number(text, height)?;
-    push(text, "\"/>\n")
+    push_begun(text, "rect", class)?;
+    push_value(text, "x", corner.x)?;
+    push_value(text, "y", corner.y)?;
+    push_value(text, "width", width)?;
+    push_value(text, "height", height)?;
+    push(text, "/>\n")
 }
