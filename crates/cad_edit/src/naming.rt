@@ -45,25 +45,16 @@ pub(crate) fn unknown_refusal<M: MapView>(map: &M, edit: &Edit) -> Option<Refusa
 {
     match edit {
         Edit::AddSource { .. } | Edit::AddPoint { .. } => None,
-        Edit::DropPoint { point } | Edit::Join { point, .. } | Edit::Move { point, .. } => {
-            let no = *point;
-            refusal_unless_known(map, Name::Point(no))
-        }
-        Edit::Split { string, .. } => {
-            let no = *string;
-            refusal_unless_known(map, Name::String(no))
-        }
+        Edit::DropPoint { point } | Edit::Join { point, .. } | Edit::Move { point, .. } =>
+            refusal_unless_known(map, Name::Point(*point)),
+        Edit::Split { string, .. } => refusal_unless_known(map, Name::String(*string)),
         Edit::Attach { item, source } | Edit::Detach { item, source } => {
-            let no = *source;
             if let Some(refusal) = refusal_unless_known(map, name_of(*item)) {
                 return Some(refusal);
             }
-            refusal_unless_known(map, Name::Source(no))
+            refusal_unless_known(map, Name::Source(*source))
         }
-        Edit::Rename { parcel, .. } => {
-            let no = *parcel;
-            refusal_unless_known(map, Name::Parcel(no))
-        }
+        Edit::Rename { parcel, .. } => refusal_unless_known(map, Name::Parcel(*parcel)),
         Edit::Divide {
             face,
             chain,
@@ -92,10 +83,7 @@ fn refusal_unless_known_face<M: MapView>(map: &M, face: &Face) -> Option<Refusal
 {
     match face {
         Face::Outside => None,
-        Face::Parcel(no) => {
-            let no = *no;
-            refusal_unless_known(map, Name::Parcel(no))
-        }
+        Face::Parcel(no) => refusal_unless_known(map, Name::Parcel(*no)),
     }
 }
 
@@ -148,33 +136,23 @@ pub(crate) fn taken_refusal<M: MapView>(map: &M, edit: &Edit) -> Option<Refusal>
     ensures { result ≡ taken (M.map map.now) edit.now }
 {
     match edit {
-        Edit::AddSource { source, .. } => {
-            let no = *source;
-            refusal_if_taken(map, Name::Source(no))
-        }
-        Edit::AddPoint { point, .. } => {
-            let no = *point;
-            refusal_if_taken(map, Name::Point(no))
-        }
+        Edit::AddSource { source, .. } => refusal_if_taken(map, Name::Source(*source)),
+        Edit::AddPoint { point, .. } => refusal_if_taken(map, Name::Point(*point)),
         Edit::Split {
             point,
             first,
             second,
             ..
         } => {
-            let (point, first, second) = (*point, *first, *second);
-            if let Some(refusal) = refusal_if_taken(map, Name::Point(point)) {
+            if let Some(refusal) = refusal_if_taken(map, Name::Point(*point)) {
                 return Some(refusal);
             }
-            if let Some(refusal) = refusal_if_taken(map, Name::String(first)) {
+            if let Some(refusal) = refusal_if_taken(map, Name::String(*first)) {
                 return Some(refusal);
             }
-            refusal_if_taken(map, Name::String(second))
+            refusal_if_taken(map, Name::String(*second))
         }
-        Edit::Join { string, .. } => {
-            let no = *string;
-            refusal_if_taken(map, Name::String(no))
-        }
+        Edit::Join { string, .. } => refusal_if_taken(map, Name::String(*string)),
         Edit::Divide {
             strings,
             parcel,
