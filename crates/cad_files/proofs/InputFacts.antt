@@ -1,8 +1,9 @@
 -- One record more.
-use Rattle.std.proofs.Common.{◌≡◌, ◌∙◌, sym, ap, refl, ℕ, List, [], ◌∷◌, ◌++◌, Option, Some, None, true, false, inl, length}
-use Rattle.std.proofs.lemmas.List.Elements.{All-push}
-use Rattle.csv.specs.Reading.{Reached, ReadRecord, default_config, reader_state, is_flexible, expected_len, took_first}
+use Rattle.std.proofs.Common.{◌≡◌, ◌∙◌, sym, ap, refl, ℕ, List, [], ◌∷◌, ◌++◌, Option, Some, None, true, false, inl, inr, length, option_map, IfSome}
+use Rattle.std.proofs.lemmas.List.Elements.{All-push, All-nil}
+use Rattle.csv.specs.Reading.{Reached, ReadRecord, default_config, source_of, strip_bom, reader_trim, reader_config, reader_state, is_flexible, names_headers, reader_headers, expected_len, took_first}
 use Rattle.csv.specs.declared.reader.Reader.{Reader}
+use Rattle.csv.specs.declared.reader.Trim.TheVariants as trim
 use Rattle.std.proofs.Common.{ap₂}
 use Rattle.csv.specs.Machine.{Read, next_record}
 use Rattle.csv.specs.declared.parser.Config.{Config}
@@ -49,3 +50,22 @@ reached_front cfg s s1 s2 xs y1 y2 (r ∷ rs) (q ∷ qs) h k e =
 
 pub whole_front : (text : List ℕ) (front whole : List (List (List ℕ))) → BeginsWith text front → IsWhole text whole → (rest : List (List (List ℕ))) × (whole ≡ front ++ rest)
 whole_front text front whole h k = reached_front default_config st.StartRecord h.0 k.0 text h.1 k.1 front whole h.2 k.2 k.3
+
+-- a new reader has read nothing
+pub has_read-start : {R : Type 0} (rem : R → Option (List ℕ)) (reader : Reader R) (input : Option (List ℕ)) (text : List ℕ)
+    → reader_trim reader ≡ trim.None → names_headers reader ≡ false → reader_headers reader ≡ None → reader_config reader ≡ default_config → is_flexible reader ≡ false
+    → reader_state reader ≡ st.StartRecord → source_of rem reader ≡ option_map strip_bom input → input ≡ Some text → HasRead rem (strip_bom text) [] reader
+unfolding Reached
+has_read-start rem reader input text t n h c f s source e = record {
+  trim = t;
+  ready = inr (inr (n, h));
+  config = c;
+  strict = f;
+  reached = (strip_bom text, source ∙ ap (λ o. option_map strip_bom o) e, (sym s, refl));
+  lengths = All-nil (λ row. expected_len reader ≡ Some (length row));
+}
+
+-- what follows of a value that is there
+pub if_some : {X : Type 0} {P Q : X → Type 0} (o : Option X) → ((x : X) → P x → Q x) → IfSome o P → IfSome o Q
+if_some None follows holds = tt
+if_some (Some x) follows holds = follows x holds

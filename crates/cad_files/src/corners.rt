@@ -14,7 +14,7 @@ use crate::repeats::first_met;
 use crate::rows::PlanString;
 use crate::sides::PlanSide;
 use cad_map::{PlainMap, Spoke, Stars};
-use cad_rows::{Memory, PointNo};
+use cad_rows::{Face, Memory, PointNo, StringNo};
 use std::alloc::Global;
 
 // The place of the side along a spoke away from its point.
@@ -30,45 +30,28 @@ fn place_along(strings: &[PlanString], spoke: &Spoke) -> usize
     }
 }
 
-// The side of a string that leads from its first point to its second.
-fn left_side(string: &PlanString, after: PointNo, next: usize) -> PlanSide
-    ensures { result
-        ≡ record {
-          string = string.now.row.number;
-          from = string.now.row.from;
-          to = string.now.row.to;
-          face = string.now.left;
-          after = after;
-          next = next;
-        } }
+// The side of a string with these ends and this face, which goes on to a point along the side at a place.
+fn plan_side(
+    string: StringNo,
+    ends: (PointNo, PointNo),
+    face: Face,
+    after: PointNo,
+    next: usize,
+) -> PlanSide
+    ensures { result ≡ record {
+      string = string;
+      from = ends.0;
+      to = ends.1;
+      face = face;
+      after = after;
+      next = next;
+    } }
 {
     PlanSide {
-        string: string.row.number,
-        from: string.row.from,
-        to: string.row.to,
-        face: string.left,
-        after,
-        next,
-    }
-}
-
-// The side of a string that leads from its second point to its first.
-fn right_side(string: &PlanString, after: PointNo, next: usize) -> PlanSide
-    ensures { result
-        ≡ record {
-          string = string.now.row.number;
-          from = string.now.row.to;
-          to = string.now.row.from;
-          face = string.now.right;
-          after = after;
-          next = next;
-        } }
-{
-    PlanSide {
-        string: string.row.number,
-        from: string.row.to,
-        to: string.row.from,
-        face: string.right,
+        string,
+        from: ends.0,
+        to: ends.1,
+        face,
         after,
         next,
     }
@@ -97,11 +80,15 @@ fn follow_each(
         let Some(left) = follower(plain, stars, row.from, row.to) else {
             return Ok(Some(row.to));
         };
-        passed.push(left_side(string, left.far, place_along(strings, &left)))?;
+        let next = place_along(strings, &left);
+        let ends = (row.from, row.to);
+        passed.push(plan_side(row.number, ends, string.left, left.far, next))?;
         let Some(right) = follower(plain, stars, row.to, row.from) else {
             return Ok(Some(row.from));
         };
-        passed.push(right_side(string, right.far, place_along(strings, &right)))?;
+        let next = place_along(strings, &right);
+        let ends = (row.to, row.from);
+        passed.push(plan_side(row.number, ends, string.right, right.far, next))?;
     }
     Ok(None)
 }

@@ -1,10 +1,12 @@
 //! Reading an input record by record.
 
-ghost use Rattle.std.specs.Prelude.{◌≡◌, ◌++◌, ◌∷◌, [], ℕ, List, IfOk, true, false};
+ghost use Rattle.std.specs.Prelude.{◌≡◌, ◌++◌, ◌∷◌, [], ℕ, List, IfOk, IfSome, true, false};
+ghost use Rattle.csv.specs.Reading.{strip_bom};
 ghost use Rattle.csv.specs.Records.{fields_of};
 ghost use Rattle.cad_files.specs.Input.{HasRead, IsWhole, BeginsWith};
 
-use csv::{ByteRecord, ErrorKind, Reader};
+use csv::{ByteRecord, ErrorKind, Reader, ReaderBuilder};
+use std::alloc::Global;
 use std::io::Read;
 
 /// Why an input could not be read on.
@@ -14,6 +16,16 @@ pub enum InputFault {
     Read,
     /// A growth was refused.
     Memory,
+}
+
+/// A reader of the records of an input, of which none was read.
+pub fn records_of<R: Read>(alloc: Global, input: R) -> Reader<R>
+    ensures { IfSome (R.remaining input)
+        (λ bytes. HasRead R.remaining (strip_bom bytes) [] result) }
+{
+    ReaderBuilder::new()
+        .has_headers(false)
+        .from_reader(alloc, input)
 }
 
 /// The next record into `row`, and whether there was one. After a fault the reader is not used again.

@@ -34,7 +34,7 @@ pub use answers::{answer_text, syntax_text};
 pub use areas::{area_text, area_text_of, begun_decimal, hundredths};
 pub use faults::PlanFault;
 pub use fields::numbers_again;
-pub use input::{InputFault, next_row, one_reading};
+pub use input::{InputFault, next_row, one_reading, records_of};
 pub use line::{Line, LineFault, read_line};
 pub use list_texts::list_text;
 pub use lists::DistinctSources;

@@ -4,9 +4,8 @@ ghost use Rattle.csv.specs.Reading.{strip_bom};
 ghost use Rattle.cad_files.specs.Building.{IsBuilt};
 ghost use Rattle.cad_views.specs.Reading.{IsPlanOf, IsFaultOf};
 
-use cad_files::{PlanFault, PlanRows, build, read_plan};
+use cad_files::{PlanFault, PlanRows, build, read_plan, records_of};
 use cad_map::PlainMap;
-use csv::ReaderBuilder;
 use number_hash::NumberHash;
 use std::alloc::Global;
 use std::io::Read;
@@ -40,9 +39,7 @@ pub fn read_map<R: Read + Drop>(
     ensures fault { IfSome (R.remaining reader)
         (λ text. IfErr result (IsFaultOf (strip_bom text))) }
 {
-    let mut reader = ReaderBuilder::new()
-        .has_headers(false)
-        .from_reader(alloc, reader);
+    let mut reader = records_of(alloc, reader);
     let rows = match read_plan(alloc, &mut reader) {
         Ok(rows) => rows,
         Err(fault) => return Err(fault),
