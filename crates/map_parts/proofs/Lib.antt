@@ -30,6 +30,7 @@ pub mod StringsPlaced
 pub mod Retired
 pub mod AddedStrings
 pub mod EachFits
+pub mod EndedRows
 pub mod Enclosing
 pub mod IslandRoom
 pub mod IslandPoints

@@ -118,8 +118,8 @@ module _ (m : Map) (keeper : Face) (ended : ℕ) (path : List Half) (is : IsMerg
 
 -- ---- It is made
 
-module _ (keeper : Face) (ended : ℕ) (strings : List ℕ) (first : Half) (rest moved : List Half) (rows : MapRows) (table : HalfRows)
-    (held : Held Half) (stars : Held Spoke) (c : CanMerge keeper ended strings (first ∷ rest) moved rows table held stars) where
+module _ {keeper : Face} {ended : ℕ} {strings : List ℕ} {first : Half} {rest moved : List Half} {rows : MapRows} {table : HalfRows}
+    {held : Held Half} {stars : Held Spoke} (c : CanMerge keeper ended strings (first ∷ rest) moved rows table held stars) where
   abbrev m : Map
   m = c.map
 
@@ -198,8 +198,8 @@ module _ (keeper : Face) (ended : ℕ) (strings : List ℕ) (first : Half) (rest
 
 -- ---- It is taken back
 
-module _ (keeper : Face) (row : ParcelRow) (place : ℕ) (first : Half) (rest : List Half) (start end : Half) (moved : List Half) (gone : List PlacedString) (rows : MapRows) (table : HalfRows)
-    (held : Held Half) (stars : Held Spoke) (c : CanUnmerge keeper row place (first ∷ rest) start end moved gone rows table held stars) where
+module _ {keeper : Face} {row : ParcelRow} {place : ℕ} {first : Half} {rest : List Half} {start end : Half} {moved : List Half} {gone : List PlacedString} {rows : MapRows} {table : HalfRows}
+    {held : Held Half} {stars : Held Spoke} (c : CanUnmerge keeper row place (first ∷ rest) start end moved gone rows table held stars) where
   abbrev gone_path : List Half
   gone_path = first ∷ rest
 
@@ -239,7 +239,7 @@ module _ (keeper : Face) (row : ParcelRow) (place : ℕ) (first : Half) (rest : 
 
   -- the ends of all strings: of those that the two share too
   back-ends : AllByRecursion (HasHalves table) old.strings
-  back-ends = rows_of.back-ends old keeper row place gone_path c.is.tried c.is.shared gone c.numbers_are c.stood rows table held stars c.fits last_table.ends c.there
+  back-ends = rows_of.back-ends old keeper row.number gone_path c.is.tried c.is.shared gone c.went.numbers c.went.stood table last_table.ends c.there
 
   pub back-linked : IsLinked table
   back-linked = c.fits.fits.local.linked

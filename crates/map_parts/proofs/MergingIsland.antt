@@ -50,8 +50,8 @@ module _ (m : Map) (keeper : Face) (ended : ℕ) (points : List ℕ) (path : Lis
 
 -- ---- It is made
 
-module _ (keeper : Face) (ended : ℕ) (strings : List ℕ) (first : Half) (rest moved : List Half) (rows : MapRows) (table : HalfRows)
-    (held : Held Half) (stars : Held Spoke) (c : CanMergeIsland keeper ended strings (first ∷ rest) moved rows table held stars) where
+module _ {keeper : Face} {ended : ℕ} {strings : List ℕ} {first : Half} {rest moved : List Half} {rows : MapRows} {table : HalfRows}
+    {held : Held Half} {stars : Held Spoke} (c : CanMergeIsland keeper ended strings (first ∷ rest) moved rows table held stars) where
   abbrev m : Map
   m = c.map
 
@@ -114,8 +114,8 @@ module _ (keeper : Face) (ended : ℕ) (strings : List ℕ) (first : Half) (rest
 
 -- ---- It is taken back
 
-module _ (keeper : Face) (row : ParcelRow) (place : ℕ) (first : Half) (rest moved : List Half) (gone : List PlacedString) (rows : MapRows) (table : HalfRows)
-    (held : Held Half) (stars : Held Spoke) (c : CanUnmergeIsland keeper row place (first ∷ rest) moved gone rows table held stars) where
+module _ {keeper : Face} {row : ParcelRow} {place : ℕ} {first : Half} {rest moved : List Half} {gone : List PlacedString} {rows : MapRows} {table : HalfRows}
+    {held : Held Half} {stars : Held Spoke} (c : CanUnmergeIsland keeper row place (first ∷ rest) moved gone rows table held stars) where
   abbrev gone_path : List Half
   gone_path = first ∷ rest
 
@@ -142,7 +142,7 @@ module _ (keeper : Face) (row : ParcelRow) (place : ℕ) (first : Half) (rest mo
 
   -- the ends of all strings: of those that the two share too
   back-ends : AllByRecursion (HasHalves table) old.strings
-  back-ends = rows_of.back-ends old keeper row place gone_path c.is.tried c.is.shared gone c.numbers_are c.stood rows table held stars c.fits last_table.ends c.there
+  back-ends = rows_of.back-ends old keeper row.number gone_path c.is.tried c.is.shared gone c.went.numbers c.went.stood table last_table.ends c.there
 
   pub back-within : AreIn table gone_path
   back-within = rows_of.within old keeper row.number gone_path c.is.tried c.is.shared table back-ends

@@ -1,33 +1,30 @@
 -- A merger round an island with the room that it takes, and what it leaves for the way back.
-use Rattle.std.proofs.Common.{◌≡◌, ◌≢◌, ℕ, ◌+◌, refl, subst, ◌∙◌, List, length, slice_get, Some, arith}
-use Rattle.std.specs.List.{AllByRecursion}
+use Rattle.std.proofs.Common.{◌≡◌, ◌≢◌, ℕ, ◌+◌, refl, subst, ◌∙◌, List, length, arith}
 use Rattle.cad_rings.specs.Cycle.{sides_of}
 use Rattle.cad_rows.specs.declared.names.Face.{Face}
 use Rattle.cad_rows.specs.declared.names.Face.TheVariants.{Parcel}
 use Rattle.cad_rows.specs.declared.rows.ParcelRow.{ParcelRow}
 use Rattle.cad_map.specs.Boundaries.{face_place}
-use Rattle.cad_map.specs.Map.{Map}
 use Rattle.cad_map.proofs.CallerLemmas.{All-at_each, All-from_each}
 use Rattle.half_table.specs.declared.half.Half.{Half}
-use Rattle.half_table.specs.Rows.{HalfRows, has, next, origin_of}
+use Rattle.half_table.specs.Rows.{HalfRows, next}
 use Rattle.half_paths.specs.Loose.{AreLoose}
 use Rattle.entry_list.specs.Slots.{HasSlot}
 use Rattle.key_lists.specs.Held.{Held, IsSame, items_at, HasRoomAt}
 use Rattle.map_parts.specs.declared.edits.placed_strings.PlacedString.{PlacedString}
 use Rattle.map_parts.specs.declared.map_rows.MapRows.{MapRows}
 use Rattle.map_parts.specs.declared.stars.Spoke.{Spoke}
-use Rattle.map_parts.specs.Merging.{rows_gone}
+use Rattle.map_parts.specs.Merging.{HaveGone, HaveRoomBack}
 use Rattle.map_parts.specs.MergingIsland.{without_island, rings_apart, CanBeginMergeIsland, CanMergeIsland, CanUnmergeIsland}
+use Rattle.map_parts.specs.Handing.{KeepsEnds}
 use Rattle.map_parts.specs.Parts.{HasHalves}
-use Rattle.map_parts.specs.PlacedStrings.{numbers_placed, StoodIn}
 use Rattle.map_parts.specs.Rows.{map_in}
 use Rattle.map_parts.specs.Splitting.{FitMap}
-use Rattle.map_parts.specs.StringRows.{HasRoomFor}
 use Rattle.map_parts.proofs.EnclosingBegun.{fit-room}
 use Rattle.map_parts.proofs.IslandFits.{along-same, ends-same, of-same}
-use Rattle.map_parts.proofs.MergedRows.{places-differ, stood-there}
+use Rattle.map_parts.proofs.MergedRows.{places-differ, stood-there, had}
 
-module _ (keeper : Face) (ended : ℕ) (strings : List ℕ) (path moved : List Half) (rows : MapRows) (table : HalfRows) (held : Held Half) (stars : Held Spoke)
+module _ {keeper : Face} {ended : ℕ} {strings : List ℕ} {path moved : List Half} {rows : MapRows} {table : HalfRows} {held : Held Half} {stars : Held Spoke}
     (c : CanBeginMergeIsland keeper ended strings path moved rows table held stars) where
   -- room changes nothing that is seen
   pub begun-room : (more : MapRows) (wide : Held Half) → map_in more ≡ map_in rows → IsSame held wide → FitMap c.map more table wide stars
@@ -59,37 +56,25 @@ module _ (keeper : Face) (ended : ℕ) (strings : List ℕ) (path moved : List H
 
 -- ---- What it leaves can come back
 
-module _ (keeper : Face) (row : ParcelRow) (place : ℕ) (strings : List ℕ) (path moved : List Half) (rows new : MapRows) (table wide : HalfRows) (held put : Held Half) (stars filled : Held Spoke)
-    (gone : List PlacedString) (same_has : (h : Half) → has wide h ≡ has table h) (origins : (h : Half) → origin_of wide h ≡ origin_of table h)
-    (loose : AreLoose (next wide) path) (at : slice_get (map_in rows).parcels place ≡ Some row) (parcel_slot : HasSlot new.parcels row.number)
-    (numbers : numbers_placed gone ≡ strings) (stood : StoodIn (map_in rows).strings gone) (slots : AllByRecursion (λ (g : PlacedString). HasSlot new.strings g.row.number) gone)
-    (room : HasRoomFor (rows_gone gone) filled) (outer_room : HasRoomAt put (face_place keeper) 1) where
-  -- for the parcel with this number
-  abbrev pub GoesBack : ℕ → Type 0
-  GoesBack n =
-      (c : CanBeginMergeIsland keeper n strings path moved rows table held stars) → FitMap (without_island c.is) new wide put filled
-      → HasRoomAt put (face_place (Parcel n)) (length (items_at put (face_place keeper)) + 1)
-      → (undo : CanUnmergeIsland keeper row place path moved gone new wide put filled) × (undo.map ≡ c.map)
-
-  its-own : GoesBack row.number
-  its-own c fits inner_room =
-      let stood_in = subst (λ (m : Map). StoodIn m.strings gone) c.fits.rows_are stood in (
+module _ {keeper : Face} {row : ParcelRow} {place : ℕ} {strings : List ℕ} {path moved : List Half} {rows new : MapRows} {table wide : HalfRows} {held put : Held Half} {stars filled : Held Spoke} {gone : List PlacedString}
+    (c : CanBeginMergeIsland keeper row.number strings path moved rows table held stars) (fits : FitMap (without_island c.is) new wide put filled) (halves : KeepsEnds table wide) (loose : AreLoose (next wide) path)
+    (went : HaveGone (map_in rows) row.number strings row place gone) (room : HaveRoomBack row gone new filled)
+    (inner_room : HasRoomAt put (face_place (Parcel row.number)) (length (items_at put (face_place keeper)) + 1)) (outer_room : HasRoomAt put (face_place keeper) 1) where
+  its-own : (undo : CanUnmergeIsland keeper row place path moved gone new wide put filled) × (undo.map ≡ c.map)
+  its-own =
+      let before : HaveGone c.map row.number strings row place gone = had c.fits.rows_are went in (
         record {
           map = c.map;
           points = c.points;
           is = c.is;
           fits = fits;
           there =
-              let ends = ends-same table wide origins same_has c.map.strings c.fits.fits.ends in
-              All-from_each (λ (g : PlacedString). HasHalves wide g.row) gone (λ g among. All-at_each (HasHalves wide) c.map.strings g.row ends (stood-there c.map.strings gone stood_in g among));
+              let ends = ends-same table wide halves.origin halves.has c.map.strings c.fits.fits.ends in
+              All-from_each (λ (g : PlacedString). HasHalves wide g.row) gone (λ g among. All-at_each (HasHalves wide) c.map.strings g.row ends (stood-there c.map.strings gone before.stood g among));
           loose = loose;
-          along = along-same table wide origins path (sides_of c.points) c.along;
-          moved_are = of-same table wide origins c.map moved (Parcel row.number) (rings_apart c.is) c.moved_are;
-          numbers_are = numbers ∙ c.strings_are;
-          stood = stood_in;
-          at = subst (λ (m : Map). slice_get m.parcels place ≡ Some row) c.fits.rows_are at;
-          slots = slots;
-          parcel_slot = parcel_slot;
+          along = along-same table wide halves.origin path (sides_of c.points) c.along;
+          moved_are = of-same table wide halves.origin c.map moved (Parcel row.number) (rings_apart c.is) c.moved_are;
+          went = record { row = before.row; found = before.found; numbers = before.numbers ∙ c.strings_are; stood = before.stood };
           room = room;
           inner_room = inner_room;
           outer_room = outer_room;
@@ -97,5 +82,18 @@ module _ (keeper : Face) (row : ParcelRow) (place : ℕ) (strings : List ℕ) (p
         refl,
       )
 
-  pub goes-back : (n : ℕ) → row.number ≡ n → GoesBack n
-  goes-back n is = subst GoesBack is its-own
+-- for the parcel that its row names
+pub goes-back : {keeper : Face} {n : ℕ} {row : ParcelRow} {place : ℕ} {strings : List ℕ} {path moved : List Half} {rows new : MapRows} {table wide : HalfRows} {held put : Held Half} {stars filled : Held Spoke} {gone : List PlacedString}
+    → row.number ≡ n → (c : CanBeginMergeIsland keeper n strings path moved rows table held stars) → FitMap (without_island c.is) new wide put filled → KeepsEnds table wide → AreLoose (next wide) path
+    → HaveGone (map_in rows) n strings row place gone → HaveRoomBack row gone new filled
+    → HasRoomAt put (face_place (Parcel n)) (length (items_at put (face_place keeper)) + 1) → HasRoomAt put (face_place keeper) 1
+    → (undo : CanUnmergeIsland keeper row place path moved gone new wide put filled) × (undo.map ≡ c.map)
+goes-back {keeper = keeper} {row = row} {place = place} {strings = strings} {path = path} {moved = moved} {rows = rows} {new = new} {table = table} {wide = wide} {held = held} {put = put} {stars = stars} {filled = filled} {gone = gone} is =
+    subst GoesBack is its-own
+  where
+    GoesBack : ℕ → Type 0
+    GoesBack n =
+        (c : CanBeginMergeIsland keeper n strings path moved rows table held stars) → FitMap (without_island c.is) new wide put filled → KeepsEnds table wide → AreLoose (next wide) path
+        → HaveGone (map_in rows) n strings row place gone → HaveRoomBack row gone new filled
+        → HasRoomAt put (face_place (Parcel n)) (length (items_at put (face_place keeper)) + 1) → HasRoomAt put (face_place keeper) 1
+        → (undo : CanUnmergeIsland keeper row place path moved gone new wide put filled) × (undo.map ≡ c.map)

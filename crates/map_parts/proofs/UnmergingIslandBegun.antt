@@ -20,6 +20,7 @@ use Rattle.half_paths.specs.Loose.{AddsStrings, numbers_of, is_of}
 use Rattle.entry_list.specs.Slots.{HasSlot}
 use Rattle.key_lists.specs.Held.{Held, IsSame, items_at, HasRoomAt}
 use Rattle.cad_laws.specs.Local.{side_by}
+use Rattle.cad_laws.proofs.CallerLemmas.{found-at}
 use Rattle.map_parts.specs.declared.edits.placed_strings.PlacedString.{PlacedString}
 use Rattle.map_parts.specs.declared.map_rows.MapRows.{MapRows}
 use Rattle.map_parts.specs.declared.stars.Spoke.{Spoke}
@@ -45,7 +46,7 @@ use Rattle.map_parts.proofs.UnmergingBegun.{placed-numbers, ring_ends-room, rows
 
 -- ---- It is taken back
 
-module _ (keeper : Face) (row : ParcelRow) (place : ℕ) (path moved : List Half) (gone : List PlacedString) (rows : MapRows) (table : HalfRows) (held : Held Half) (stars : Held Spoke)
+module _ {keeper : Face} {row : ParcelRow} {place : ℕ} {path moved : List Half} {gone : List PlacedString} {rows : MapRows} {table : HalfRows} {held : Held Half} {stars : Held Spoke}
     (c : CanBeginUnmergeIsland keeper row place path moved gone rows table held stars) where
   abbrev last : Map
   last = without_island c.is
@@ -67,7 +68,7 @@ module _ (keeper : Face) (row : ParcelRow) (place : ℕ) (path moved : List Half
     are_stars = λ p. subst (IsPermutation (spokes_at p last.strings)) (sym (stars_alike p)) (c.fits.are_stars p);
   }
 
-  module _ (new : HalfRows) (adds : AddsStrings strings_gone table new) where
+  module _ {new : HalfRows} (adds : AddsStrings strings_gone table new) where
     pub shown_kept : KeepsShown last table new
     shown_kept = adds-hidden last table new strings_gone c.new c.fits.fits.local.there adds
 
@@ -111,17 +112,22 @@ module _ (keeper : Face) (row : ParcelRow) (place : ℕ) (path moved : List Half
               (it.0, it.1, turn_moved it.0 h among it.2, it.3));
           all = λ b there is. let it = c.moved_are.all b there is in (it.0, it.1, turn_moved b it.0 it.1 it.2);
         };
-        numbers_are = c.numbers_are;
-        stood = c.stood;
-        at = c.at;
-        slots = All-from_each (λ (g : PlacedString). HasSlot more.strings g.row.number) gone (λ g among. All-at_each (λ (s : StringRow). HasSlot more.strings s.number) strings_gone g.row slots (Contains-map (λ (g : PlacedString). g.row) gone g among));
-        parcel_slot = parcel_slot;
-        room =
-            let law = merging.island c.map keeper row.number c.points path c.is in
-            let long = merging.long c.map keeper row.number c.points path c.is in
-            let each = points-differ last c.map c.is.tried.valid keeper (Parcel row.number) c.points (bounding (Parcel row.number) c.is.ended_ring) (bounding keeper c.is.kept_ring) (rings_apart c.is) law long in
-            let many = sym (length-map strings_gone (λ (s : StringRow). s.number)) ∙ ap length numbered ∙ length-map path (λ (h : Half). h.string) in
-            ring_ends-room path strings_gone c.points each many c.sides filled end_room;
+        went = record {
+          row = c.at;
+          found = found-at (λ (p : ParcelRow). p.number) c.map.parcels place row (rows_of.whole c.map keeper row.number path c.is.tried c.is.shared).v1.parcels.distinct c.at;
+          numbers = c.numbers_are;
+          stood = c.stood;
+        };
+        room = record {
+          slot = parcel_slot;
+          slots = All-from_each (λ (g : PlacedString). HasSlot more.strings g.row.number) gone (λ g among. All-at_each (λ (s : StringRow). HasSlot more.strings s.number) strings_gone g.row slots (Contains-map (λ (g : PlacedString). g.row) gone g among));
+          star_room =
+              let law = merging.island c.map keeper row.number c.points path c.is in
+              let long = merging.long c.map keeper row.number c.points path c.is in
+              let each = points-differ last c.map c.is.tried.valid keeper (Parcel row.number) c.points (bounding (Parcel row.number) c.is.ended_ring) (bounding keeper c.is.kept_ring) (rings_apart c.is) law long in
+              let many = sym (length-map strings_gone (λ (s : StringRow). s.number)) ∙ ap length numbered ∙ length-map path (λ (h : Half). h.string) in
+              ring_ends-room path strings_gone c.points each many c.sides filled end_room;
+        };
         inner_room = omega (arith, inner_room);
         outer_room = omega (arith, outer_room);
       }

@@ -1,5 +1,5 @@
 -- Halves that are kept of rings, by the faces that they have.
-use Rattle.std.specs.Prelude.{◌≡◌, ◌≢◌, ℕ, true, false, Bool, not, ◌==◌, List, [], ◌∷◌, ◌++◌, map, filter, find, unwrap_or, IsPermutation}
+use Rattle.std.specs.Prelude.{◌≡◌, ◌≢◌, ℕ, ◌+◌, ◌≤◌, length, true, false, Bool, not, ◌==◌, List, [], ◌∷◌, ◌++◌, map, filter, find, unwrap_or, IsPermutation}
 use Rattle.std.specs.List.{AllByRecursion, Contains, flat_map}
 use Rattle.cad_rows.specs.declared.names.Face.{Face}
 use Rattle.cad_rows.specs.declared.names.Face.TheVariants.{Outside}
@@ -10,8 +10,8 @@ use Rattle.cad_map.specs.Map.{Map, faces, has_face}
 use Rattle.cad_laws.specs.Local.{side_by}
 use Rattle.map_parts.specs.Labels.{IsOnRing}
 use Rattle.half_table.specs.declared.half.Half.{Half}
-use Rattle.half_table.specs.Rows.{HalfRows, face}
-use Rattle.key_lists.specs.Held.{Held, items_at}
+use Rattle.half_table.specs.Rows.{HalfRows, face, has, origin_of}
+use Rattle.key_lists.specs.Held.{Held, items_at, capacity_at}
 
 -- whether the half's face has the place
 abbrev pub is_placed : HalfRows → ℕ → Half → Bool
@@ -63,3 +63,19 @@ pub record KeepsOne (inner outer : ℕ) (half : Half) (old new : Held Half) : Ty
   pub none : items_at old inner ≡ [] → items_at new outer ≡ items_at old outer
   pub some : items_at old inner ≢ [] → items_at new outer ≡ items_at old outer ++ half ∷ []
   pub others : (n : ℕ) → ¬ (outer ≡ n) → ¬ (inner ≡ n) → items_at new n ≡ items_at old n
+
+-- ---- What stays
+
+-- the halves of a table stay, and each begins where it began
+pub record KeepsEnds (old new : HalfRows) : Type 0 where
+  -- the same halves are there
+  pub has : (h : Half) → has new h ≡ has old h
+  -- each has its origin
+  pub origin : (h : Half) → origin_of new h ≡ origin_of old h
+
+-- of the rings of two faces no more halves are kept than were, and there is room for as many
+pub record KeepsNoMore (inner outer : ℕ) (old new : Held Half) : Type 0 where
+  -- together the two have no more
+  pub few : length (items_at new inner) + length (items_at new outer) ≤ length (items_at old inner) + length (items_at old outer)
+  -- each list has the room that it had
+  pub capacity : (n : ℕ) → capacity_at new n ≡ capacity_at old n

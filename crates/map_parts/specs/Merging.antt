@@ -1,5 +1,5 @@
 -- A merger of two parcels along a chain, made in place and taken back.
-use Rattle.std.specs.Prelude.{◌≡◌, ℕ, ◌+◌, if◌then◌else◌, List, [], ◌∷◌, map, length, slice_get, Some, IsPermutation}
+use Rattle.std.specs.Prelude.{◌≡◌, ◌≢◌, ℕ, ◌+◌, ◌++◌, false, IsSome, if◌then◌else◌, List, [], ◌∷◌, map, length, slice_get, Some, IsPermutation}
 use Rattle.std.specs.List.{AllByRecursion, Contains}
 use Rattle.cad_rows.specs.declared.edits.Edit.TheVariants.{Merge}
 use Rattle.cad_rows.specs.declared.names.Face.{Face}
@@ -12,7 +12,9 @@ use Rattle.cad_map.specs.declared.boundary.Boundary.{Boundary}
 use Rattle.cad_map.specs.Boundaries.{face_place}
 use Rattle.cad_map.specs.Chain.{leaving}
 use Rattle.cad_map.specs.Effects.{after}
-use Rattle.cad_map.specs.Map.{Map, side_of}
+use Rattle.cad_map.specs.Map.{Map, side_of, parcel_of, is_retired}
+use Rattle.cad_map.specs.Table.{without_row}
+use Rattle.cad_map.specs.Valid.{EachPair}
 use Rattle.cad_map.specs.Merger.{shared_chains}
 use Rattle.cad_map.specs.Merger.ChainInRings.{along}
 use Rattle.half_table.specs.declared.half.Half.{Half}
@@ -32,8 +34,9 @@ use Rattle.map_parts.specs.Parts.{HasHalves}
 use Rattle.map_parts.specs.Paths.{AreAlong}
 use Rattle.map_parts.specs.Islands.{AreOfRings}
 use Rattle.map_parts.specs.PlacedStrings.{numbers_placed, StoodIn}
-use Rattle.map_parts.specs.Splitting.{FitMap}
-use Rattle.map_parts.specs.StringRows.{HasRoomFor}
+use Rattle.map_parts.specs.Splitting.{FitMap, AreStarsOf}
+use Rattle.map_parts.specs.StringRows.{HasRoomFor, CanTakeStrings, without_rows}
+use Rattle.map_parts.specs.Rows.{map_in}
 
 -- The merger of two parcels along a chain is tried, and the path has the strings that the two share.
 pub record IsMerging (m : Map) (keeper : Face) (ended : ℕ) (path : List Half) : Type 0 where
@@ -110,6 +113,55 @@ sides_led (h ∷ path) (r ∷ rows) =
     (if h.forward then side_of r else opposite (side_of r)) ∷ sides_led path rows
 sides_led path rows = []
 
+-- A parcel and strings went from the rows of a map, and these are their rows, with their places.
+pub record HaveGone (m : Map) (ended : ℕ) (strings : List ℕ) (parcel : ParcelRow) (place : ℕ) (gone : List PlacedString) : Type 0 where
+  -- the parcel's row stood at the place
+  pub row : slice_get m.parcels place ≡ Some parcel
+  -- it is the row of that parcel
+  pub found : parcel_of m ended ≡ Some parcel
+  -- the strings are these, in this order
+  pub numbers : numbers_placed gone ≡ strings
+  -- each stood at its place when those before it were out
+  pub stood : StoodIn m.strings gone
+
+-- rows that went can come back without memory, and so can the halves of the strings
+pub record HaveRoomBack (parcel : ParcelRow) (gone : List PlacedString) (rows : MapRows) (stars : Held Spoke) : Type 0 where
+  -- the parcel's number has a slot
+  pub slot : HasSlot rows.parcels parcel.number
+  -- each string's number has one
+  pub slots : AllByRecursion (λ (g : PlacedString). HasSlot rows.strings g.row.number) gone
+  -- at the ends of the strings there is room for their halves
+  pub star_room : HasRoomFor (rows_gone gone) stars
+
+-- the rows without a parcel, whose number is retired, and without strings
+abbrev pub without_ended : ℕ → List ℕ → Map → Map
+without_ended ended strings m = record m {
+  strings = without_rows strings m.strings;
+  parcels = without_row (λ r. r.number) ended m.parcels;
+  retired = m.retired ++ ended ∷ [];
+  boundaries = [];
+}
+
+-- a parcel that can go from the rows, and whose number can be retired, and strings that can go
+pub record CanEnd (ended : ℕ) (strings : List ℕ) (rows : MapRows) (stars : Held Spoke) : Type 0 where
+  pub there : IsSome (parcel_of (map_in rows) ended)
+  pub fresh : is_retired (map_in rows) ended ≡ false
+  pub slot : HasSlot rows.retired ended
+  pub take : CanTakeStrings strings rows stars
+
+-- a parcel and strings that went from the rows of a map, and nothing else did, with room for them
+pub record CanComeBack (row : ParcelRow) (place : ℕ) (gone : List PlacedString) (rows : MapRows) (stars : Held Spoke) : Type 0 where
+  pub before : Map
+  pub strings_differ : EachPair (λ a b. a ≢ b) (map (λ (s : StringRow). s.number) before.strings)
+  pub parcels_differ : EachPair (λ a b. a ≢ b) (map (λ (p : ParcelRow). p.number) before.parcels)
+  pub two : AllByRecursion (λ (s : StringRow). s.from ≢ s.to) before.strings
+  pub fresh : is_retired before row.number ≡ false
+  pub stood : StoodIn before.strings gone
+  pub at : slice_get before.parcels place ≡ Some row
+  pub left : map_in rows ≡ without_ended row.number (numbers_placed gone) before
+  pub stars_are : AreStarsOf (map_in rows).strings stars
+  pub room : HaveRoomBack row gone rows stars
+
 -- The map is that after a merger which was tried, and the rows that went are at hand with their
 -- places: the strings are in the table, loose, there is room for all that comes back, and so are the
 -- halves that leave the two corners, and those of the rings that pass over.
@@ -124,12 +176,8 @@ pub record CanUnmerge (keeper : Face) (row : ParcelRow) (place : ℕ) (path : Li
   pub start_on : IsAlong (merged is) table (leaving (first_corner is)) start
   pub end_on : IsAlong (merged is) table (leaving (last_corner is)) end
   pub moved_are : AreOfRings map table moved (Parcel row.number) (rings_past is)
-  pub numbers_are : numbers_placed gone ≡ strings_of path
-  pub stood : StoodIn map.strings gone
-  pub at : slice_get map.parcels place ≡ Some row
-  pub slots : AllByRecursion (λ (g : PlacedString). HasSlot rows.strings g.row.number) gone
-  pub parcel_slot : HasSlot rows.parcels row.number
-  pub room : HasRoomFor (rows_gone gone) stars
+  pub went : HaveGone map row.number (strings_of path) row place gone
+  pub room : HaveRoomBack row gone rows stars
   pub inner_room : HasRoomAt held (face_place (Parcel row.number)) (length (items_at held (face_place keeper)) + 1)
   pub outer_room : HasRoomAt held (face_place keeper) 1
 

@@ -26,10 +26,9 @@ use Rattle.map_parts.specs.declared.stars.Spoke.{Spoke}
 use Rattle.map_parts.specs.Parts.{HasHalves}
 use Rattle.map_parts.specs.Paths.{AreAlong}
 use Rattle.map_parts.specs.Islands.{AreOfRings, IsTakenIsland}
-use Rattle.map_parts.specs.Merging.{rows_gone, sides_led}
+use Rattle.map_parts.specs.Merging.{rows_gone, sides_led, HaveGone, HaveRoomBack}
 use Rattle.map_parts.specs.PlacedStrings.{numbers_placed, StoodIn}
 use Rattle.map_parts.specs.Splitting.{FitMap}
-use Rattle.map_parts.specs.StringRows.{HasRoomFor}
 
 -- The merger of two parcels round an island is tried: the ended one's ring leads round these points,
 -- and the path has the strings that the two share.
@@ -91,12 +90,8 @@ pub record CanUnmergeIsland (keeper : Face) (row : ParcelRow) (place : ℕ) (pat
   pub loose : AreLoose (next table) path
   pub along : AreAlong table path (sides_of points)
   pub moved_are : AreOfRings map table moved (Parcel row.number) (rings_apart is)
-  pub numbers_are : numbers_placed gone ≡ strings_of path
-  pub stood : StoodIn map.strings gone
-  pub at : slice_get map.parcels place ≡ Some row
-  pub slots : AllByRecursion (λ (g : PlacedString). HasSlot rows.strings g.row.number) gone
-  pub parcel_slot : HasSlot rows.parcels row.number
-  pub room : HasRoomFor (rows_gone gone) stars
+  pub went : HaveGone map row.number (strings_of path) row place gone
+  pub room : HaveRoomBack row gone rows stars
   pub inner_room : HasRoomAt held (face_place (Parcel row.number)) (length (items_at held (face_place keeper)) + 1)
   pub outer_room : HasRoomAt held (face_place keeper) 1
 

@@ -7,6 +7,7 @@ pub(crate) mod dividing_tried;
 pub(crate) mod enclose;
 pub(crate) mod enclosing;
 pub(crate) mod enclosing_tried;
+pub(crate) mod ended;
 pub(crate) mod faces;
 pub(crate) mod handing;
 pub(crate) mod island;

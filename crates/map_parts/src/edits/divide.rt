@@ -23,7 +23,7 @@ ghost use Rattle.map_parts.specs.Parts.{HasHalves};
 ghost use Rattle.map_parts.specs.Paths.{AreAlong, HasStringsMore};
 ghost use Rattle.map_parts.specs.Relabelled.{cycles_length};
 ghost use Rattle.map_parts.specs.Islands.{FitsTable, AreOfRings};
-ghost use Rattle.map_parts.specs.Handing.{KeepsEach, HaveTwoFaces};
+ghost use Rattle.map_parts.specs.Handing.{KeepsEach, HaveTwoFaces, KeepsEnds, KeepsNoMore};
 ghost use Rattle.map_parts.specs.Chains.{IsChainOf};
 ghost use Rattle.key_lists.specs.Held.{items_at, HasRoomAt, capacity_at};
 
@@ -179,8 +179,7 @@ pub(crate) fn bring_across<T: Tally>(
         → FitsTable whole table.old.rows → KeepsEach whole table.old.rows kept.old
         → FitsTable parted table.new.rows × KeepsEach parted table.new.rows kept.new }
 
-    ensures has { (g : HalfOf) → has table.new.rows g ≡ has table.old.rows g }
-    ensures origin { (g : HalfOf) → origin_of table.new.rows g ≡ origin_of table.old.rows g }
+    ensures halves { KeepsEnds table.old.rows table.new.rows }
     ensures linked { IsLinked table.new.rows }
     ensures work { table.new.work ≡ ticked (2 + 2 * length rest.now + (length rest.now + 2)
         + (length (cycle table.new.rows first.now) + cycles_length table.new.rows moved.now))
@@ -247,18 +246,14 @@ pub(crate) fn take_across<T: Tally>(
         → FitsTable whole table.new.rows × KeepsEach whole table.new.rows kept.new }
 
     ensures loose { AreLoose (next table.new.rows) (first.now ∷ rest.now) }
-    ensures has { (g : HalfOf) → has table.new.rows g ≡ has table.old.rows g }
-    ensures origin { (g : HalfOf) → origin_of table.new.rows g ≡ origin_of table.old.rows g }
+    ensures halves { KeepsEnds table.old.rows table.new.rows }
     ensures linked { IsLinked table.new.rows }
     ensures work { table.new.work ≡ ticked (cycles_length table.old.rows moved.now
         + (length (cycle table.old.rows first.now) + (length rest.now + 2)
         + (2 + 2 * length rest.now)))
         table.old.work }
-    ensures few { length (items_at kept.new (face_place_of inner.now))
-        + length (items_at kept.new (face_place_of outer.now))
-        ≤ length (items_at kept.old (face_place_of inner.now))
-        + length (items_at kept.old (face_place_of outer.now)) }
-    ensures capacity { (n : ℕ) → capacity_at kept.new n ≡ capacity_at kept.old n }
+    ensures kept { KeepsNoMore (face_place_of inner.now) (face_place_of outer.now) kept.old
+        kept.new }
 {
     relabel_each(table, moved, outer);
     hand_over(table, kept, inner, outer);

@@ -19,7 +19,7 @@ ghost use Rattle.map_parts.specs.Parts.{HasHalves};
 ghost use Rattle.map_parts.specs.Paths.{AreAlong, HasStringsMore};
 ghost use Rattle.map_parts.specs.Relabelled.{cycles_length};
 ghost use Rattle.map_parts.specs.Islands.{FitsTable, AreOfRings, IsIslandOf};
-ghost use Rattle.map_parts.specs.Handing.{KeepsEach, HaveTwoFaces};
+ghost use Rattle.map_parts.specs.Handing.{KeepsEach, HaveTwoFaces, KeepsEnds, KeepsNoMore};
 
 use crate::edits::handing::{clear, hand_over};
 use crate::edits::island::{bring_island, take_island};
@@ -64,8 +64,7 @@ pub(crate) fn bring_in<T: Tally>(
         → FitsTable whole table.old.rows → KeepsEach whole table.old.rows kept.old
         → FitsTable parted table.new.rows × KeepsEach parted table.new.rows kept.new }
 
-    ensures has { (g : HalfOf) → has table.new.rows g ≡ has table.old.rows g }
-    ensures origin { (g : HalfOf) → origin_of table.new.rows g ≡ origin_of table.old.rows g }
+    ensures halves { KeepsEnds table.old.rows table.new.rows }
     ensures linked { IsLinked table.new.rows }
     ensures work { table.new.work ≡ ticked (length rest.now + 1 + (length (cycle table.new.rows first.now)
         + (length (cycle table.new.rows (twin first.now)) + cycles_length table.new.rows moved.now))) table.old.work }
@@ -122,17 +121,13 @@ pub(crate) fn take_out<T: Tally>(
         → FitsTable whole table.new.rows × KeepsEach whole table.new.rows kept.new }
 
     ensures loose { AreLoose (next table.new.rows) (first.now ∷ rest.now) }
-    ensures has { (g : HalfOf) → has table.new.rows g ≡ has table.old.rows g }
-    ensures origin { (g : HalfOf) → origin_of table.new.rows g ≡ origin_of table.old.rows g }
+    ensures halves { KeepsEnds table.old.rows table.new.rows }
     ensures linked { IsLinked table.new.rows }
     ensures work { table.new.work ≡ ticked (cycles_length table.old.rows moved.now
         + (length (cycle table.old.rows (twin first.now)) + (length rest.now + 1))) table.old.work }
     // No more halves are kept for the two faces together.
-    ensures few { length (items_at kept.new (face_place_of inner.now))
-        + length (items_at kept.new (face_place_of outer.now))
-        ≤ length (items_at kept.old (face_place_of inner.now))
-        + length (items_at kept.old (face_place_of outer.now)) }
-    ensures capacity { (n : ℕ) → capacity_at kept.new n ≡ capacity_at kept.old n }
+    ensures kept { KeepsNoMore (face_place_of inner.now) (face_place_of outer.now) kept.old
+        kept.new }
 {
     take_island(table, first, rest, outer, inner, moved);
     hand_over(table, kept, inner, outer);

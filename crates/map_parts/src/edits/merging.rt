@@ -1,27 +1,22 @@
 //! Two parcels merged in place along a chain, and the merger taken back: rows, stars, table and
 //! kept halves.
-ghost use Rattle.std.specs.Prelude.{◌≡◌, ◌+◌, ◌*◌, ◌≤◌, ◌∷◌, [], ℕ, Some, length, slice_get};
-ghost use Rattle.std.specs.List.{AllByRecursion};
+ghost use Rattle.std.specs.Prelude.{◌≡◌, ◌+◌, ◌*◌, ◌≤◌, ◌∷◌, [], ℕ, length};
 ghost use Rattle.std.specs.Vec.{vec_len, vec_capacity};
 ghost use Rattle.cad_map.specs.Boundaries.{face_place as face_place_of};
-ghost use Rattle.cad_map.specs.Map.{parcel_of};
 ghost use Rattle.cad_rows.specs.declared.names.Face.TheVariants.{Parcel};
-ghost use Rattle.entry_list.specs.Slots.{HasSlot};
-ghost use Rattle.half_table.specs.declared.half.Half.{Half as HalfOf};
 ghost use Rattle.half_table.specs.Count.{ticked};
-ghost use Rattle.half_table.specs.Rows.{next, has, origin_of, cycle};
+ghost use Rattle.half_table.specs.Rows.{next, cycle};
 ghost use Rattle.half_paths.specs.Loose.{AreLoose};
-ghost use Rattle.key_lists.specs.Held.{items_at, capacity_at};
-ghost use Rattle.map_parts.specs.Merging.{CanMerge, CanUnmerge, merged, rows_gone};
-ghost use Rattle.map_parts.specs.PlacedStrings.{numbers_placed, StoodIn};
+ghost use Rattle.key_lists.specs.Held.{capacity_at};
+ghost use Rattle.map_parts.specs.Handing.{KeepsEnds, KeepsNoMore};
+ghost use Rattle.map_parts.specs.Merging.{CanMerge, CanUnmerge, HaveGone, HaveRoomBack, merged};
 ghost use Rattle.map_parts.specs.Relabelled.{cycles_length};
 ghost use Rattle.map_parts.specs.Rows.{map_in};
 ghost use Rattle.map_parts.specs.Splitting.{FitMap};
-ghost use Rattle.map_parts.specs.StringRows.{HasRoomFor};
 
 use crate::edits::divide::{bring_across, take_across};
-use crate::edits::placed_strings::{PlacedString, put_placed, take_placed};
-use crate::edits::retired::{retire, unretire};
+use crate::edits::ended::{put_ended, take_ended};
+use crate::edits::placed_strings::PlacedString;
 use crate::map_rows::MapRows;
 use crate::stars::Spoke;
 use cad_rows::{Face, ParcelNo, ParcelRow, StringNo};
@@ -53,22 +48,13 @@ pub fn merge_along<T: Tally>(
     ensures fits { (can : CanMerge keeper.now ended strings.now (first.now ∷ rest.now) moved.now
         rows.old table.old.rows kept.old stars.old)
         → FitMap (merged can.is) rows.new table.new.rows kept.new stars.new }
-    ensures row { slice_get (map_in rows.old).parcels result.0 ≡ Some result.1 }
-    ensures found { parcel_of (map_in rows.old) ended ≡ Some result.1 }
-    ensures slot { HasSlot rows.new.parcels result.1.number }
-    ensures numbers { numbers_placed gone.new.items ≡ strings.now }
-    ensures stood { StoodIn (map_in rows.old).strings gone.new.items }
-    ensures slots { AllByRecursion (λ g. HasSlot rows.new.strings g.row.number) gone.new.items }
+    ensures gone { HaveGone (map_in rows.old) ended strings.now result.1 result.0 gone.new.items }
+    ensures back { HaveRoomBack result.1 gone.new.items rows.new stars.new }
     ensures loose { AreLoose (next table.new.rows) (first.now ∷ rest.now) }
-    ensures has { (h : HalfOf) → has table.new.rows h ≡ has table.old.rows h }
-    ensures origin { (h : HalfOf) → origin_of table.new.rows h ≡ origin_of table.old.rows h }
-    ensures capacity { (n : ℕ) → capacity_at kept.new n ≡ capacity_at kept.old n }
+    ensures halves { KeepsEnds table.old.rows table.new.rows }
+    ensures kept { KeepsNoMore (face_place_of (Parcel ended)) (face_place_of keeper.now) kept.old
+        kept.new }
     ensures star_capacity { (p : ℕ) → capacity_at stars.new p ≡ capacity_at stars.old p }
-    ensures star_room { HasRoomFor (rows_gone gone.new.items) stars.new }
-    ensures few { length (items_at kept.new (face_place_of (Parcel ended)))
-        + length (items_at kept.new (face_place_of keeper.now))
-        ≤ length (items_at kept.old (face_place_of (Parcel ended)))
-        + length (items_at kept.old (face_place_of keeper.now)) }
     ensures work { table.new.work ≡ ticked (cycles_length table.old.rows moved.now
         + (length (cycle table.old.rows first.now) + (length rest.now + 2)
         + (2 + 2 * length rest.now)))
@@ -76,9 +62,7 @@ pub fn merge_along<T: Tally>(
 {
     let inner = Face::Parcel(ended);
     take_across(table, kept, first, rest, keeper, &inner, moved);
-    let taken = retire(rows, ended);
-    take_placed(rows, stars, strings, gone);
-    taken
+    take_ended(rows, stars, ended, strings, gone)
 }
 
 /// Takes a merger along a chain back: the strings and the parcel come back where they stood, and
@@ -105,14 +89,12 @@ pub fn unmerge_along<T: Tally>(
     ensures fits { (can : CanUnmerge keeper.now row place (first.now ∷ rest.now) start.now end.now
         moved.now gone.old.items rows.old table.old.rows kept.old stars.old)
         → FitMap can.map rows.new table.new.rows kept.new stars.new }
-    ensures has { (h : HalfOf) → has table.new.rows h ≡ has table.old.rows h }
-    ensures origin { (h : HalfOf) → origin_of table.new.rows h ≡ origin_of table.old.rows h }
+    ensures halves { KeepsEnds table.old.rows table.new.rows }
     ensures work { table.new.work ≡ ticked (2 + 2 * length rest.now + (length rest.now + 2)
         + (length (cycle table.new.rows first.now) + cycles_length table.new.rows moved.now))
         table.old.work }
 {
     let inner = Face::Parcel(row.number);
     bring_across(table, kept, first, rest, start, end, keeper, &inner, moved);
-    put_placed(rows, stars, gone);
-    unretire(rows, row, place);
+    put_ended(rows, stars, row, place, gone);
 }

@@ -1,15 +1,16 @@
 //! A merger round an island with the room that it takes: made, and taken back.
-ghost use Rattle.std.specs.Prelude.{◌≡◌, ◌+◌, ◌∷◌, ℕ, Some, length, slice_get};
+ghost use Rattle.std.specs.Prelude.{◌≡◌, ◌+◌, ◌∷◌, ℕ, length};
 ghost use Rattle.std.specs.Prelude.{◌≤◌, true, if◌then◌else◌, IfOk, OnOk, OnErr};
-ghost use Rattle.cad_map.specs.Map.{parcel_of};
 ghost use Rattle.half_table.specs.declared.half.Half.{Half as HalfOf};
 ghost use Rattle.half_table.specs.Count.{ticked};
 ghost use Rattle.half_table.specs.Half.{twin};
 ghost use Rattle.half_table.specs.Rows.{next, has, origin_of, cycle};
 ghost use Rattle.half_paths.specs.Loose.{AreLoose, is_of};
+ghost use Rattle.map_parts.specs.Handing.{KeepsEnds};
+ghost use Rattle.map_parts.specs.Merging.{HaveGone};
 ghost use Rattle.map_parts.specs.MergingIsland.{CanBeginMergeIsland, CanBeginUnmergeIsland};
 ghost use Rattle.map_parts.specs.MergingIsland.{CanUnmergeIsland, without_island};
-ghost use Rattle.map_parts.specs.PlacedStrings.{numbers_placed, StoodIn};
+ghost use Rattle.map_parts.specs.PlacedStrings.{numbers_placed};
 ghost use Rattle.map_parts.specs.Relabelled.{cycles_length};
 ghost use Rattle.map_parts.specs.Rows.{map_in};
 ghost use Rattle.map_parts.specs.Splitting.{FitMap};
@@ -59,20 +60,15 @@ pub fn begin_merge_island<T: Tally>(
         (first.now ∷ rest.now) moved.now r.strings.items rows.new table.new.rows kept.new
         stars.new) × (undo.map ≡ can.map)) }
 
-    ensures row { IfOk result (λ r. slice_get (map_in rows.old).parcels r.place ≡ Some r.row) }
-    ensures found { IfOk result (λ r. parcel_of (map_in rows.old) ended ≡ Some r.row) }
-    ensures numbers { IfOk result (λ r. numbers_placed r.strings.items ≡ strings.now) }
-    ensures stood { IfOk result (λ r. StoodIn (map_in rows.old).strings r.strings.items) }
+    ensures gone { IfOk result (λ r. HaveGone (map_in rows.old) ended strings.now r.row r.place
+        r.strings.items) }
     ensures loose { OnOk result (AreLoose (next table.new.rows) (first.now ∷ rest.now)) }
-    ensures has { (h : HalfOf) → has table.new.rows h ≡ has table.old.rows h }
-    ensures origin { (h : HalfOf) → origin_of table.new.rows h ≡ origin_of table.old.rows h }
+    ensures halves { KeepsEnds table.old.rows table.new.rows }
     ensures work { OnOk result (table.new.work ≡ ticked (cycles_length table.old.rows moved.now
         + (length (cycle table.old.rows (twin first.now)) + (length rest.now + 1)))
         table.old.work) }
 {
-    rows.retired.keep_slot(ended.get())?;
-    make_merge_room(kept, keeper, ended)?;
-    let mut gone = Vec::with_capacity(rows.parcels.allocator(), strings.len())?;
+    let mut gone = make_merge_room(rows, kept, keeper, ended, strings.len())?;
     let (place, row) = merge_island(
         rows, table, kept, stars, keeper, ended, strings, first, rest, moved, &mut gone,
     );

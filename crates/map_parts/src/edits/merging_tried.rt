@@ -1,10 +1,10 @@
 //! A merger along a chain with the room that it takes: made, and taken back.
-ghost use Rattle.std.specs.Prelude.{◌≡◌, ◌≢◌, ◌+◌, ◌*◌, ◌∷◌, ℕ, Some, length, slice_get};
+ghost use Rattle.std.specs.Prelude.{◌≡◌, ◌≢◌, ◌+◌, ◌*◌, ◌∷◌, [], ℕ, length};
 ghost use Rattle.std.specs.Prelude.{◌≤◌, nat_eq, true, map, if◌then◌else◌, IfOk, OnOk, OnErr};
 ghost use Rattle.std.specs.List.{AllByRecursion, IsDistinct};
+ghost use Rattle.std.specs.Vec.{vec_len, vec_capacity};
 ghost use Rattle.cad_map.specs.Boundaries.{face_place as face_place_of};
 ghost use Rattle.cad_map.specs.Chain.{leaving};
-ghost use Rattle.cad_map.specs.Map.{parcel_of};
 ghost use Rattle.cad_rows.specs.declared.names.Face.TheVariants.{Parcel};
 ghost use Rattle.half_table.specs.declared.half.Half.{Half as HalfOf};
 ghost use Rattle.half_table.specs.Count.{ticked};
@@ -13,10 +13,11 @@ ghost use Rattle.half_paths.specs.Loose.{is_of, numbers_of, AddsStrings, AreLoos
 ghost use Rattle.key_lists.specs.Held.{items_at, HasRoomAt, IsSame};
 ghost use Rattle.map_parts.specs.Labels.{IsAlong};
 ghost use Rattle.entry_list.specs.Slots.{HasSlot};
-ghost use Rattle.map_parts.specs.Merging.{CanBeginMerge, CanBeginUnmerge, CanUnmerge, merged};
+ghost use Rattle.map_parts.specs.Handing.{KeepsEnds};
+ghost use Rattle.map_parts.specs.Merging.{CanBeginMerge, CanBeginUnmerge, CanUnmerge, HaveGone, merged};
 ghost use Rattle.map_parts.specs.Merging.{bare_row, rows_gone, HasRoomAtEnds};
 ghost use Rattle.map_parts.specs.Merging.{first_corner, last_corner};
-ghost use Rattle.map_parts.specs.PlacedStrings.{numbers_placed, StoodIn};
+ghost use Rattle.map_parts.specs.PlacedStrings.{numbers_placed};
 ghost use Rattle.map_parts.specs.Relabelled.{cycles_length};
 ghost use Rattle.map_parts.specs.Rows.{map_in};
 ghost use Rattle.map_parts.specs.Splitting.{FitMap};
@@ -41,13 +42,9 @@ pub struct EndedParcel {
     pub strings: Vec<PlacedString>,
 }
 
-/// Sees that the halves that are kept for a face and for a parcel, and one more, can be kept for
-/// either without memory.
-pub(crate) fn make_merge_room(
-    kept: &mut KeyLists<Half>,
-    face: &Face,
-    parcel: ParcelNo,
-) -> Result<(), Memory>
+// Sees that the halves that are kept for a face and for a parcel, and one more, can be kept for
+// either without memory.
+fn make_handing_room(kept: &mut KeyLists<Half>, face: &Face, parcel: ParcelNo) -> Result<(), Memory>
     requires { face_place_of face.now ≢ face_place_of (Parcel parcel) }
     ensures same { IsSame kept.old kept.new }
     ensures inner { OnOk result (HasRoomAt kept.new (face_place_of (Parcel parcel))
@@ -62,6 +59,32 @@ pub(crate) fn make_merge_room(
     let more = kept.at(inner).len();
     kept.reserve(outer, more + 1)?;
     Ok(())
+}
+
+/// Sees that a parcel can end without memory: its number can be retired, the halves that are kept for
+/// it and for a face can be kept for either, and so many strings can be listed.
+pub(crate) fn make_merge_room(
+    rows: &mut MapRows,
+    kept: &mut KeyLists<Half>,
+    face: &Face,
+    parcel: ParcelNo,
+    count: usize,
+) -> Result<Vec<PlacedString>, Memory>
+    requires { face_place_of face.now ≢ face_place_of (Parcel parcel) }
+    ensures rows { map_in rows.new ≡ map_in rows.old }
+    ensures slot { OnOk result (HasSlot rows.new.retired parcel) }
+    ensures same { IsSame kept.old kept.new }
+    ensures inner { OnOk result (HasRoomAt kept.new (face_place_of (Parcel parcel))
+        (length (items_at kept.new (face_place_of face.now)) + 1)) }
+    ensures outer { OnOk result (HasRoomAt kept.new (face_place_of face.now)
+        (length (items_at kept.new (face_place_of (Parcel parcel))) + 1)) }
+    ensures none { IfOk result (λ gone. gone.items ≡ []) }
+    ensures room { IfOk result (λ gone. vec_len gone + count ≤ vec_capacity gone) }
+{
+    rows.retired.keep_slot(parcel.get())?;
+    make_handing_room(kept, face, parcel)?;
+    let gone = Vec::with_capacity(rows.parcels.allocator(), count)?;
+    Ok(gone)
 }
 
 /// Merges a parcel into a face along the chain of strings that they share, with the room that it
@@ -102,20 +125,15 @@ pub fn begin_merge_along<T: Tally>(
         end moved.now r.strings.items rows.new table.new.rows kept.new stars.new)
         × (undo.map ≡ can.map)) }
 
-    ensures row { IfOk result (λ r. slice_get (map_in rows.old).parcels r.place ≡ Some r.row) }
-    ensures found { IfOk result (λ r. parcel_of (map_in rows.old) ended ≡ Some r.row) }
-    ensures numbers { IfOk result (λ r. numbers_placed r.strings.items ≡ strings.now) }
-    ensures stood { IfOk result (λ r. StoodIn (map_in rows.old).strings r.strings.items) }
+    ensures gone { IfOk result (λ r. HaveGone (map_in rows.old) ended strings.now r.row r.place
+        r.strings.items) }
     ensures loose { OnOk result (AreLoose (next table.new.rows) (first.now ∷ rest.now)) }
-    ensures has { (h : HalfOf) → has table.new.rows h ≡ has table.old.rows h }
-    ensures origin { (h : HalfOf) → origin_of table.new.rows h ≡ origin_of table.old.rows h }
+    ensures halves { KeepsEnds table.old.rows table.new.rows }
     ensures work { OnOk result (table.new.work ≡ ticked (cycles_length table.old.rows moved.now
         + (length (cycle table.old.rows first.now) + (length rest.now + 2)
         + (2 + 2 * length rest.now))) table.old.work) }
 {
-    rows.retired.keep_slot(ended.get())?;
-    make_merge_room(kept, keeper, ended)?;
-    let mut gone = Vec::with_capacity(rows.parcels.allocator(), strings.len())?;
+    let mut gone = make_merge_room(rows, kept, keeper, ended, strings.len())?;
     let (place, row) = merge_along(
         rows, table, kept, stars, keeper, ended, strings, first, rest, moved, &mut gone,
     );

@@ -82,7 +82,7 @@ drop_hidden-requires-clause-within g c =
     c.args.merger.now c.requires.proper c.first_and_rest.result.0.now
     c.first_and_rest.result.1.now (sym c.first_and_rest.ensures) c.requires.path c.requires.strings
     c.begin_merge_along.new.rows c.begin_merge_along.new.table c.begin_merge_along.new.kept
-    c.begin_merge_along.new.stars c.in_ok-begin_merge_along.ensures.fits c.begin_merge_along.ensures.has
+    c.begin_merge_along.new.stars c.in_ok-begin_merge_along.ensures.fits c.begin_merge_along.ensures.halves.has
 
 pub drop_hidden-requires-clause-different : goal.drop_hidden-requires-clause-different
 drop_hidden-requires-clause-different g c =
@@ -91,7 +91,7 @@ drop_hidden-requires-clause-different g c =
     c.args.merger.now c.requires.proper c.first_and_rest.result.0.now
     c.first_and_rest.result.1.now (sym c.first_and_rest.ensures) c.requires.path c.requires.strings
     c.begin_merge_along.new.rows c.begin_merge_along.new.table c.begin_merge_along.new.kept
-    c.begin_merge_along.new.stars c.in_ok-begin_merge_along.ensures.fits c.begin_merge_along.ensures.has
+    c.begin_merge_along.new.stars c.in_ok-begin_merge_along.ensures.fits c.begin_merge_along.ensures.halves.has
 
 pub drop_hidden-requires-clause-loose : goal.drop_hidden-requires-clause-loose
 drop_hidden-requires-clause-loose g c =
@@ -100,7 +100,7 @@ drop_hidden-requires-clause-loose g c =
     c.args.merger.now c.requires.proper c.first_and_rest.result.0.now
     c.first_and_rest.result.1.now (sym c.first_and_rest.ensures) c.requires.path c.requires.strings
     c.begin_merge_along.new.rows c.begin_merge_along.new.table c.begin_merge_along.new.kept
-    c.begin_merge_along.new.stars c.in_ok-begin_merge_along.ensures.fits c.begin_merge_along.ensures.has
+    c.begin_merge_along.new.stars c.in_ok-begin_merge_along.ensures.fits c.begin_merge_along.ensures.halves.has
     c.in_ok-begin_merge_along.ensures.loose
 
 pub drop_hidden-requires-clause-hidden : goal.drop_hidden-requires-clause-hidden
@@ -110,7 +110,7 @@ drop_hidden-requires-clause-hidden g c =
     c.args.merger.now c.requires.proper c.first_and_rest.result.0.now
     c.first_and_rest.result.1.now (sym c.first_and_rest.ensures) c.requires.path c.requires.strings
     c.begin_merge_along.new.rows c.begin_merge_along.new.table c.begin_merge_along.new.kept
-    c.begin_merge_along.new.stars c.in_ok-begin_merge_along.ensures.fits c.begin_merge_along.ensures.has
+    c.begin_merge_along.new.stars c.in_ok-begin_merge_along.ensures.fits c.begin_merge_along.ensures.halves.has
 
 pub returns-clause-after : goal.returns-clause-after
 returns-clause-after g c =
@@ -119,7 +119,7 @@ returns-clause-after g c =
     c.args.merger.now c.requires.proper c.first_and_rest.result.0.now
     c.first_and_rest.result.1.now (sym c.first_and_rest.ensures) c.requires.path c.requires.strings
     c.begin_merge_along.new.rows c.begin_merge_along.new.table c.begin_merge_along.new.kept
-    c.begin_merge_along.new.stars c.in_ok-begin_merge_along.ensures.fits c.begin_merge_along.ensures.has
+    c.begin_merge_along.new.stars c.in_ok-begin_merge_along.ensures.fits c.begin_merge_along.ensures.halves.has
     c.drop_hidden.new.draft c.drop_hidden.ensures.fit c.drop_hidden.ensures.map
     c.drop_hidden.ensures.drops
 
@@ -130,7 +130,7 @@ returns-clause-proper g c =
     c.args.merger.now c.requires.proper c.first_and_rest.result.0.now
     c.first_and_rest.result.1.now (sym c.first_and_rest.ensures) c.requires.path c.requires.strings
     c.begin_merge_along.new.rows c.begin_merge_along.new.table c.begin_merge_along.new.kept
-    c.begin_merge_along.new.stars c.in_ok-begin_merge_along.ensures.fits c.begin_merge_along.ensures.has
+    c.begin_merge_along.new.stars c.in_ok-begin_merge_along.ensures.fits c.begin_merge_along.ensures.halves.has
     c.drop_hidden.new.draft c.drop_hidden.ensures.fit c.drop_hidden.ensures.map
     c.drop_hidden.ensures.drops
 

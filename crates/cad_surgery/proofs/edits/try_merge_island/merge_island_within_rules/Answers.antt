@@ -195,7 +195,7 @@ returns-in-Some-clause-proper g c =
     c.draft.inside.grid c.args.draft.now c.draft.view_is c.draft.invariant
     c.args.merger.now c.requires.proper c.first_and_rest.result.0.now
     c.first_and_rest.result.1.now (sym c.first_and_rest.ensures) c.requires.ring c.requires.strings)).0))
-    (λ h. c.unmerge_island.ensures.has h ∙ c.begin_merge_island.ensures.has h)
+    (λ h. c.unmerge_island.ensures.halves.has h ∙ c.begin_merge_island.ensures.halves.has h)
 
 pub returns-in-Some-clause-work : goal.returns-in-Some-clause-work
 returns-in-Some-clause-work g c =
@@ -215,7 +215,7 @@ returns-in-Some-clause-work g c =
     c.draft.inside.grid c.args.draft.now c.draft.view_is c.draft.invariant
     c.args.merger.now c.requires.proper c.first_and_rest.result.0.now
     c.first_and_rest.result.1.now (sym c.first_and_rest.ensures) c.requires.ring c.requires.strings)).0))
-    (λ h. c.unmerge_island.ensures.origin h ∙ c.begin_merge_island.ensures.origin h) c.unmerge_island.ensures.work
+    (λ h. c.unmerge_island.ensures.halves.origin h ∙ c.begin_merge_island.ensures.halves.origin h) c.unmerge_island.ensures.work
 
 pub drop_hidden-requires-clause-whole : goal.drop_hidden-requires-clause-whole
 drop_hidden-requires-clause-whole g c =
@@ -233,7 +233,7 @@ drop_hidden-requires-clause-within g c =
     c.args.merger.now c.requires.proper c.first_and_rest.result.0.now
     c.first_and_rest.result.1.now (sym c.first_and_rest.ensures) c.requires.ring c.requires.strings
     c.begin_merge_island.new.rows c.begin_merge_island.new.table c.begin_merge_island.new.kept
-    c.begin_merge_island.new.stars c.in-Ok.ensures.fits c.begin_merge_island.ensures.has
+    c.begin_merge_island.new.stars c.in-Ok.ensures.fits c.begin_merge_island.ensures.halves.has
 
 pub drop_hidden-requires-clause-different : goal.drop_hidden-requires-clause-different
 drop_hidden-requires-clause-different g c =
@@ -242,7 +242,7 @@ drop_hidden-requires-clause-different g c =
     c.args.merger.now c.requires.proper c.first_and_rest.result.0.now
     c.first_and_rest.result.1.now (sym c.first_and_rest.ensures) c.requires.ring c.requires.strings
     c.begin_merge_island.new.rows c.begin_merge_island.new.table c.begin_merge_island.new.kept
-    c.begin_merge_island.new.stars c.in-Ok.ensures.fits c.begin_merge_island.ensures.has
+    c.begin_merge_island.new.stars c.in-Ok.ensures.fits c.begin_merge_island.ensures.halves.has
 
 pub drop_hidden-requires-clause-loose : goal.drop_hidden-requires-clause-loose
 drop_hidden-requires-clause-loose g c =
@@ -251,7 +251,7 @@ drop_hidden-requires-clause-loose g c =
     c.args.merger.now c.requires.proper c.first_and_rest.result.0.now
     c.first_and_rest.result.1.now (sym c.first_and_rest.ensures) c.requires.ring c.requires.strings
     c.begin_merge_island.new.rows c.begin_merge_island.new.table c.begin_merge_island.new.kept
-    c.begin_merge_island.new.stars c.in-Ok.ensures.fits c.begin_merge_island.ensures.has c.in-Ok.ensures.loose
+    c.begin_merge_island.new.stars c.in-Ok.ensures.fits c.begin_merge_island.ensures.halves.has c.in-Ok.ensures.loose
 
 pub drop_hidden-requires-clause-hidden : goal.drop_hidden-requires-clause-hidden
 drop_hidden-requires-clause-hidden g c =
@@ -260,7 +260,7 @@ drop_hidden-requires-clause-hidden g c =
     c.args.merger.now c.requires.proper c.first_and_rest.result.0.now
     c.first_and_rest.result.1.now (sym c.first_and_rest.ensures) c.requires.ring c.requires.strings
     c.begin_merge_island.new.rows c.begin_merge_island.new.table c.begin_merge_island.new.kept
-    c.begin_merge_island.new.stars c.in-Ok.ensures.fits c.begin_merge_island.ensures.has
+    c.begin_merge_island.new.stars c.in-Ok.ensures.fits c.begin_merge_island.ensures.halves.has
 
 pub returns-clause-made : goal.returns-clause-made
 returns-clause-made g c =
@@ -269,7 +269,7 @@ returns-clause-made g c =
     c.args.merger.now c.requires.proper c.first_and_rest.result.0.now
     c.first_and_rest.result.1.now (sym c.first_and_rest.ensures) c.requires.ring c.requires.strings
     c.begin_merge_island.new.rows c.begin_merge_island.new.table c.begin_merge_island.new.kept
-    c.begin_merge_island.new.stars c.in-Ok.ensures.fits c.begin_merge_island.ensures.has c.drop_hidden.new.draft
+    c.begin_merge_island.new.stars c.in-Ok.ensures.fits c.begin_merge_island.ensures.halves.has c.drop_hidden.new.draft
     c.drop_hidden.ensures.fit c.drop_hidden.ensures.map c.drop_hidden.ensures.drops
 
 pub returns-clause-valid : goal.returns-clause-valid
@@ -285,16 +285,16 @@ returns-clause-valid g c =
 
 pub returns-clause-row : goal.returns-clause-row
 returns-clause-row g c =
-    subst (λ (q : Parts). slice_get q.parcels c.in-Ok.gone.place ≡ Some c.in-Ok.gone.row) c.draft.view_is c.in-Ok.ensures.row
+    subst (λ (q : Parts). slice_get q.parcels c.in-Ok.gone.place ≡ Some c.in-Ok.gone.row) c.draft.view_is c.in-Ok.ensures.gone.row
 
 pub returns-clause-stood : goal.returns-clause-stood
 returns-clause-stood g c =
-    subst (λ (q : Parts). StoodIn q.strings c.in-Ok.gone.strings.items) c.draft.view_is c.in-Ok.ensures.stood
+    subst (λ (q : Parts). StoodIn q.strings c.in-Ok.gone.strings.items) c.draft.view_is c.in-Ok.ensures.gone.stood
 
 pub returns-clause-number : goal.returns-clause-number
 returns-clause-number g c =
     found-number (λ (r : ParcelRow). r.number) c.args.merger.now.ended (map_in c.draft.inside.rows).parcels
-    c.in-Ok.gone.row c.in-Ok.ensures.found
+    c.in-Ok.gone.row c.in-Ok.ensures.gone.found
 
 pub returns-clause-proper : goal.returns-clause-proper
 returns-clause-proper g c =
@@ -303,7 +303,7 @@ returns-clause-proper g c =
     c.args.merger.now c.requires.proper c.first_and_rest.result.0.now
     c.first_and_rest.result.1.now (sym c.first_and_rest.ensures) c.requires.ring c.requires.strings
     c.begin_merge_island.new.rows c.begin_merge_island.new.table c.begin_merge_island.new.kept
-    c.begin_merge_island.new.stars c.in-Ok.ensures.fits c.begin_merge_island.ensures.has c.drop_hidden.new.draft
+    c.begin_merge_island.new.stars c.in-Ok.ensures.fits c.begin_merge_island.ensures.halves.has c.drop_hidden.new.draft
     c.drop_hidden.ensures.fit c.drop_hidden.ensures.map c.drop_hidden.ensures.drops
 
 pub returns-clause-work : goal.returns-clause-work

@@ -64,11 +64,11 @@ hand_over-requires-2-clause-room g c =
     let room = c.requires.inner_room in
     omega (arith, count, more, cap, cap_one, room)
 
-pub returns-clause-has : goal.returns-clause-has
-returns-clause-has g c = λ h. c.relabel_each.ensures.relabels.has h ∙ c.bring_left.ensures.has h
-
-pub returns-clause-origin : goal.returns-clause-origin
-returns-clause-origin g c = λ h. c.relabel_each.ensures.relabels.origin h ∙ c.bring_left.ensures.origin h
+pub returns-clause-halves : goal.returns-clause-halves
+returns-clause-halves g c = record {
+  has = λ h. c.relabel_each.ensures.relabels.has h ∙ c.bring_left.ensures.has h;
+  origin = λ h. c.relabel_each.ensures.relabels.origin h ∙ c.bring_left.ensures.origin h;
+}
 
 pub returns-clause-count : goal.returns-clause-count
 returns-clause-count g c =

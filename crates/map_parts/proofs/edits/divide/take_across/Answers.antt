@@ -91,14 +91,14 @@ keep_one-requires-clause-room g c =
     let room = c.requires.outer_room in
     omega (arith, items, cap, cap_one, cap_two, handed, again, room)
 
-pub returns-clause-has : goal.returns-clause-has
-returns-clause-has g c = λ h. c.take_left.ensures.has h ∙ c.relabel_each.ensures.relabels.has h
+pub returns-clause-halves : goal.returns-clause-halves
+returns-clause-halves g c = record {
+  has = λ h. c.take_left.ensures.has h ∙ c.relabel_each.ensures.relabels.has h;
+  origin = λ h. c.take_left.ensures.origin h ∙ c.relabel_each.ensures.relabels.origin h;
+}
 
-pub returns-clause-origin : goal.returns-clause-origin
-returns-clause-origin g c = λ h. c.take_left.ensures.origin h ∙ c.relabel_each.ensures.relabels.origin h
-
-pub returns-clause-few : goal.returns-clause-few
-returns-clause-few g c =
+pub returns-clause-kept : goal.returns-clause-kept
+returns-clause-kept g c =
     let outer : ℕ = face_place c.args.outer.now in
     let inner : ℕ = face_place c.args.inner.now in
     let key = c.face_place.ensures in
@@ -108,13 +108,13 @@ returns-clause-few g c =
     let count = count-handed c.relabel_each.new.table.rows inner outer c.args.kept.now c.hand_over.new.kept c.hand_over.ensures.hands in
     let again = count-handed c.take_left.new.table.rows outer inner c.clear.new.kept c.hand_over-2.new.kept c.hand_over-2.ensures.hands in
     let one = one-few inner outer c.next-start.result c.hand_over-2.new.kept c.keep_one.new.kept c.keep_one.ensures.one in
-    omega (arith, items, gone, count, again, one)
-
-pub returns-clause-capacity : goal.returns-clause-capacity
-returns-clause-capacity g c = λ n.
-    c.keep_one.ensures.capacity n ∙ c.hand_over-2.ensures.capacity n
-    ∙ put-capacity c.face_place.result n c.hand_over.new.kept c.clear.new.kept c.clear.ensures.others c.clear.ensures.capacity
-    ∙ c.hand_over.ensures.capacity n
+    record {
+      few = omega (arith, items, gone, count, again, one);
+      capacity = λ n.
+          c.keep_one.ensures.capacity n ∙ c.hand_over-2.ensures.capacity n
+          ∙ put-capacity c.face_place.result n c.hand_over.new.kept c.clear.new.kept c.clear.ensures.others c.clear.ensures.capacity
+          ∙ c.hand_over.ensures.capacity n;
+    }
 
 pub returns-clause-work : goal.returns-clause-work
 returns-clause-work g c =
@@ -142,7 +142,7 @@ returns-clause-chain g c = λ whole parted chain fc lc one left right others rin
     let new = c.take_left.new.table.rows in
     let labels = c.relabel_each.ensures.relabels in
     let key = c.face_place.ensures in
-    let origins : (h : Half) → _ = returns-clause-origin g c in
+    let origins : (h : Half) → _ = (returns-clause-halves g c).origin in
     let faces_new : (h : Half) → face new h ≡ (if is_of (strings_of (first ∷ rest)) h then inner else if holds (cycle old first) h then outer else if on_cycles old moved h then outer else face old h) =
     λ h. c.take_left.ensures.faces h ∙ (λ i. if is_of (strings_of (first ∷ rest)) h then inner else if holds (cycle-same old back labels.strings labels.next i first) h then outer else labels.face h i) in
     let local_back = local-kept parted old back (λ h shown. labels.has h) (λ h shown. labels.next h) (λ h shown. labels.origin h) c.relabel_each.ensures.linked fits.local in
@@ -152,7 +152,7 @@ returns-clause-chain g c = λ whole parted chain fc lc one left right others rin
     let on = start-on whole parted outer inner chain fc lc one left right others it rings parts long first rest more moved old new origins fits of along first_side last_side faces_new c.requires.back_away in
     let one_kept = subst (λ (h : Half). KeepsOne (face_place inner) (face_place outer) h c.hand_over-2.new.kept c.keep_one.new.kept) is_start c.keep_one.ensures.one in (
       fits-cut whole parted outer inner chain fc lc one left right others it rings parts long first rest more moved old new origins fits of along first_side last_side faces_new
-          local (returns-clause-has g c) ends,
+          local (returns-clause-halves g c).has ends,
       chain-gone whole parted outer inner chain fc lc one left right others it rings parts long first rest more moved old new origins fits of along first_side last_side faces_new
           two back labels.face c.args.kept.now c.hand_over.new.kept c.clear.new.kept c.hand_over-2.new.kept c.keep_one.new.kept (next old (twin first)) keeps c.hand_over.ensures.hands
           (subst (λ (k : ℕ). items_at c.clear.new.kept k ≡ []) key c.clear.ensures.none)

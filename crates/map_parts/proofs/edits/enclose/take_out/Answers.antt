@@ -38,8 +38,8 @@ hand_over-requires-2-clause-room g c =
     let room = c.requires.inner_room in
     omega (arith, count, cap, room)
 
-pub returns-clause-few : goal.returns-clause-few
-returns-clause-few g c =
+pub returns-clause-kept : goal.returns-clause-kept
+returns-clause-kept g c =
     let new = c.take_island.new.table.rows in
     let outer : ℕ = face_place c.args.outer.now in
     let inner : ℕ = face_place c.args.inner.now in
@@ -49,12 +49,12 @@ returns-clause-few g c =
     let gone = ap length (subst (λ (k : ℕ). items_at c.clear.new.kept k ≡ []) key c.clear.ensures.none) in
     let count = count-handed new inner outer c.args.kept.now c.hand_over.new.kept c.hand_over.ensures.hands in
     let again = count-handed new outer inner c.hand_over.new.kept c.hand_over-2.new.kept c.hand_over-2.ensures.hands in
-    omega (arith, items, gone, count, again)
-
-pub returns-clause-capacity : goal.returns-clause-capacity
-returns-clause-capacity g c = λ n.
-    put-capacity c.face_place.result n c.hand_over-2.new.kept c.clear.new.kept c.clear.ensures.others c.clear.ensures.capacity
-    ∙ c.hand_over-2.ensures.capacity n ∙ c.hand_over.ensures.capacity n
+    record {
+      few = omega (arith, items, gone, count, again);
+      capacity = λ n.
+          put-capacity c.face_place.result n c.hand_over-2.new.kept c.clear.new.kept c.clear.ensures.others c.clear.ensures.capacity
+          ∙ c.hand_over-2.ensures.capacity n ∙ c.hand_over.ensures.capacity n;
+    }
 
 pub returns-clause-island : goal.returns-clause-island
 returns-clause-island g c = λ whole parted ring left right others rings parts long it two more along ends of fits keeps.

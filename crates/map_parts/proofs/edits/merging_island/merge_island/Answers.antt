@@ -1,7 +1,5 @@
-use Rattle.std.proofs.Common.{◌∷◌, ap, ◌∙◌}
+use Rattle.std.proofs.Common.{◌∷◌}
 use Rattle.cad_rows.specs.declared.names.Face.TheVariants.{Parcel}
-use Rattle.cad_map.specs.Map.{Map}
-use Rattle.map_parts.specs.StringRows.{without_rows}
 use Rattle.map_parts.proofs.MergedRows as rows_of
 use Rattle.map_parts.proofs.MergingIsland as it
 use Rattle.map_parts.proofs.edits.merging_island.merge_island.Goals as goal
@@ -11,39 +9,25 @@ take_out-requires g c =
     let can = c.requires.can in
     record {
       linked = can.fits.fits.local.linked;
-      within = it.made-within c.args.keeper.now c.args.ended c.args.strings.now c.args.first.now c.args.rest.now c.args.moved.now c.args.rows.now c.args.table.now.rows c.args.kept.now c.args.stars.now can;
-      different = it.made-different c.args.keeper.now c.args.ended c.args.strings.now c.args.first.now c.args.rest.now c.args.moved.now c.args.rows.now c.args.table.now.rows c.args.kept.now c.args.stars.now can;
-      round = it.made-round c.args.keeper.now c.args.ended c.args.strings.now c.args.first.now c.args.rest.now c.args.moved.now c.args.rows.now c.args.table.now.rows c.args.kept.now c.args.stars.now can;
-      moved_in = it.made-moved c.args.keeper.now c.args.ended c.args.strings.now c.args.first.now c.args.rest.now c.args.moved.now c.args.rows.now c.args.table.now.rows c.args.kept.now c.args.stars.now can;
-      outer_in = it.made-kept c.args.keeper.now c.args.ended c.args.strings.now c.args.first.now c.args.rest.now c.args.moved.now c.args.rows.now c.args.table.now.rows c.args.kept.now c.args.stars.now can c.args.keeper.now;
-      inner_in = it.made-kept c.args.keeper.now c.args.ended c.args.strings.now c.args.first.now c.args.rest.now c.args.moved.now c.args.rows.now c.args.table.now.rows c.args.kept.now c.args.stars.now can (Parcel c.args.ended);
-      differ = it.made-differ c.args.keeper.now c.args.ended c.args.strings.now c.args.first.now c.args.rest.now c.args.moved.now c.args.rows.now c.args.table.now.rows c.args.kept.now c.args.stars.now can;
+      within = it.made-within can;
+      different = it.made-different can;
+      round = it.made-round can;
+      moved_in = it.made-moved can;
+      outer_in = it.made-kept can c.args.keeper.now;
+      inner_in = it.made-kept can (Parcel c.args.ended);
+      differ = it.made-differ can;
       inner_room = can.inner_room;
       outer_room = can.outer_room;
     }
 
-pub retire-taken-requires : goal.retire-taken-requires
-retire-taken-requires g c =
+pub take_ended-requires-clause-can : goal.take_ended-requires-clause-can
+take_ended-requires-clause-can g c =
     let can = c.requires.can in
-    record {
-      there = rows_of.made-parcel can.map c.args.keeper.now c.args.ended (c.args.first.now ∷ c.args.rest.now) can.is.tried can.is.shared c.args.rows.now c.args.table.now.rows c.args.kept.now c.args.stars.now can.fits;
-      fresh = rows_of.made-fresh can.map c.args.keeper.now c.args.ended (c.args.first.now ∷ c.args.rest.now) can.is.tried can.is.shared c.args.rows.now c.args.table.now.rows c.args.kept.now c.args.stars.now can.fits;
-      slot = can.slot;
-    }
-
-pub take_placed-requires-clause-can : goal.take_placed-requires-clause-can
-take_placed-requires-clause-can g c =
-    let can = c.requires.can in
-    rows_of.made-take can.map c.args.keeper.now c.args.ended (c.args.first.now ∷ c.args.rest.now) can.is.tried can.is.shared c.args.rows.now c.args.table.now.rows c.args.kept.now c.args.stars.now can.fits
-    c.args.strings.now can.strings_are c.retire-taken.new.rows (ap (λ (q : Map). q.strings) c.retire-taken.ensures.rows)
+    rows_of.made-end can.map c.args.keeper.now c.args.ended (c.args.first.now ∷ c.args.rest.now) can.is.tried can.is.shared can.fits can.strings_are can.slot
 
 pub returns-clause-fits : goal.returns-clause-fits
 returns-clause-fits g c = λ can.
     let wide = c.take_out.new.table.rows in
     let put = c.take_out.new.kept in
-    rows_of.made-fits can.map c.args.keeper.now c.args.ended (c.args.first.now ∷ c.args.rest.now) can.is.tried can.is.shared c.args.rows.now c.args.table.now.rows c.args.kept.now c.args.stars.now can.fits
-    c.args.strings.now can.strings_are c.take_placed.new.rows wide put c.take_placed.new.stars
-    (it.made-table c.args.keeper.now c.args.ended c.args.strings.now c.args.first.now c.args.rest.now c.args.moved.now c.args.rows.now c.args.table.now.rows c.args.kept.now c.args.stars.now can
-    wide put c.take_out.ensures.island)
-    (c.take_placed.ensures.rows ∙ ap (λ (q : Map). record q { strings = without_rows c.args.strings.now q.strings }) c.retire-taken.ensures.rows)
-    c.take_placed.ensures.stars
+    rows_of.made-fits can.map c.args.keeper.now c.args.ended (c.args.first.now ∷ c.args.rest.now) can.is.tried can.is.shared can.fits can.strings_are c.take_ended.new.rows wide put c.take_ended.new.stars
+    (it.made-table can wide put c.take_out.ensures.island) c.take_ended.ensures.rows c.take_ended.ensures.stars

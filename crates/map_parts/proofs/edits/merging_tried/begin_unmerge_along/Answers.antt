@@ -1,5 +1,4 @@
-use Rattle.std.proofs.Common.{ℕ, ◌∷◌, ◌+◌, ◌*◌, ◌∙◌, List, length, ap, if◌then◌else◌, true}
-use Rattle.half_table.specs.declared.half.Half.{Half}
+use Rattle.std.proofs.Common.{ℕ, ◌+◌, ◌*◌, ◌∙◌, List, length, ap, if◌then◌else◌, true}
 use Rattle.half_table.specs.Count.{ticked}
 use Rattle.half_table.specs.Rows.{has, cycle}
 use Rattle.half_paths.specs.Loose.{is_of}
@@ -10,51 +9,46 @@ use Rattle.map_parts.proofs.edits.merging_tried.begin_unmerge_along.Goals as goa
 
 pub make_unmerge_room-requires : goal.make_unmerge_room-requires
 make_unmerge_room-requires g c =
-    let path : List Half = c.args.first.now ∷ c.args.rest.now in
     record {
-      linked = begun.undo-linked c.args.keeper.now c.args.gone.row c.args.gone.place path c.args.start.now c.args.end.now c.args.moved.now c.args.gone.strings.items c.args.rows.now c.args.table.now.rows c.args.kept.now c.args.stars.now c.requires;
+      linked = begun.undo-linked c.requires;
       new = c.requires.new;
-      different = begun.undo-different c.args.keeper.now c.args.gone.row c.args.gone.place path c.args.start.now c.args.end.now c.args.moved.now c.args.gone.strings.items c.args.rows.now c.args.table.now.rows c.args.kept.now c.args.stars.now c.requires;
+      different = begun.undo-different c.requires;
     }
 
 pub unmerge_along-requires : goal.unmerge_along-requires
 unmerge_along-requires g c =
-    let path : List Half = c.args.first.now ∷ c.args.rest.now in
     let made = c.make_unmerge_room.ensures in
     let ok = c.in_ok-make_unmerge_room.ensures in
-    begun.undo-can c.args.keeper.now c.args.gone.row c.args.gone.place path c.args.start.now c.args.end.now c.args.moved.now c.args.gone.strings.items c.args.rows.now c.args.table.now.rows c.args.kept.now c.args.stars.now c.requires
-    c.make_unmerge_room.new.table.rows ok.adds c.make_unmerge_room.new.rows c.make_unmerge_room.new.kept c.make_unmerge_room.new.stars made.rows made.kept made.stars made.linked
+    begun.undo-can c.requires
+    ok.adds c.make_unmerge_room.new.rows c.make_unmerge_room.new.kept c.make_unmerge_room.new.stars made.rows made.kept made.stars made.linked
     ok.slots ok.parcel_slot ok.room ok.inner ok.outer
 
 pub returns-in_err-make_unmerge_room-clause-err : goal.returns-in_err-make_unmerge_room-clause-err
 returns-in_err-make_unmerge_room-clause-err g c = λ can.
-    let path : List Half = c.args.first.now ∷ c.args.rest.now in
     let made = c.make_unmerge_room.ensures in
     on-err _
-    (begun.undo-room c.args.keeper.now c.args.gone.row c.args.gone.place path c.args.start.now c.args.end.now c.args.moved.now c.args.gone.strings.items c.args.rows.now c.args.table.now.rows c.args.kept.now c.args.stars.now can
+    (begun.undo-room can
     c.make_unmerge_room.new.rows c.make_unmerge_room.new.kept c.make_unmerge_room.new.stars c.make_unmerge_room.new.table.rows made.rows made.kept made.stars c.in_err-make_unmerge_room.ensures.err)
 
 pub returns-clause-fits : goal.returns-clause-fits
 returns-clause-fits g c = λ can.
-    let path : List Half = c.args.first.now ∷ c.args.rest.now in
     let made = c.make_unmerge_room.ensures in
     let ok = c.in_ok-make_unmerge_room.ensures in
     c.unmerge_along.ensures.fits
-    (begun.undo-can c.args.keeper.now c.args.gone.row c.args.gone.place path c.args.start.now c.args.end.now c.args.moved.now c.args.gone.strings.items c.args.rows.now c.args.table.now.rows c.args.kept.now c.args.stars.now can
-    c.make_unmerge_room.new.table.rows ok.adds c.make_unmerge_room.new.rows c.make_unmerge_room.new.kept c.make_unmerge_room.new.stars made.rows made.kept made.stars made.linked
+    (begun.undo-can can
+    ok.adds c.make_unmerge_room.new.rows c.make_unmerge_room.new.kept c.make_unmerge_room.new.stars made.rows made.kept made.stars made.linked
     ok.slots ok.parcel_slot ok.room ok.inner ok.outer)
 
 pub returns-clause-has : goal.returns-clause-has
 returns-clause-has g c = λ h.
-    c.unmerge_along.ensures.has h ∙ c.in_ok-make_unmerge_room.ensures.adds.has h
+    c.unmerge_along.ensures.halves.has h ∙ c.in_ok-make_unmerge_room.ensures.adds.has h
     ∙ ap (λ (l : List ℕ). if is_of l h then true else has c.args.table.now.rows h) (begun.placed-numbers c.args.gone.strings.items)
 
 pub returns-clause-origin : goal.returns-clause-origin
 returns-clause-origin g c = λ h there.
-    let path : List Half = c.args.first.now ∷ c.args.rest.now in
-    c.unmerge_along.ensures.origin h
-    ∙ begun.undo-origin c.args.keeper.now c.args.gone.row c.args.gone.place path c.args.start.now c.args.end.now c.args.moved.now c.args.gone.strings.items c.args.rows.now c.args.table.now.rows c.args.kept.now c.args.stars.now c.requires
-    c.make_unmerge_room.new.table.rows c.in_ok-make_unmerge_room.ensures.adds h there
+    c.unmerge_along.ensures.halves.origin h
+    ∙ begun.undo-origin c.requires
+    c.in_ok-make_unmerge_room.ensures.adds h there
 
 pub returns-clause-work : goal.returns-clause-work
 returns-clause-work g c =
