@@ -82,29 +82,20 @@ nat_eq-is a b = ((Decides-eqb a b).0, (Decides-eqb a b).1)
 
 module _ (through past : Map) (p a b : ℕ) (passing : Passing)
     (it : HasBetween through past p a b passing) where
-  abbrev x : Half
-  x = passing.first
-
-  abbrev y : Half
-  y = passing.second
-
-  abbrev z : Half
-  z = passing.whole
-
   -- ---- The strings differ
 
-  different : (nat_eq z.string x.string ≡ false) × (nat_eq z.string y.string ≡ false) × (nat_eq x.string y.string ≡ false)
+  different : (nat_eq passing.whole.string passing.first.string ≡ false) × (nat_eq passing.whole.string passing.second.string ≡ false) × (nat_eq passing.first.string passing.second.string ≡ false)
   unfolding IsDistinct
   different = let d = it.different in (d.0.0, d.0.1.0, d.1.0.0)
 
-  pub zx : z.string ≢ x.string
-  zx = nat-other z.string x.string different.0
+  pub zx : passing.whole.string ≢ passing.first.string
+  zx = nat-other passing.whole.string passing.first.string different.0
 
-  pub zy : z.string ≢ y.string
-  zy = nat-other z.string y.string different.1
+  pub zy : passing.whole.string ≢ passing.second.string
+  zy = nat-other passing.whole.string passing.second.string different.1
 
-  pub xy : x.string ≢ y.string
-  xy = nat-other x.string y.string different.2
+  pub xy : passing.first.string ≢ passing.second.string
+  xy = nat-other passing.first.string passing.second.string different.2
 
   -- ---- Whose halves they are
 
@@ -131,13 +122,13 @@ module _ (through past : Map) (p a b : ℕ) (passing : Passing)
       All-at_each (λ k. n ≢ k) (map (λ (s : StringRow). s.number) it.others) k.row.number all
       (Contains-map (λ (s : StringRow). s.number) it.others k.row k.there) (sym same ∙ sym k.number)
 
-  pub not-first : (h : Half) → IsOther h → h.string ≢ x.string
+  pub not-first : (h : Half) → IsOther h → h.string ≢ passing.first.string
   not-first h k same = apart-from it.first_row.number numbers-through.0.1 h k (same ∙ it.first_along.string)
 
-  pub not-second : (h : Half) → IsOther h → h.string ≢ y.string
+  pub not-second : (h : Half) → IsOther h → h.string ≢ passing.second.string
   not-second h k same = apart-from it.second_row.number numbers-through.1.0 h k (same ∙ it.second_along.string)
 
-  pub not-whole : (h : Half) → IsOther h → h.string ≢ z.string
+  pub not-whole : (h : Half) → IsOther h → h.string ≢ passing.whole.string
   not-whole h k same = apart-from it.whole_row.number numbers-past.0 h k (same ∙ it.whole_along.string)
 
   in-through : (s : StringRow) → Contains (it.first_row ∷ it.second_row ∷ it.others) s → Contains through.strings s
@@ -165,13 +156,13 @@ module _ (through past : Map) (p a b : ℕ) (passing : Passing)
   shown-row m h s there number =
       subst (λ (n : ℕ). IsShown m (half_of n h.forward)) number (row-there m.strings s there)
 
-  pub first-shown : (h : Half) → h.string ≡ x.string → IsShown through h
+  pub first-shown : (h : Half) → h.string ≡ passing.first.string → IsShown through h
   first-shown h same = shown-row through h it.first_row first-in (sym it.first_along.string ∙ sym same)
 
-  pub second-shown : (h : Half) → h.string ≡ y.string → IsShown through h
+  pub second-shown : (h : Half) → h.string ≡ passing.second.string → IsShown through h
   second-shown h same = shown-row through h it.second_row second-in (sym it.second_along.string ∙ sym same)
 
-  pub whole-shown : (h : Half) → h.string ≡ z.string → IsShown past h
+  pub whole-shown : (h : Half) → h.string ≡ passing.whole.string → IsShown past h
   whole-shown h same = shown-row past h it.whole_row whole-in (sym it.whole_along.string ∙ sym same)
 
   pub other-through : (h : Half) → IsOther h → IsShown through h
@@ -182,28 +173,28 @@ module _ (through past : Map) (p a b : ℕ) (passing : Passing)
 
   -- a half of the map with the point
   pub data IsThrough (h : Half) : Type 0 where
-    is_first : h ≡ x → IsThrough h
-    is_first_back : h ≡ twin x → IsThrough h
-    is_second : h ≡ y → IsThrough h
-    is_second_back : h ≡ twin y → IsThrough h
+    is_first : h ≡ passing.first → IsThrough h
+    is_first_back : h ≡ twin passing.first → IsThrough h
+    is_second : h ≡ passing.second → IsThrough h
+    is_second_back : h ≡ twin passing.second → IsThrough h
     is_other : IsOther h → IsThrough h
 
   -- and of the one without it
   pub data IsPast (h : Half) : Type 0 where
-    is_whole : h ≡ z → IsPast h
-    is_whole_back : h ≡ twin z → IsPast h
+    is_whole : h ≡ passing.whole → IsPast h
+    is_whole_back : h ≡ twin passing.whole → IsPast h
     is_elsewhere : IsOther h → IsPast h
 
   pub through-half : (h : Half) → IsShown through h → IsThrough h
   through-half h shown =
       let row = found-row through.strings h.string shown in
       elim (Contains-cases it.first_row (it.second_row ∷ it.others) row.0 (Contains-permutation _ _ row.0 it.strings row.1)) [
-        | inl e ↦ elim (half-or_twin h x (sym row.2 ∙ ap (λ (s : StringRow). s.number) (sym e) ∙ sym it.first_along.string)) [
+        | inl e ↦ elim (half-or_twin h passing.first (sym row.2 ∙ ap (λ (s : StringRow). s.number) (sym e) ∙ sym it.first_along.string)) [
           | inl same ↦ is_first same
           | inr back ↦ is_first_back back
         ]
         | inr later ↦ elim (Contains-cases it.second_row it.others row.0 later) [
-          | inl e ↦ elim (half-or_twin h y (sym row.2 ∙ ap (λ (s : StringRow). s.number) (sym e) ∙ sym it.second_along.string)) [
+          | inl e ↦ elim (half-or_twin h passing.second (sym row.2 ∙ ap (λ (s : StringRow). s.number) (sym e) ∙ sym it.second_along.string)) [
             | inl same ↦ is_second same
             | inr back ↦ is_second_back back
           ]
@@ -215,7 +206,7 @@ module _ (through past : Map) (p a b : ℕ) (passing : Passing)
   past-half h shown =
       let row = found-row past.strings h.string shown in
       elim (Contains-cases it.whole_row it.others row.0 (Contains-permutation _ _ row.0 it.strings_past row.1)) [
-        | inl e ↦ elim (half-or_twin h z (sym row.2 ∙ ap (λ (s : StringRow). s.number) (sym e) ∙ sym it.whole_along.string)) [
+        | inl e ↦ elim (half-or_twin h passing.whole (sym row.2 ∙ ap (λ (s : StringRow). s.number) (sym e) ∙ sym it.whole_along.string)) [
           | inl same ↦ is_whole same
           | inr back ↦ is_whole_back back
         ]
@@ -225,40 +216,40 @@ module _ (through past : Map) (p a b : ℕ) (passing : Passing)
   -- ---- The three points differ
 
   pub a-p : a ≢ p
-  a-p = along-two it.first_row x (a, p) (All-at_each (λ (s : StringRow). s.from ≢ s.to) through.strings it.first_row (two-ends through it.rings) first-in) it.first_along
+  a-p = along-two it.first_row passing.first (a, p) (All-at_each (λ (s : StringRow). s.from ≢ s.to) through.strings it.first_row (two-ends through it.rings) first-in) it.first_along
 
   pub b-p : b ≢ p
-  b-p same = along-two it.second_row y (p, b) (All-at_each (λ (s : StringRow). s.from ≢ s.to) through.strings it.second_row (two-ends through it.rings) second-in) it.second_along (sym same)
+  b-p same = along-two it.second_row passing.second (p, b) (All-at_each (λ (s : StringRow). s.from ≢ s.to) through.strings it.second_row (two-ends through it.rings) second-in) it.second_along (sym same)
 
   -- ---- In a table that has all three strings
 
   module _ (rows : HalfRows) (first_there : HasHalves rows it.first_row) (second_there : HasHalves rows it.second_row) (whole_there : HasHalves rows it.whole_row) where
-    pub x-side : side_by rows x ≡ (a, p)
-    x-side = (along-side rows it.first_row x (a, p) first_there it.first_along).1
+    pub x-side : side_by rows passing.first ≡ (a, p)
+    x-side = (along-side rows it.first_row passing.first (a, p) first_there it.first_along).1
 
-    pub y-side : side_by rows y ≡ (p, b)
-    y-side = (along-side rows it.second_row y (p, b) second_there it.second_along).1
+    pub y-side : side_by rows passing.second ≡ (p, b)
+    y-side = (along-side rows it.second_row passing.second (p, b) second_there it.second_along).1
 
-    pub z-side : side_by rows z ≡ (a, b)
-    z-side = (along-side rows it.whole_row z (a, b) whole_there it.whole_along).1
+    pub z-side : side_by rows passing.whole ≡ (a, b)
+    z-side = (along-side rows it.whole_row passing.whole (a, b) whole_there it.whole_along).1
 
-    pub tx-side : side_by rows (twin x) ≡ (p, a)
-    tx-side = twin-side rows x ∙ ap opposite x-side
+    pub tx-side : side_by rows (twin passing.first) ≡ (p, a)
+    tx-side = twin-side rows passing.first ∙ ap opposite x-side
 
-    pub ty-side : side_by rows (twin y) ≡ (b, p)
-    ty-side = twin-side rows y ∙ ap opposite y-side
+    pub ty-side : side_by rows (twin passing.second) ≡ (b, p)
+    ty-side = twin-side rows passing.second ∙ ap opposite y-side
 
-    pub tz-side : side_by rows (twin z) ≡ (b, a)
-    tz-side = twin-side rows z ∙ ap opposite z-side
+    pub tz-side : side_by rows (twin passing.whole) ≡ (b, a)
+    tz-side = twin-side rows passing.whole ∙ ap opposite z-side
 
-    pub x-in : has rows x ≡ true
-    x-in = (along-side rows it.first_row x (a, p) first_there it.first_along).0
+    pub x-in : has rows passing.first ≡ true
+    x-in = (along-side rows it.first_row passing.first (a, p) first_there it.first_along).0
 
-    pub y-in : has rows y ≡ true
-    y-in = (along-side rows it.second_row y (p, b) second_there it.second_along).0
+    pub y-in : has rows passing.second ≡ true
+    y-in = (along-side rows it.second_row passing.second (p, b) second_there it.second_along).0
 
-    pub z-in : has rows z ≡ true
-    z-in = (along-side rows it.whole_row z (a, b) whole_there it.whole_along).0
+    pub z-in : has rows passing.whole ≡ true
+    z-in = (along-side rows it.whole_row passing.whole (a, b) whole_there it.whole_along).0
 
 pub twin-in : (rows : HalfRows) (h : Half) → has rows h ≡ true → has rows (twin h) ≡ true
 twin-in rows h there = has-string rows (twin h) ∙ sym (has-string rows h) ∙ there

@@ -76,26 +76,17 @@ left-test false was now is there = refl
 
 module _ (through past : Map) (p a b : ℕ) (passing : Passing)
     (it : HasBetween through past p a b passing) where
-  abbrev x : Half
-  x = passing.first
-
-  abbrev y : Half
-  y = passing.second
-
-  abbrev z : Half
-  z = passing.whole
-
   abbrev rest : ℕ → Bool
   rest n = is_row n it.others
 
-  in-through : (n : ℕ) → has_string through n ≡ (nat_eq n x.string || (nat_eq n y.string || rest n))
+  in-through : (n : ℕ) → has_string through n ≡ (nat_eq n passing.first.string || (nat_eq n passing.second.string || rest n))
   in-through n =
       is_row-permuted n through.strings (it.first_row ∷ it.second_row ∷ it.others) it.strings
       ∙ is_row-first n it.first_row (it.second_row ∷ it.others)
       ∙ ap (λ (b : Bool). nat_eq n it.first_row.number || b) (is_row-first n it.second_row it.others)
       ∙ (λ i. nat_eq n (sym it.first_along.string i) || (nat_eq n (sym it.second_along.string i) || rest n))
 
-  in-past : (n : ℕ) → has_string past n ≡ (nat_eq n z.string || rest n)
+  in-past : (n : ℕ) → has_string past n ≡ (nat_eq n passing.whole.string || rest n)
   in-past n =
       is_row-permuted n past.strings (it.whole_row ∷ it.others) it.strings_past
       ∙ is_row-first n it.whole_row it.others
@@ -114,74 +105,74 @@ module _ (through past : Map) (p a b : ℕ) (passing : Passing)
       false_from_ne_true (nat_eq n l) (λ h. apart (sym (eqb-true n k same) ∙ eqb-true n l h))
 
   -- the string past the point comes, and the two through it go
-  pub past-left : (h : Half) → (if is_of (strings_of (x ∷ y ∷ [])) h then false
-      else (if is_of (z.string ∷ []) h then true else has_string through h.string)) ≡ has_string past h.string
+  pub past-left : (h : Half) → (if is_of (strings_of (passing.first ∷ passing.second ∷ [])) h then false
+      else (if is_of (passing.whole.string ∷ []) h then true else has_string through h.string)) ≡ has_string past h.string
   past-left h =
       let n = h.string in
-      ap (λ (b : Bool). if is_of (strings_of (x ∷ y ∷ [])) h then false else (if is_of (z.string ∷ []) h then true else b)) (in-through n)
-      ∙ past-test (nat_eq n x.string) (nat_eq n y.string) (nat_eq n z.string) (rest n)
+      ap (λ (b : Bool). if is_of (strings_of (passing.first ∷ passing.second ∷ [])) h then false else (if is_of (passing.whole.string ∷ []) h then true else b)) (in-through n)
+      ∙ past-test (nat_eq n passing.first.string) (nat_eq n passing.second.string) (nat_eq n passing.whole.string) (rest n)
       (λ e. (
-        other-number n x.string z.string (λ k. between.zx through past p a b passing it (sym k)) e,
-        rest-not n x.string (between.not-first through past p a b passing it) e,
+        other-number n passing.first.string passing.whole.string (λ k. between.zx through past p a b passing it (sym k)) e,
+        rest-not n passing.first.string (between.not-first through past p a b passing it) e,
       ))
       (λ e. (
-        other-number n y.string z.string (λ k. between.zy through past p a b passing it (sym k)) e,
-        rest-not n y.string (between.not-second through past p a b passing it) e,
+        other-number n passing.second.string passing.whole.string (λ k. between.zy through past p a b passing it (sym k)) e,
+        rest-not n passing.second.string (between.not-second through past p a b passing it) e,
       ))
       ∙ sym (in-past n)
 
   -- the two through it come, and the one past it goes
-  pub through-left : (h : Half) → (if is_of (strings_of (z ∷ [])) h then false
-      else (if is_of (x.string ∷ y.string ∷ []) h then true else has_string past h.string)) ≡ has_string through h.string
+  pub through-left : (h : Half) → (if is_of (strings_of (passing.whole ∷ [])) h then false
+      else (if is_of (passing.first.string ∷ passing.second.string ∷ []) h then true else has_string past h.string)) ≡ has_string through h.string
   through-left h =
       let n = h.string in
-      ap (λ (b : Bool). if is_of (strings_of (z ∷ [])) h then false else (if is_of (x.string ∷ y.string ∷ []) h then true else b)) (in-past n)
-      ∙ through-test (nat_eq n x.string) (nat_eq n y.string) (nat_eq n z.string) (rest n)
+      ap (λ (b : Bool). if is_of (strings_of (passing.whole ∷ [])) h then false else (if is_of (passing.first.string ∷ passing.second.string ∷ []) h then true else b)) (in-past n)
+      ∙ through-test (nat_eq n passing.first.string) (nat_eq n passing.second.string) (nat_eq n passing.whole.string) (rest n)
       (λ e. (
-        other-number n z.string x.string (between.zx through past p a b passing it) e,
-        other-number n z.string y.string (between.zy through past p a b passing it) e,
-        rest-not n z.string (between.not-whole through past p a b passing it) e,
+        other-number n passing.whole.string passing.first.string (between.zx through past p a b passing it) e,
+        other-number n passing.whole.string passing.second.string (between.zy through past p a b passing it) e,
+        rest-not n passing.whole.string (between.not-whole through past p a b passing it) e,
       ))
       ∙ sym (in-through n)
 
   -- the strings that go are none of the map's
-  pub past-hidden : (h : Half) → IsShown past h → is_of (strings_of (x ∷ y ∷ [])) h ≡ false
+  pub past-hidden : (h : Half) → IsShown past h → is_of (strings_of (passing.first ∷ passing.second ∷ [])) h ≡ false
   past-hidden h shown =
-      left-test (is_of (strings_of (x ∷ y ∷ [])) h) (if is_of (z.string ∷ []) h then true else has_string through h.string)
+      left-test (is_of (strings_of (passing.first ∷ passing.second ∷ [])) h) (if is_of (passing.whole.string ∷ []) h then true else has_string through h.string)
       (has_string past h.string) (past-left h) shown
 
-  pub through-hidden : (h : Half) → IsShown through h → is_of (strings_of (z ∷ [])) h ≡ false
+  pub through-hidden : (h : Half) → IsShown through h → is_of (strings_of (passing.whole ∷ [])) h ≡ false
   through-hidden h shown =
-      left-test (is_of (strings_of (z ∷ [])) h) (if is_of (x.string ∷ y.string ∷ []) h then true else has_string past h.string)
+      left-test (is_of (strings_of (passing.whole ∷ [])) h) (if is_of (passing.first.string ∷ passing.second.string ∷ []) h then true else has_string past h.string)
       (has_string through h.string) (through-left h) shown
 
   -- and where what came goes again, the map's strings are left
-  pub through-again : (h : Half) → (if is_of (strings_of (z ∷ [])) h then false
-      else (if is_of (z.string ∷ []) h then true else has_string through h.string)) ≡ has_string through h.string
-  through-again h = again-test (is_of (strings_of (z ∷ [])) h) (has_string through h.string) (through-hidden h)
+  pub through-again : (h : Half) → (if is_of (strings_of (passing.whole ∷ [])) h then false
+      else (if is_of (passing.whole.string ∷ []) h then true else has_string through h.string)) ≡ has_string through h.string
+  through-again h = again-test (is_of (strings_of (passing.whole ∷ [])) h) (has_string through h.string) (through-hidden h)
 
-  pub past-again : (h : Half) → (if is_of (strings_of (x ∷ y ∷ [])) h then false
-      else (if is_of (x.string ∷ y.string ∷ []) h then true else has_string past h.string)) ≡ has_string past h.string
-  past-again h = again-test (is_of (strings_of (x ∷ y ∷ [])) h) (has_string past h.string) (past-hidden h)
+  pub past-again : (h : Half) → (if is_of (strings_of (passing.first ∷ passing.second ∷ [])) h then false
+      else (if is_of (passing.first.string ∷ passing.second.string ∷ []) h then true else has_string past h.string)) ≡ has_string past h.string
+  past-again h = again-test (is_of (strings_of (passing.first ∷ passing.second ∷ [])) h) (has_string past h.string) (past-hidden h)
 
   -- so the one map hasn't the other's strings
-  pub first-gone : has_string past x.string ≡ false
+  pub first-gone : has_string past passing.first.string ≡ false
   first-gone =
-      in-past x.string
-      ∙ (λ i. other-number x.string x.string z.string (λ k. between.zx through past p a b passing it (sym k)) (nat_eq_equiv.refl x.string) i
-      || rest-not x.string x.string (between.not-first through past p a b passing it) (nat_eq_equiv.refl x.string) i)
+      in-past passing.first.string
+      ∙ (λ i. other-number passing.first.string passing.first.string passing.whole.string (λ k. between.zx through past p a b passing it (sym k)) (nat_eq_equiv.refl passing.first.string) i
+      || rest-not passing.first.string passing.first.string (between.not-first through past p a b passing it) (nat_eq_equiv.refl passing.first.string) i)
 
-  pub second-gone : has_string past y.string ≡ false
+  pub second-gone : has_string past passing.second.string ≡ false
   second-gone =
-      in-past y.string
-      ∙ (λ i. other-number y.string y.string z.string (λ k. between.zy through past p a b passing it (sym k)) (nat_eq_equiv.refl y.string) i
-      || rest-not y.string y.string (between.not-second through past p a b passing it) (nat_eq_equiv.refl y.string) i)
+      in-past passing.second.string
+      ∙ (λ i. other-number passing.second.string passing.second.string passing.whole.string (λ k. between.zy through past p a b passing it (sym k)) (nat_eq_equiv.refl passing.second.string) i
+      || rest-not passing.second.string passing.second.string (between.not-second through past p a b passing it) (nat_eq_equiv.refl passing.second.string) i)
 
-  pub path-different : AreDifferent (x ∷ y ∷ [])
+  pub path-different : AreDifferent (passing.first ∷ passing.second ∷ [])
   unfolding IsDistinct
   path-different = it.different.1
 
-  pub whole-different : AreDifferent (z ∷ [])
+  pub whole-different : AreDifferent (passing.whole ∷ [])
   unfolding IsDistinct
   whole-different = (tt, tt)
 
@@ -195,15 +186,15 @@ module _ (through past : Map) (p a b : ℕ) (passing : Passing)
 
   -- and they are in the table
   pub path-in : (rows : HalfRows)
-      → ((h : Half) → has rows h ≡ (if is_of (z.string ∷ []) h then true else has_string through h.string))
-      → AreIn rows (x ∷ y ∷ [])
+      → ((h : Half) → has rows h ≡ (if is_of (passing.whole.string ∷ []) h then true else has_string through h.string))
+      → AreIn rows (passing.first ∷ passing.second ∷ [])
   path-in rows all = (
-    shown-in rows (is_of (z.string ∷ [])) through all x (between.first-shown through past p a b passing it x refl),
-    (shown-in rows (is_of (z.string ∷ [])) through all y (between.second-shown through past p a b passing it y refl), tt),
+    shown-in rows (is_of (passing.whole.string ∷ [])) through all passing.first (between.first-shown through past p a b passing it passing.first refl),
+    (shown-in rows (is_of (passing.whole.string ∷ [])) through all passing.second (between.second-shown through past p a b passing it passing.second refl), tt),
   )
 
   pub whole-in : (rows : HalfRows)
-      → ((h : Half) → has rows h ≡ (if is_of (x.string ∷ y.string ∷ []) h then true else has_string past h.string))
-      → AreIn rows (z ∷ [])
+      → ((h : Half) → has rows h ≡ (if is_of (passing.first.string ∷ passing.second.string ∷ []) h then true else has_string past h.string))
+      → AreIn rows (passing.whole ∷ [])
   whole-in rows all =
-      (shown-in rows (is_of (x.string ∷ y.string ∷ [])) past all z (between.whole-shown through past p a b passing it z refl), tt)
+      (shown-in rows (is_of (passing.first.string ∷ passing.second.string ∷ [])) past all passing.whole (between.whole-shown through past p a b passing it passing.whole refl), tt)

@@ -38,20 +38,11 @@ module _ (through past : Map) (p a b : ℕ) (passing : Passing)
     (fits : FitTable through rows held) (whole_there : HasHalves rows it.whole_row)
     (new : HalfRows) (keeps : KeepsHalves rows new) (linked : IsLinked new)
     (now : IsPastNow passing.first passing.second passing.whole (next rows) (next new)) where
-  abbrev x : Half
-  x = passing.first
-
-  abbrev y : Half
-  y = passing.second
-
-  abbrev z : Half
-  z = passing.whole
-
   abbrev left : Face
-  left = face rows x
+  left = face rows passing.first
 
   abbrev right : Face
-  right = face rows (twin y)
+  right = face rows (twin passing.second)
 
   abbrev Other : Half → Type 0
   Other h = IsOther through past p a b passing it h
@@ -62,22 +53,22 @@ module _ (through past : Map) (p a b : ℕ) (passing : Passing)
   second_there : HasHalves rows it.second_row
   second_there = past_point.second_there through past p a b passing it rows fits.local fits.ends whole_there
 
-  X : side_by rows x ≡ (a, p)
+  X : side_by rows passing.first ≡ (a, p)
   X = between.x-side through past p a b passing it rows first_there second_there whole_there
 
-  Y : side_by rows y ≡ (p, b)
+  Y : side_by rows passing.second ≡ (p, b)
   Y = between.y-side through past p a b passing it rows first_there second_there whole_there
 
-  Z : side_by rows z ≡ (a, b)
+  Z : side_by rows passing.whole ≡ (a, b)
   Z = between.z-side through past p a b passing it rows first_there second_there whole_there
 
-  TX : side_by rows (twin x) ≡ (p, a)
+  TX : side_by rows (twin passing.first) ≡ (p, a)
   TX = between.tx-side through past p a b passing it rows first_there second_there whole_there
 
-  TY : side_by rows (twin y) ≡ (b, p)
+  TY : side_by rows (twin passing.second) ≡ (b, p)
   TY = between.ty-side through past p a b passing it rows first_there second_there whole_there
 
-  TZ : side_by rows (twin z) ≡ (b, a)
+  TZ : side_by rows (twin passing.whole) ≡ (b, a)
   TZ = between.tz-side through past p a b passing it rows first_there second_there whole_there
 
   pub local : IsLocal past new
@@ -92,16 +83,16 @@ module _ (through past : Map) (p a b : ℕ) (passing : Passing)
   -- ---- The faces of the sides past the point
 
   left-has : HasSide through left (a, p)
-  left-has = subst (HasSide through left) X (fits.faces x (between.first-shown through past p a b passing it x refl))
+  left-has = subst (HasSide through left) X (fits.faces passing.first (between.first-shown through past p a b passing it passing.first refl))
 
   right-has : HasSide through right (b, p)
-  right-has = subst (HasSide through right) TY (fits.faces (twin y) (between.second-shown through past p a b passing it (twin y) refl))
+  right-has = subst (HasSide through right) TY (fits.faces (twin passing.second) (between.second-shown through past p a b passing it (twin passing.second) refl))
 
-  pub left-past : HasSide past left (side_by new z)
-  left-past = subst (HasSide past left) (sym (new-side z ∙ Z)) (it.joined.side_forth left left-has)
+  pub left-past : HasSide past left (side_by new passing.whole)
+  left-past = subst (HasSide past left) (sym (new-side passing.whole ∙ Z)) (it.joined.side_forth left left-has)
 
-  pub right-past : HasSide past right (side_by new (twin z))
-  right-past = subst (HasSide past right) (sym (new-side (twin z) ∙ TZ)) (it.joined.side_back right right-has)
+  pub right-past : HasSide past right (side_by new (twin passing.whole))
+  right-past = subst (HasSide past right) (sym (new-side (twin passing.whole) ∙ TZ)) (it.joined.side_back right right-has)
 
   -- the face of a half elsewhere
   elsewhere-faced : (h : Half) → Other h → HasSide past (face new h) (side_by new h)
@@ -116,38 +107,38 @@ module _ (through past : Map) (p a b : ℕ) (passing : Passing)
   -- ---- Both rings labelled
 
   module _ (mid done : HalfRows) (mid_linked : IsLinked mid) (done_linked : IsLinked done)
-      (one : Relabels (cycle new z) left new mid) (two : Relabels (cycle mid (twin z)) right mid done) where
-    z-shown : IsShown past z
-    z-shown = between.whole-shown through past p a b passing it z refl
+      (one : Relabels (cycle new passing.whole) left new mid) (two : Relabels (cycle mid (twin passing.whole)) right mid done) where
+    z-shown : IsShown past passing.whole
+    z-shown = between.whole-shown through past p a b passing it passing.whole refl
 
-    tz-shown : IsShown past (twin z)
-    tz-shown = between.whole-shown through past p a b passing it (twin z) refl
+    tz-shown : IsShown past (twin passing.whole)
+    tz-shown = between.whole-shown through past p a b passing it (twin passing.whole) refl
 
     mid-local : IsLocal past mid
-    mid-local = relabelled-local past it.rings_past new local ends z z-shown left left-past mid mid_linked one
+    mid-local = relabelled-local past it.rings_past new local ends passing.whole z-shown left left-past mid mid_linked one
 
     mid-ends : AllByRecursion (HasHalves mid) past.strings
-    mid-ends = relabelled-ends past it.rings_past new local ends z z-shown left left-past mid mid_linked one
+    mid-ends = relabelled-ends past it.rings_past new local ends passing.whole z-shown left left-past mid mid_linked one
 
-    right-mid : HasSide past right (side_by mid (twin z))
+    right-mid : HasSide past right (side_by mid (twin passing.whole))
     right-mid =
-        subst (HasSide past right) (sym (λ i. (one.origin (twin z) i, one.origin (twin (twin z)) i))) right-past
+        subst (HasSide past right) (sym (λ i. (one.origin (twin passing.whole) i, one.origin (twin (twin passing.whole)) i))) right-past
 
     onward : (h : Half) → HasSide past (face mid h) (side_by mid h) → HasSide past (face done h) (side_by done h)
     onward h was =
-        still-faced past it.rings_past mid mid-local mid-ends (twin z) tz-shown right right-mid done done_linked two h was
+        still-faced past it.rings_past mid mid-local mid-ends (twin passing.whole) tz-shown right right-mid done done_linked two h was
 
-    whole-faced : HasSide past (face done z) (side_by done z)
+    whole-faced : HasSide past (face done passing.whole) (side_by done passing.whole)
     whole-faced =
-        onward z (on-cycle_faced past it.rings_past new local ends z z-shown left left-past mid mid_linked one z (Contains-first z _))
+        onward passing.whole (on-cycle_faced past it.rings_past new local ends passing.whole z-shown left left-past mid mid_linked one passing.whole (Contains-first passing.whole _))
 
-    whole_back-faced : HasSide past (face done (twin z)) (side_by done (twin z))
+    whole_back-faced : HasSide past (face done (twin passing.whole)) (side_by done (twin passing.whole))
     whole_back-faced =
-        on-cycle_faced past it.rings_past mid mid-local mid-ends (twin z) tz-shown right right-mid done done_linked two (twin z) (Contains-first (twin z) _)
+        on-cycle_faced past it.rings_past mid mid-local mid-ends (twin passing.whole) tz-shown right right-mid done done_linked two (twin passing.whole) (Contains-first (twin passing.whole) _)
 
     other-faced : (h : Half) → Other h → HasSide past (face done h) (side_by done h)
     other-faced h k =
-        onward h (still-faced past it.rings_past new local ends z z-shown left left-past mid mid_linked one h (elsewhere-faced h k))
+        onward h (still-faced past it.rings_past new local ends passing.whole z-shown left left-past mid mid_linked one h (elsewhere-faced h k))
 
     faced : (h : Half) → IsShown past h → HasSide past (face done h) (side_by done h)
     faced h shown = elim (between.past-half through past p a b passing it h shown) [
@@ -170,63 +161,63 @@ module _ (through past : Map) (p a b : ℕ) (passing : Passing)
 
     abbrev moved : ℕ → Half → Half
     moved n h =
-        in_place_at R (twin x) (twin z) n (in_place_at R (twin y) (twin z) n
-        (in_place_at L y z n (in_place_at L x z n h)))
+        in_place_at R (twin passing.first) (twin passing.whole) n (in_place_at R (twin passing.second) (twin passing.whole) n
+        (in_place_at L passing.second passing.whole n (in_place_at L passing.first passing.whole n h)))
 
     -- the ring without the point
     abbrev drop : Boundary → Boundary
     drop r = canonical_form (bounding r.face (without p r.ring))
 
     -- where a half isn't one of the path it stays in its place
-    stays : (n : ℕ) (h : Half) → is_half h x ≡ false → is_half h y ≡ false → is_half h (twin y) ≡ false
-        → is_half h (twin x) ≡ false → moved n h ≡ h
+    stays : (n : ℕ) (h : Half) → is_half h passing.first ≡ false → is_half h passing.second ≡ false → is_half h (twin passing.second) ≡ false
+        → is_half h (twin passing.first) ≡ false → moved n h ≡ h
     stays n h e0 e1 e2 e3 =
-        ap (λ (g : Half). in_place_at R (twin x) (twin z) n (in_place_at R (twin y) (twin z) n (in_place_at L y z n g))) (in-place-other L n x z h e0)
-        ∙ ap (λ (g : Half). in_place_at R (twin x) (twin z) n (in_place_at R (twin y) (twin z) n g)) (in-place-other L n y z h e1)
-        ∙ ap (λ (g : Half). in_place_at R (twin x) (twin z) n g) (in-place-other R n (twin y) (twin z) h e2)
-        ∙ in-place-other R n (twin x) (twin z) h e3
+        ap (λ (g : Half). in_place_at R (twin passing.first) (twin passing.whole) n (in_place_at R (twin passing.second) (twin passing.whole) n (in_place_at L passing.second passing.whole n g))) (in-place-other L n passing.first passing.whole h e0)
+        ∙ ap (λ (g : Half). in_place_at R (twin passing.first) (twin passing.whole) n (in_place_at R (twin passing.second) (twin passing.whole) n g)) (in-place-other L n passing.second passing.whole h e1)
+        ∙ ap (λ (g : Half). in_place_at R (twin passing.first) (twin passing.whole) n g) (in-place-other R n (twin passing.second) (twin passing.whole) h e2)
+        ∙ in-place-other R n (twin passing.first) (twin passing.whole) h e3
 
-    z-x : z.string ≢ x.string
+    z-x : passing.whole.string ≢ passing.first.string
     z-x = between.zx through past p a b passing it
 
-    z-y : z.string ≢ y.string
+    z-y : passing.whole.string ≢ passing.second.string
     z-y = between.zy through past p a b passing it
 
-    x-y : x.string ≢ y.string
+    x-y : passing.first.string ≢ passing.second.string
     x-y = between.xy through past p a b passing it
 
-    to-first : (n : ℕ) → L ≡ n → moved n x ≡ z
+    to-first : (n : ℕ) → L ≡ n → moved n passing.first ≡ passing.whole
     to-first n e =
-        ap (λ (g : Half). in_place_at R (twin x) (twin z) n (in_place_at R (twin y) (twin z) n (in_place_at L y z n g))) (in-place-here L n x z e)
-        ∙ ap (λ (g : Half). in_place_at R (twin x) (twin z) n (in_place_at R (twin y) (twin z) n g)) (in-place-other L n y z z (other-half z y z-y))
-        ∙ ap (λ (g : Half). in_place_at R (twin x) (twin z) n g) (in-place-other R n (twin y) (twin z) z (other-half z (twin y) z-y))
-        ∙ in-place-other R n (twin x) (twin z) z (other-half z (twin x) z-x)
+        ap (λ (g : Half). in_place_at R (twin passing.first) (twin passing.whole) n (in_place_at R (twin passing.second) (twin passing.whole) n (in_place_at L passing.second passing.whole n g))) (in-place-here L n passing.first passing.whole e)
+        ∙ ap (λ (g : Half). in_place_at R (twin passing.first) (twin passing.whole) n (in_place_at R (twin passing.second) (twin passing.whole) n g)) (in-place-other L n passing.second passing.whole passing.whole (other-half passing.whole passing.second z-y))
+        ∙ ap (λ (g : Half). in_place_at R (twin passing.first) (twin passing.whole) n g) (in-place-other R n (twin passing.second) (twin passing.whole) passing.whole (other-half passing.whole (twin passing.second) z-y))
+        ∙ in-place-other R n (twin passing.first) (twin passing.whole) passing.whole (other-half passing.whole (twin passing.first) z-x)
 
-    to-second : (n : ℕ) → L ≡ n → moved n y ≡ z
+    to-second : (n : ℕ) → L ≡ n → moved n passing.second ≡ passing.whole
     to-second n e =
-        ap (λ (g : Half). in_place_at R (twin x) (twin z) n (in_place_at R (twin y) (twin z) n (in_place_at L y z n g)))
-        (in-place-other L n x z y (other-half y x (λ s. x-y (sym s))))
-        ∙ ap (λ (g : Half). in_place_at R (twin x) (twin z) n (in_place_at R (twin y) (twin z) n g)) (in-place-here L n y z e)
-        ∙ ap (λ (g : Half). in_place_at R (twin x) (twin z) n g) (in-place-other R n (twin y) (twin z) z (other-half z (twin y) z-y))
-        ∙ in-place-other R n (twin x) (twin z) z (other-half z (twin x) z-x)
+        ap (λ (g : Half). in_place_at R (twin passing.first) (twin passing.whole) n (in_place_at R (twin passing.second) (twin passing.whole) n (in_place_at L passing.second passing.whole n g)))
+        (in-place-other L n passing.first passing.whole passing.second (other-half passing.second passing.first (λ s. x-y (sym s))))
+        ∙ ap (λ (g : Half). in_place_at R (twin passing.first) (twin passing.whole) n (in_place_at R (twin passing.second) (twin passing.whole) n g)) (in-place-here L n passing.second passing.whole e)
+        ∙ ap (λ (g : Half). in_place_at R (twin passing.first) (twin passing.whole) n g) (in-place-other R n (twin passing.second) (twin passing.whole) passing.whole (other-half passing.whole (twin passing.second) z-y))
+        ∙ in-place-other R n (twin passing.first) (twin passing.whole) passing.whole (other-half passing.whole (twin passing.first) z-x)
 
-    to-second_back : (n : ℕ) → R ≡ n → moved n (twin y) ≡ twin z
+    to-second_back : (n : ℕ) → R ≡ n → moved n (twin passing.second) ≡ twin passing.whole
     to-second_back n e =
-        ap (λ (g : Half). in_place_at R (twin x) (twin z) n (in_place_at R (twin y) (twin z) n (in_place_at L y z n g)))
-        (in-place-other L n x z (twin y) (other-half (twin y) x (λ s. x-y (sym s))))
-        ∙ ap (λ (g : Half). in_place_at R (twin x) (twin z) n (in_place_at R (twin y) (twin z) n g))
-        (in-place-other L n y z (twin y) (is_half-turned y (twin y) (is_half-twin y)))
-        ∙ ap (λ (g : Half). in_place_at R (twin x) (twin z) n g) (in-place-here R n (twin y) (twin z) e)
-        ∙ in-place-other R n (twin x) (twin z) (twin z) (other-half (twin z) (twin x) z-x)
+        ap (λ (g : Half). in_place_at R (twin passing.first) (twin passing.whole) n (in_place_at R (twin passing.second) (twin passing.whole) n (in_place_at L passing.second passing.whole n g)))
+        (in-place-other L n passing.first passing.whole (twin passing.second) (other-half (twin passing.second) passing.first (λ s. x-y (sym s))))
+        ∙ ap (λ (g : Half). in_place_at R (twin passing.first) (twin passing.whole) n (in_place_at R (twin passing.second) (twin passing.whole) n g))
+        (in-place-other L n passing.second passing.whole (twin passing.second) (is_half-turned passing.second (twin passing.second) (is_half-twin passing.second)))
+        ∙ ap (λ (g : Half). in_place_at R (twin passing.first) (twin passing.whole) n g) (in-place-here R n (twin passing.second) (twin passing.whole) e)
+        ∙ in-place-other R n (twin passing.first) (twin passing.whole) (twin passing.whole) (other-half (twin passing.whole) (twin passing.first) z-x)
 
-    to-first_back : (n : ℕ) → R ≡ n → moved n (twin x) ≡ twin z
+    to-first_back : (n : ℕ) → R ≡ n → moved n (twin passing.first) ≡ twin passing.whole
     to-first_back n e =
-        ap (λ (g : Half). in_place_at R (twin x) (twin z) n (in_place_at R (twin y) (twin z) n (in_place_at L y z n g)))
-        (in-place-other L n x z (twin x) (is_half-turned x (twin x) (is_half-twin x)))
-        ∙ ap (λ (g : Half). in_place_at R (twin x) (twin z) n (in_place_at R (twin y) (twin z) n g))
-        (in-place-other L n y z (twin x) (other-half (twin x) y x-y))
-        ∙ ap (λ (g : Half). in_place_at R (twin x) (twin z) n g) (in-place-other R n (twin y) (twin z) (twin x) (other-half (twin x) (twin y) x-y))
-        ∙ in-place-here R n (twin x) (twin z) e
+        ap (λ (g : Half). in_place_at R (twin passing.first) (twin passing.whole) n (in_place_at R (twin passing.second) (twin passing.whole) n (in_place_at L passing.second passing.whole n g)))
+        (in-place-other L n passing.first passing.whole (twin passing.first) (is_half-turned passing.first (twin passing.first) (is_half-twin passing.first)))
+        ∙ ap (λ (g : Half). in_place_at R (twin passing.first) (twin passing.whole) n (in_place_at R (twin passing.second) (twin passing.whole) n g))
+        (in-place-other L n passing.second passing.whole (twin passing.first) (other-half (twin passing.first) passing.second x-y))
+        ∙ ap (λ (g : Half). in_place_at R (twin passing.first) (twin passing.whole) n g) (in-place-other R n (twin passing.second) (twin passing.whole) (twin passing.first) (other-half (twin passing.first) (twin passing.second) x-y))
+        ∙ in-place-here R n (twin passing.first) (twin passing.whole) e
 
     module _ (k : Face × Half) (isk : IsKept through rows fits.kept.homes k) where
       abbrev c : Boundary
@@ -280,34 +271,34 @@ module _ (through past : Map) (p a b : ℕ) (passing : Passing)
       b-p : b ≢ p
       b-p = between.b-p through past p a b passing it
 
-      on-left : Contains (sides_of c.ring) (a, p) ⊎ Contains (sides_of c.ring) (p, b) → Contains (sides_of (drop c).ring) (side_by rows z)
+      on-left : Contains (sides_of c.ring) (a, p) ⊎ Contains (sides_of c.ring) (p, b) → Contains (sides_of (drop c).ring) (side_by rows passing.whole)
       on-left on = subst (Contains (sides_of (drop c).ring)) (sym Z) (rings.first-past through past p a b it.joined it.rings a-p b-p c isk.there on)
 
-      on-right : Contains (sides_of c.ring) (b, p) ⊎ Contains (sides_of c.ring) (p, a) → Contains (sides_of (drop c).ring) (side_by rows (twin z))
+      on-right : Contains (sides_of c.ring) (b, p) ⊎ Contains (sides_of c.ring) (p, a) → Contains (sides_of (drop c).ring) (side_by rows (twin passing.whole))
       on-right on = subst (Contains (sides_of (drop c).ring)) (sym TZ) (rings.second-past through past p a b it.joined it.rings a-p b-p c isk.there on)
 
-      of-first : k.1 ≡ x → IsKeptOn past done it.rings_past (k.0, moved (face_place k.0) k.1) (drop c)
+      of-first : k.1 ≡ passing.first → IsKeptOn past done it.rings_past (k.0, moved (face_place k.0) k.1) (drop c)
       of-first e =
           let is : side_by rows k.1 ≡ (a, p) = ap (side_by rows) e ∙ X in
-          kept-on z (ap (moved (face_place k.0)) e ∙ to-first (face_place k.0) (ap face_place (mine left (a, p) is left-has)))
+          kept-on passing.whole (ap (moved (face_place k.0)) e ∙ to-first (face_place k.0) (ap face_place (mine left (a, p) is left-has)))
           z-shown (on-left (inl (subst (Contains (sides_of c.ring)) is isk.has)))
 
-      of-second : k.1 ≡ y → IsKeptOn past done it.rings_past (k.0, moved (face_place k.0) k.1) (drop c)
+      of-second : k.1 ≡ passing.second → IsKeptOn past done it.rings_past (k.0, moved (face_place k.0) k.1) (drop c)
       of-second e =
           let is : side_by rows k.1 ≡ (p, b) = ap (side_by rows) e ∙ Y in
-          kept-on z (ap (moved (face_place k.0)) e ∙ to-second (face_place k.0) (ap face_place (mine left (p, b) is left-second)))
+          kept-on passing.whole (ap (moved (face_place k.0)) e ∙ to-second (face_place k.0) (ap face_place (mine left (p, b) is left-second)))
           z-shown (on-left (inr (subst (Contains (sides_of c.ring)) is isk.has)))
 
-      of-second_back : k.1 ≡ twin y → IsKeptOn past done it.rings_past (k.0, moved (face_place k.0) k.1) (drop c)
+      of-second_back : k.1 ≡ twin passing.second → IsKeptOn past done it.rings_past (k.0, moved (face_place k.0) k.1) (drop c)
       of-second_back e =
           let is : side_by rows k.1 ≡ (b, p) = ap (side_by rows) e ∙ TY in
-          kept-on (twin z) (ap (moved (face_place k.0)) e ∙ to-second_back (face_place k.0) (ap face_place (mine right (b, p) is right-has)))
+          kept-on (twin passing.whole) (ap (moved (face_place k.0)) e ∙ to-second_back (face_place k.0) (ap face_place (mine right (b, p) is right-has)))
           tz-shown (on-right (inl (subst (Contains (sides_of c.ring)) is isk.has)))
 
-      of-first_back : k.1 ≡ twin x → IsKeptOn past done it.rings_past (k.0, moved (face_place k.0) k.1) (drop c)
+      of-first_back : k.1 ≡ twin passing.first → IsKeptOn past done it.rings_past (k.0, moved (face_place k.0) k.1) (drop c)
       of-first_back e =
           let is : side_by rows k.1 ≡ (p, a) = ap (side_by rows) e ∙ TX in
-          kept-on (twin z) (ap (moved (face_place k.0)) e ∙ to-first_back (face_place k.0) (ap face_place (mine right (p, a) is right-first)))
+          kept-on (twin passing.whole) (ap (moved (face_place k.0)) e ∙ to-first_back (face_place k.0) (ap face_place (mine right (p, a) is right-first)))
           tz-shown (on-right (inr (subst (Contains (sides_of c.ring)) is isk.has)))
 
       of-other : Other k.1 → IsKeptOn past done it.rings_past (k.0, moved (face_place k.0) k.1) (drop c)
@@ -315,7 +306,7 @@ module _ (through past : Map) (p a b : ℕ) (passing : Passing)
           let nx = between.not-first through past p a b passing it k.1 o in
           let ny = between.not-second through past p a b passing it k.1 o in
           kept-on k.1
-          (stays (face_place k.0) k.1 (other-half k.1 x nx) (other-half k.1 y ny) (other-half k.1 (twin y) ny) (other-half k.1 (twin x) nx))
+          (stays (face_place k.0) k.1 (other-half k.1 passing.first nx) (other-half k.1 passing.second ny) (other-half k.1 (twin passing.second) ny) (other-half k.1 (twin passing.first) nx))
           (between.other-past through past p a b passing it k.1 o)
           (rings.side-stays through past p a b it.joined it.rings c isk.there (side_by rows k.1) isk.has
           (past_point.begins-elsewhere through past p a b passing it rows fits.local fits.ends whole_there k.1 o)
@@ -340,8 +331,8 @@ module _ (through past : Map) (p a b : ℕ) (passing : Passing)
 
       pub fit-past : FitTable past done then_held
       fit-past = record {
-        local = relabelled-local past it.rings_past mid mid-local mid-ends (twin z) tz-shown right right-mid done done_linked two;
-        ends = relabelled-ends past it.rings_past mid mid-local mid-ends (twin z) tz-shown right right-mid done done_linked two;
+        local = relabelled-local past it.rings_past mid mid-local mid-ends (twin passing.whole) tz-shown right right-mid done done_linked two;
+        ends = relabelled-ends past it.rings_past mid mid-local mid-ends (twin passing.whole) tz-shown right right-mid done done_linked two;
         faces = faced;
         kept = keeps-rings;
         no_face = λ f none.

@@ -39,20 +39,11 @@ module _ (through past : Map) (p a b : ℕ) (passing : Passing)
     (second_there : HasHalves rows it.second_row)
     (new : HalfRows) (keeps : KeepsHalves rows new) (linked : IsLinked new)
     (now : IsThroughNow passing.first passing.second passing.whole (next rows) (next new)) where
-  abbrev x : Half
-  x = passing.first
-
-  abbrev y : Half
-  y = passing.second
-
-  abbrev z : Half
-  z = passing.whole
-
   abbrev left : Face
-  left = face rows z
+  left = face rows passing.whole
 
   abbrev right : Face
-  right = face rows (twin z)
+  right = face rows (twin passing.whole)
 
   abbrev Other : Half → Type 0
   Other h = IsOther through past p a b passing it h
@@ -60,16 +51,16 @@ module _ (through past : Map) (p a b : ℕ) (passing : Passing)
   whole_there : HasHalves rows it.whole_row
   whole_there = through_point.whole_there through past p a b passing it rows fits.local fits.ends first_there second_there
 
-  X : side_by rows x ≡ (a, p)
+  X : side_by rows passing.first ≡ (a, p)
   X = between.x-side through past p a b passing it rows first_there second_there whole_there
 
-  Z : side_by rows z ≡ (a, b)
+  Z : side_by rows passing.whole ≡ (a, b)
   Z = between.z-side through past p a b passing it rows first_there second_there whole_there
 
-  TY : side_by rows (twin y) ≡ (b, p)
+  TY : side_by rows (twin passing.second) ≡ (b, p)
   TY = between.ty-side through past p a b passing it rows first_there second_there whole_there
 
-  TZ : side_by rows (twin z) ≡ (b, a)
+  TZ : side_by rows (twin passing.whole) ≡ (b, a)
   TZ = between.tz-side through past p a b passing it rows first_there second_there whole_there
 
   pub local : IsLocal through new
@@ -84,32 +75,32 @@ module _ (through past : Map) (p a b : ℕ) (passing : Passing)
   -- ---- The faces of the sides through the point
 
   left-past : HasSide past left (a, b)
-  left-past = subst (HasSide past left) Z (fits.faces z (between.whole-shown through past p a b passing it z refl))
+  left-past = subst (HasSide past left) Z (fits.faces passing.whole (between.whole-shown through past p a b passing it passing.whole refl))
 
   right-past : HasSide past right (b, a)
-  right-past = subst (HasSide past right) TZ (fits.faces (twin z) (between.whole-shown through past p a b passing it (twin z) refl))
+  right-past = subst (HasSide past right) TZ (fits.faces (twin passing.whole) (between.whole-shown through past p a b passing it (twin passing.whole) refl))
 
   first-among : Contains (all_sides through) (a, p)
   first-among =
       subst (Contains (all_sides through)) X
-      (string-half_side through it.rings rows it.first_row (between.first-in through past p a b passing it) first_there x (sym it.first_along.string))
+      (string-half_side through it.rings rows it.first_row (between.first-in through past p a b passing it) first_there passing.first (sym it.first_along.string))
 
   second-among : Contains (all_sides through) (b, p)
   second-among =
       subst (Contains (all_sides through)) TY
-      (string-half_side through it.rings rows it.second_row (between.second-in through past p a b passing it) second_there (twin y) (sym it.second_along.string))
+      (string-half_side through it.rings rows it.second_row (between.second-in through past p a b passing it) second_there (twin passing.second) (sym it.second_along.string))
 
-  pub left-through : HasSide through left (side_by new x)
+  pub left-through : HasSide through left (side_by new passing.first)
   left-through =
       let k = side-face through it.rings (a, p) first-among in
       let same : k.0 ≡ left = one-face past it.rings_past k.0 left (a, b) (it.joined.side_forth k.0 k.2) left-past in
-      subst (HasSide through left) (sym (new-side x ∙ X)) (subst (λ (f : Face). HasSide through f (a, p)) same k.2)
+      subst (HasSide through left) (sym (new-side passing.first ∙ X)) (subst (λ (f : Face). HasSide through f (a, p)) same k.2)
 
-  pub right-through : HasSide through right (side_by new (twin y))
+  pub right-through : HasSide through right (side_by new (twin passing.second))
   right-through =
       let k = side-face through it.rings (b, p) second-among in
       let same : k.0 ≡ right = one-face past it.rings_past k.0 right (b, a) (it.joined.side_back k.0 k.2) right-past in
-      subst (HasSide through right) (sym (new-side (twin y) ∙ TY)) (subst (λ (f : Face). HasSide through f (b, p)) same k.2)
+      subst (HasSide through right) (sym (new-side (twin passing.second) ∙ TY)) (subst (λ (f : Face). HasSide through f (b, p)) same k.2)
 
   -- the face of a half elsewhere
   elsewhere-faced : (h : Half) → Other h → HasSide through (face new h) (side_by new h)
@@ -130,55 +121,55 @@ module _ (through past : Map) (p a b : ℕ) (passing : Passing)
   -- ---- Both rings labelled
 
   module _ (mid done : HalfRows) (mid_linked : IsLinked mid) (done_linked : IsLinked done)
-      (one : Relabels (cycle new x) left new mid) (two : Relabels (cycle mid (twin y)) right mid done) where
-    x-shown : IsShown through x
-    x-shown = between.first-shown through past p a b passing it x refl
+      (one : Relabels (cycle new passing.first) left new mid) (two : Relabels (cycle mid (twin passing.second)) right mid done) where
+    x-shown : IsShown through passing.first
+    x-shown = between.first-shown through past p a b passing it passing.first refl
 
-    ty-shown : IsShown through (twin y)
-    ty-shown = between.second-shown through past p a b passing it (twin y) refl
+    ty-shown : IsShown through (twin passing.second)
+    ty-shown = between.second-shown through past p a b passing it (twin passing.second) refl
 
     mid-local : IsLocal through mid
-    mid-local = relabelled-local through it.rings new local ends x x-shown left left-through mid mid_linked one
+    mid-local = relabelled-local through it.rings new local ends passing.first x-shown left left-through mid mid_linked one
 
     mid-ends : AllByRecursion (HasHalves mid) through.strings
-    mid-ends = relabelled-ends through it.rings new local ends x x-shown left left-through mid mid_linked one
+    mid-ends = relabelled-ends through it.rings new local ends passing.first x-shown left left-through mid mid_linked one
 
-    right-mid : HasSide through right (side_by mid (twin y))
+    right-mid : HasSide through right (side_by mid (twin passing.second))
     right-mid =
-        subst (HasSide through right) (sym (λ i. (one.origin (twin y) i, one.origin (twin (twin y)) i))) right-through
+        subst (HasSide through right) (sym (λ i. (one.origin (twin passing.second) i, one.origin (twin (twin passing.second)) i))) right-through
 
-    in-first : (h : Half) → Contains (cycle new x) h → HasSide through (face mid h) (side_by mid h)
-    in-first h among = on-cycle_faced through it.rings new local ends x x-shown left left-through mid mid_linked one h among
+    in-first : (h : Half) → Contains (cycle new passing.first) h → HasSide through (face mid h) (side_by mid h)
+    in-first h among = on-cycle_faced through it.rings new local ends passing.first x-shown left left-through mid mid_linked one h among
 
-    in-second : (h : Half) → Contains (cycle mid (twin y)) h → HasSide through (face done h) (side_by done h)
+    in-second : (h : Half) → Contains (cycle mid (twin passing.second)) h → HasSide through (face done h) (side_by done h)
     in-second h among =
-        on-cycle_faced through it.rings mid mid-local mid-ends (twin y) ty-shown right right-mid done done_linked two h among
+        on-cycle_faced through it.rings mid mid-local mid-ends (twin passing.second) ty-shown right right-mid done done_linked two h among
 
     onward : (h : Half) → HasSide through (face mid h) (side_by mid h) → HasSide through (face done h) (side_by done h)
     onward h was =
-        still-faced through it.rings mid mid-local mid-ends (twin y) ty-shown right right-mid done done_linked two h was
+        still-faced through it.rings mid mid-local mid-ends (twin passing.second) ty-shown right right-mid done done_linked two h was
 
-    first-faced : HasSide through (face done x) (side_by done x)
-    first-faced = onward x (in-first x (Contains-first x _))
+    first-faced : HasSide through (face done passing.first) (side_by done passing.first)
+    first-faced = onward passing.first (in-first passing.first (Contains-first passing.first _))
 
-    second-faced : HasSide through (face done y) (side_by done y)
+    second-faced : HasSide through (face done passing.second) (side_by done passing.second)
     second-faced =
-        onward y (in-first y
-        (subst (Contains (cycle new x)) now.first
-        (cycle-next new linked x (local.there x x-shown) x (Contains-first x _))))
+        onward passing.second (in-first passing.second
+        (subst (Contains (cycle new passing.first)) now.first
+        (cycle-next new linked passing.first (local.there passing.first x-shown) passing.first (Contains-first passing.first _))))
 
-    second_back-faced : HasSide through (face done (twin y)) (side_by done (twin y))
-    second_back-faced = in-second (twin y) (Contains-first (twin y) _)
+    second_back-faced : HasSide through (face done (twin passing.second)) (side_by done (twin passing.second))
+    second_back-faced = in-second (twin passing.second) (Contains-first (twin passing.second) _)
 
-    first_back-faced : HasSide through (face done (twin x)) (side_by done (twin x))
+    first_back-faced : HasSide through (face done (twin passing.first)) (side_by done (twin passing.first))
     first_back-faced =
-        in-second (twin x)
-        (subst (Contains (cycle mid (twin y))) (one.next (twin y) ∙ now.second_back)
-        (cycle-next mid mid_linked (twin y) (mid-local.there (twin y) ty-shown) (twin y) (Contains-first (twin y) _)))
+        in-second (twin passing.first)
+        (subst (Contains (cycle mid (twin passing.second))) (one.next (twin passing.second) ∙ now.second_back)
+        (cycle-next mid mid_linked (twin passing.second) (mid-local.there (twin passing.second) ty-shown) (twin passing.second) (Contains-first (twin passing.second) _)))
 
     other-faced : (h : Half) → Other h → HasSide through (face done h) (side_by done h)
     other-faced h k =
-        onward h (still-faced through it.rings new local ends x x-shown left left-through mid mid_linked one h (elsewhere-faced h k))
+        onward h (still-faced through it.rings new local ends passing.first x-shown left left-through mid mid_linked one h (elsewhere-faced h k))
 
     faced : (h : Half) → IsShown through h → HasSide through (face done h) (side_by done h)
     faced h shown = elim (between.through-half through past p a b passing it h shown) [
@@ -202,7 +193,7 @@ module _ (through past : Map) (p a b : ℕ) (passing : Passing)
     R = face_place right
 
     abbrev moved : ℕ → Half → Half
-    moved n h = in_place_at R (twin z) (twin y) n (in_place_at L z x n h)
+    moved n h = in_place_at R (twin passing.whole) (twin passing.second) n (in_place_at L passing.whole passing.first n h)
 
     -- the ring without the point
     abbrev drop : Boundary → Boundary
@@ -244,17 +235,17 @@ module _ (through past : Map) (p a b : ℕ) (passing : Passing)
       in-map : (s : Side) → Contains (sides_of c.ring) s → Contains (all_sides through) s
       in-map s has = Contains-flat_map (λ (r : Boundary). sides_of r.ring) through.boundaries c s there has
 
-      of-whole : k.1 ≡ z → IsKeptOn through done it.rings (k.0, moved (face_place k.0) k.1) c
+      of-whole : k.1 ≡ passing.whole → IsKeptOn through done it.rings (k.0, moved (face_place k.0) k.1) c
       of-whole e =
           let is : side_by rows k.1 ≡ (a, b) = ap (side_by rows) e ∙ Z in
           let mine : k.0 ≡ left =
           one-face past it.rings_past k.0 left (a, b) (subst (HasSide past k.0) is has-face) left-past in
-          let to : moved (face_place k.0) k.1 ≡ x =
+          let to : moved (face_place k.0) k.1 ≡ passing.first =
           ap (moved (face_place k.0)) e
-          ∙ ap (in_place_at R (twin z) (twin y) (face_place k.0)) (in-place-here L (face_place k.0) z x (ap face_place (sym mine)))
-          ∙ in-place-other R (face_place k.0) (twin z) (twin y) x
-          (other-half x (twin z) (λ s. between.zx through past p a b passing it (sym s))) in
-          kept-on x to x-shown
+          ∙ ap (in_place_at R (twin passing.whole) (twin passing.second) (face_place k.0)) (in-place-here L (face_place k.0) passing.whole passing.first (ap face_place (sym mine)))
+          ∙ in-place-other R (face_place k.0) (twin passing.whole) (twin passing.second) passing.first
+          (other-half passing.first (twin passing.whole) (λ s. between.zx through past p a b passing it (sym s))) in
+          kept-on passing.first to x-shown
           (subst (Contains (sides_of c.ring)) (sym X) (elim split [
             | inl has ↦ absurd (it.look.forth (subst (Contains (all_sides through)) is (in-map (side_by rows k.1) has)))
             | inr new ↦ elim new [
@@ -263,17 +254,17 @@ module _ (through past : Map) (p a b : ℕ) (passing : Passing)
             ]
           ]))
 
-      of-whole_back : k.1 ≡ twin z → IsKeptOn through done it.rings (k.0, moved (face_place k.0) k.1) c
+      of-whole_back : k.1 ≡ twin passing.whole → IsKeptOn through done it.rings (k.0, moved (face_place k.0) k.1) c
       of-whole_back e =
           let is : side_by rows k.1 ≡ (b, a) = ap (side_by rows) e ∙ TZ in
           let mine : k.0 ≡ right =
           one-face past it.rings_past k.0 right (b, a) (subst (HasSide past k.0) is has-face) right-past in
-          let to : moved (face_place k.0) k.1 ≡ twin y =
+          let to : moved (face_place k.0) k.1 ≡ twin passing.second =
           ap (moved (face_place k.0)) e
-          ∙ ap (in_place_at R (twin z) (twin y) (face_place k.0))
-          (in-place-other L (face_place k.0) z x (twin z) (is_half-turned z (twin z) (is_half-twin z)))
-          ∙ in-place-here R (face_place k.0) (twin z) (twin y) (ap face_place (sym mine)) in
-          kept-on (twin y) to ty-shown
+          ∙ ap (in_place_at R (twin passing.whole) (twin passing.second) (face_place k.0))
+          (in-place-other L (face_place k.0) passing.whole passing.first (twin passing.whole) (is_half-turned passing.whole (twin passing.whole) (is_half-twin passing.whole)))
+          ∙ in-place-here R (face_place k.0) (twin passing.whole) (twin passing.second) (ap face_place (sym mine)) in
+          kept-on (twin passing.second) to ty-shown
           (subst (Contains (sides_of c.ring)) (sym TY) (elim split [
             | inl has ↦ absurd (it.look.back (subst (Contains (all_sides through)) is (in-map (side_by rows k.1) has)))
             | inr new ↦ elim new [
@@ -287,17 +278,17 @@ module _ (through past : Map) (p a b : ℕ) (passing : Passing)
           let apart = between.not-whole through past p a b passing it k.1 o in
           let shown = between.other-past through past p a b passing it k.1 o in
           let to : moved (face_place k.0) k.1 ≡ k.1 =
-          ap (in_place_at R (twin z) (twin y) (face_place k.0)) (in-place-other L (face_place k.0) z x k.1 (other-half k.1 z apart))
-          ∙ in-place-other R (face_place k.0) (twin z) (twin y) k.1 (other-half k.1 (twin z) apart) in
+          ap (in_place_at R (twin passing.whole) (twin passing.second) (face_place k.0)) (in-place-other L (face_place k.0) passing.whole passing.first k.1 (other-half k.1 passing.whole apart))
+          ∙ in-place-other R (face_place k.0) (twin passing.whole) (twin passing.second) k.1 (other-half k.1 (twin passing.whole) apart) in
           kept-on k.1 to (between.other-through through past p a b passing it k.1 o) (elim split [
             | inl has ↦ has
             | inr new ↦ elim new [
               | inl forth ↦
                   absurd (apart (ap (λ (q : Half). q.string)
-                  (fits.local.apart k.1 z shown (between.whole-shown through past p a b passing it z refl) (forth.0 ∙ sym Z))))
+                  (fits.local.apart k.1 passing.whole shown (between.whole-shown through past p a b passing it passing.whole refl) (forth.0 ∙ sym Z))))
               | inr back ↦
                   absurd (apart (ap (λ (q : Half). q.string)
-                  (fits.local.apart k.1 (twin z) shown (between.whole-shown through past p a b passing it (twin z) refl) (back.0 ∙ sym TZ))))
+                  (fits.local.apart k.1 (twin passing.whole) shown (between.whole-shown through past p a b passing it (twin passing.whole) refl) (back.0 ∙ sym TZ))))
             ]
           ])
 
@@ -319,8 +310,8 @@ module _ (through past : Map) (p a b : ℕ) (passing : Passing)
 
       pub fit-through : FitTable through done then_held
       fit-through = record {
-        local = relabelled-local through it.rings mid mid-local mid-ends (twin y) ty-shown right right-mid done done_linked two;
-        ends = relabelled-ends through it.rings mid mid-local mid-ends (twin y) ty-shown right right-mid done done_linked two;
+        local = relabelled-local through it.rings mid mid-local mid-ends (twin passing.second) ty-shown right right-mid done done_linked two;
+        ends = relabelled-ends through it.rings mid mid-local mid-ends (twin passing.second) ty-shown right right-mid done done_linked two;
         faces = faced;
         kept = keeps-rings;
         no_face = λ f none.

@@ -31,15 +31,6 @@ module _ (through past : Map) (p a b : ℕ) (passing : Passing)
     (it : HasBetween through past p a b passing) (rows : HalfRows) (local : IsLocal through rows)
     (ends : AllByRecursion (HasHalves rows) through.strings)
     (whole_there : HasHalves rows it.whole_row) where
-  abbrev x : Half
-  x = passing.first
-
-  abbrev y : Half
-  y = passing.second
-
-  abbrev z : Half
-  z = passing.whole
-
   abbrev f : Half → Half
   f = next rows
 
@@ -59,35 +50,35 @@ module _ (through past : Map) (p a b : ℕ) (passing : Passing)
       All-at_each (HasHalves rows) through.strings it.second_row ends
       (between.second-in through past p a b passing it)
 
-  X : side_by rows x ≡ (a, p)
+  X : side_by rows passing.first ≡ (a, p)
   X = between.x-side through past p a b passing it rows first_there second_there whole_there
 
-  Y : side_by rows y ≡ (p, b)
+  Y : side_by rows passing.second ≡ (p, b)
   Y = between.y-side through past p a b passing it rows first_there second_there whole_there
 
-  Z : side_by rows z ≡ (a, b)
+  Z : side_by rows passing.whole ≡ (a, b)
   Z = between.z-side through past p a b passing it rows first_there second_there whole_there
 
-  TX : side_by rows (twin x) ≡ (p, a)
+  TX : side_by rows (twin passing.first) ≡ (p, a)
   TX = between.tx-side through past p a b passing it rows first_there second_there whole_there
 
-  TY : side_by rows (twin y) ≡ (b, p)
+  TY : side_by rows (twin passing.second) ≡ (b, p)
   TY = between.ty-side through past p a b passing it rows first_there second_there whole_there
 
-  TZ : side_by rows (twin z) ≡ (b, a)
+  TZ : side_by rows (twin passing.whole) ≡ (b, a)
   TZ = between.tz-side through past p a b passing it rows first_there second_there whole_there
 
-  x-shown : IsShown through x
-  x-shown = between.first-shown through past p a b passing it x refl
+  x-shown : IsShown through passing.first
+  x-shown = between.first-shown through past p a b passing it passing.first refl
 
-  tx-shown : IsShown through (twin x)
-  tx-shown = between.first-shown through past p a b passing it (twin x) refl
+  tx-shown : IsShown through (twin passing.first)
+  tx-shown = between.first-shown through past p a b passing it (twin passing.first) refl
 
-  y-shown : IsShown through y
-  y-shown = between.second-shown through past p a b passing it y refl
+  y-shown : IsShown through passing.second
+  y-shown = between.second-shown through past p a b passing it passing.second refl
 
-  ty-shown : IsShown through (twin y)
-  ty-shown = between.second-shown through past p a b passing it (twin y) refl
+  ty-shown : IsShown through (twin passing.second)
+  ty-shown = between.second-shown through past p a b passing it (twin passing.second) refl
 
   -- ---- The path leads on, there and back
 
@@ -107,17 +98,17 @@ module _ (through past : Map) (p a b : ℕ) (passing : Passing)
         ]
       ]
 
-  pub on-path : f x ≡ y
+  pub on-path : f passing.first ≡ passing.second
   on-path =
-      let at : o (f x) ≡ p = local.meets x x-shown ∙ ap (λ (s : Side). s.1) X in
-      local.apart (f x) y (local.inside x x-shown) y-shown
-      ((λ i. (at i, at-point x a b x-shown X (inl (refl, refl)) i)) ∙ sym Y)
+      let at : o (f passing.first) ≡ p = local.meets passing.first x-shown ∙ ap (λ (s : Side). s.1) X in
+      local.apart (f passing.first) passing.second (local.inside passing.first x-shown) y-shown
+      ((λ i. (at i, at-point passing.first a b x-shown X (inl (refl, refl)) i)) ∙ sym Y)
 
-  pub back-path : f (twin y) ≡ twin x
+  pub back-path : f (twin passing.second) ≡ twin passing.first
   back-path =
-      let at : o (f (twin y)) ≡ p = local.meets (twin y) ty-shown ∙ ap (λ (s : Side). s.1) TY in
-      local.apart (f (twin y)) (twin x) (local.inside (twin y) ty-shown) tx-shown
-      ((λ i. (at i, at-point (twin y) b a ty-shown TY (inr (refl, refl)) i)) ∙ sym TX)
+      let at : o (f (twin passing.second)) ≡ p = local.meets (twin passing.second) ty-shown ∙ ap (λ (s : Side). s.1) TY in
+      local.apart (f (twin passing.second)) (twin passing.first) (local.inside (twin passing.second) ty-shown) tx-shown
+      ((λ i. (at i, at-point (twin passing.second) b a ty-shown TY (inr (refl, refl)) i)) ∙ sym TX)
 
   -- a half begins where the one before it ends
   begins : (h g : Half) → IsShown through h → f h ≡ g → (side_by rows g).0 ≡ (side_by rows h).1
@@ -135,21 +126,21 @@ module _ (through past : Map) (p a b : ℕ) (passing : Passing)
   b-p : b ≢ p
   b-p = between.b-p through past p a b passing it
 
-  not-y_x : f y ≢ x
-  not-y_x e = it.joined.apart (sym (ap (λ (s : Side). s.0) X) ∙ begins y x y-shown e ∙ ap (λ (s : Side). s.1) Y)
+  not-y_x : f passing.second ≢ passing.first
+  not-y_x e = it.joined.apart (sym (ap (λ (s : Side). s.0) X) ∙ begins passing.second passing.first y-shown e ∙ ap (λ (s : Side). s.1) Y)
 
-  not-tx_ty : f (twin x) ≢ twin y
-  not-tx_ty e = it.joined.apart (sym (sym (ap (λ (s : Side). s.0) TY) ∙ begins (twin x) (twin y) tx-shown e ∙ ap (λ (s : Side). s.1) TX))
+  not-tx_ty : f (twin passing.first) ≢ twin passing.second
+  not-tx_ty e = it.joined.apart (sym (sym (ap (λ (s : Side). s.0) TY) ∙ begins (twin passing.first) (twin passing.second) tx-shown e ∙ ap (λ (s : Side). s.1) TX))
 
-  not-tx_x : f (twin x) ≢ x
-  not-tx_x e = turns (twin x) tx-shown (e ∙ sym (twin-twin x))
+  not-tx_x : f (twin passing.first) ≢ passing.first
+  not-tx_x e = turns (twin passing.first) tx-shown (e ∙ sym (twin-twin passing.first))
 
-  pub leads : LeadsOn x y f
+  pub leads : LeadsOn passing.first passing.second f
   leads = record {
-    goes_on = is_half-other (f y) (twin y) (turns y y-shown);
-    no_ring = is_half-other (f y) x not-y_x;
-    goes_back = is_half-other (f (twin x)) x not-tx_x;
-    no_ring_back = is_half-other (f (twin x)) (twin y) not-tx_ty;
+    goes_on = is_half-other (f passing.second) (twin passing.second) (turns passing.second y-shown);
+    no_ring = is_half-other (f passing.second) passing.first not-y_x;
+    goes_back = is_half-other (f (twin passing.first)) passing.first not-tx_x;
+    no_ring_back = is_half-other (f (twin passing.first)) (twin passing.second) not-tx_ty;
   }
 
   -- ---- A half elsewhere has nothing of the point
@@ -171,10 +162,10 @@ module _ (through past : Map) (p a b : ℕ) (passing : Passing)
         elim (to-point through past p a b it.joined it.rings (o h) (subst (Contains (all_sides through)) s among)) [
           | inl is ↦
               between.not-first through past p a b passing it h k
-              (ap (λ (q : Half). q.string) (local.apart h x shown x-shown (s ∙ (λ i. (is i, p)) ∙ sym X)))
+              (ap (λ (q : Half). q.string) (local.apart h passing.first shown x-shown (s ∙ (λ i. (is i, p)) ∙ sym X)))
           | inr is ↦
               between.not-second through past p a b passing it h k
-              (ap (λ (q : Half). q.string) (local.apart h (twin y) shown ty-shown (s ∙ (λ i. (is i, p)) ∙ sym TY)))
+              (ap (λ (q : Half). q.string) (local.apart h (twin passing.second) shown ty-shown (s ∙ (λ i. (is i, p)) ∙ sym TY)))
         ]
 
   other-twin : (h : Half) → Other h → Other (twin h)
@@ -187,7 +178,7 @@ module _ (through past : Map) (p a b : ℕ) (passing : Passing)
   -- ---- The string in its place
 
   module _ (new : HalfRows) (keeps : KeepsHalves rows new) (linked : IsLinked new)
-      (now : IsPastNow x y z f (next new)) where
+      (now : IsPastNow passing.first passing.second passing.whole f (next new)) where
     gone : GoesOnJoined through past rows p a b
     gone = goes-on_joined through past rows local p a b it.joined
 
@@ -195,57 +186,57 @@ module _ (through past : Map) (p a b : ℕ) (passing : Passing)
     Goes h = GoesOn rows new keeps past h
 
     -- what comes after the path
-    after-y : Other (f y)
-    after-y = elim (between.through-half through past p a b passing it (f y) (local.inside y y-shown)) [
+    after-y : Other (f passing.second)
+    after-y = elim (between.through-half through past p a b passing it (f passing.second) (local.inside passing.second y-shown)) [
       | IsThrough.is_first e ↦ absurd (not-y_x e)
       | IsThrough.is_first_back e ↦
-          absurd (b-p (sym (ap (λ (s : Side). s.1) Y) ∙ sym (begins y (twin x) y-shown e) ∙ ap (λ (s : Side). s.0) TX))
+          absurd (b-p (sym (ap (λ (s : Side). s.1) Y) ∙ sym (begins passing.second (twin passing.first) y-shown e) ∙ ap (λ (s : Side). s.0) TX))
       | IsThrough.is_second e ↦
-          absurd (b-p (sym (ap (λ (s : Side). s.1) Y) ∙ sym (begins y y y-shown e) ∙ ap (λ (s : Side). s.0) Y))
-      | IsThrough.is_second_back e ↦ absurd (turns y y-shown e)
+          absurd (b-p (sym (ap (λ (s : Side). s.1) Y) ∙ sym (begins passing.second passing.second y-shown e) ∙ ap (λ (s : Side). s.0) Y))
+      | IsThrough.is_second_back e ↦ absurd (turns passing.second y-shown e)
       | IsThrough.is_other k ↦ k
     ]
 
-    after-tx : Other (f (twin x))
-    after-tx = elim (between.through-half through past p a b passing it (f (twin x)) (local.inside (twin x) tx-shown)) [
+    after-tx : Other (f (twin passing.first))
+    after-tx = elim (between.through-half through past p a b passing it (f (twin passing.first)) (local.inside (twin passing.first) tx-shown)) [
       | IsThrough.is_first e ↦ absurd (not-tx_x e)
       | IsThrough.is_first_back e ↦
-          absurd (a-p (sym (ap (λ (s : Side). s.1) TX) ∙ sym (begins (twin x) (twin x) tx-shown e) ∙ ap (λ (s : Side). s.0) TX))
+          absurd (a-p (sym (ap (λ (s : Side). s.1) TX) ∙ sym (begins (twin passing.first) (twin passing.first) tx-shown e) ∙ ap (λ (s : Side). s.0) TX))
       | IsThrough.is_second e ↦
-          absurd (a-p (sym (ap (λ (s : Side). s.1) TX) ∙ sym (begins (twin x) y tx-shown e) ∙ ap (λ (s : Side). s.0) Y))
+          absurd (a-p (sym (ap (λ (s : Side). s.1) TX) ∙ sym (begins (twin passing.first) passing.second tx-shown e) ∙ ap (λ (s : Side). s.0) Y))
       | IsThrough.is_second_back e ↦ absurd (not-tx_ty e)
       | IsThrough.is_other k ↦ k
     ]
 
-    goes-whole : Goes z
+    goes-whole : Goes passing.whole
     goes-whole =
-        goes-on rows new keeps past z (f y) now.whole
-        (between.other-past through past p a b passing it (f y) after-y)
-        (local.meets y y-shown ∙ ap (λ (s : Side). s.1) Y ∙ sym (ap (λ (s : Side). s.1) Z))
-        (subst (λ (s : Side). ComesAfter past s (beyond rows y)) (sym Z) (gone.from_second y y-shown Y))
+        goes-on rows new keeps past passing.whole (f passing.second) now.whole
+        (between.other-past through past p a b passing it (f passing.second) after-y)
+        (local.meets passing.second y-shown ∙ ap (λ (s : Side). s.1) Y ∙ sym (ap (λ (s : Side). s.1) Z))
+        (subst (λ (s : Side). ComesAfter past s (beyond rows passing.second)) (sym Z) (gone.from_second passing.second y-shown Y))
 
-    goes-whole_back : Goes (twin z)
+    goes-whole_back : Goes (twin passing.whole)
     goes-whole_back =
-        goes-on rows new keeps past (twin z) (f (twin x)) now.whole_back
-        (between.other-past through past p a b passing it (f (twin x)) after-tx)
-        (local.meets (twin x) tx-shown ∙ ap (λ (s : Side). s.1) TX ∙ sym (ap (λ (s : Side). s.1) TZ))
-        (subst (λ (s : Side). ComesAfter past s (beyond rows (twin x))) (sym TZ)
-        (gone.from_first (twin x) tx-shown TX))
+        goes-on rows new keeps past (twin passing.whole) (f (twin passing.first)) now.whole_back
+        (between.other-past through past p a b passing it (f (twin passing.first)) after-tx)
+        (local.meets (twin passing.first) tx-shown ∙ ap (λ (s : Side). s.1) TX ∙ sym (ap (λ (s : Side). s.1) TZ))
+        (subst (λ (s : Side). ComesAfter past s (beyond rows (twin passing.first))) (sym TZ)
+        (gone.from_first (twin passing.first) tx-shown TX))
 
     module _ (h : Half) (k : Other h) where
-      to-string : f h ≡ x → Goes h
+      to-string : f h ≡ passing.first → Goes h
       to-string e =
-          goes-on rows new keeps past h z (now.enters h e)
-          (between.whole-shown through past p a b passing it z refl)
-          (ap (λ (s : Side). s.0) Z ∙ sym (ap (λ (s : Side). s.0) X) ∙ begins h x (shown h k) e)
+          goes-on rows new keeps past h passing.whole (now.enters h e)
+          (between.whole-shown through past p a b passing it passing.whole refl)
+          (ap (λ (s : Side). s.0) Z ∙ sym (ap (λ (s : Side). s.0) X) ∙ begins h passing.first (shown h k) e)
           (subst (λ (w : ℕ). ComesAfter past (side_by rows h) w) (sym (ap (λ (s : Side). s.1) Z))
           (gone.to_first h (shown h k) (ap (side_by rows) e ∙ X)))
 
-      to-string_back : f h ≡ twin y → Goes h
+      to-string_back : f h ≡ twin passing.second → Goes h
       to-string_back e =
-          goes-on rows new keeps past h (twin z) (now.returns h e)
-          (between.whole-shown through past p a b passing it (twin z) refl)
-          (ap (λ (s : Side). s.0) TZ ∙ sym (ap (λ (s : Side). s.0) TY) ∙ begins h (twin y) (shown h k) e)
+          goes-on rows new keeps past h (twin passing.whole) (now.returns h e)
+          (between.whole-shown through past p a b passing it (twin passing.whole) refl)
+          (ap (λ (s : Side). s.0) TZ ∙ sym (ap (λ (s : Side). s.0) TY) ∙ begins h (twin passing.second) (shown h k) e)
           (subst (λ (w : ℕ). ComesAfter past (side_by rows h) w) (sym (ap (λ (s : Side). s.1) TZ))
           (gone.to_second h (shown h k) (ap (side_by rows) e ∙ TY)))
 
@@ -267,9 +258,9 @@ module _ (through past : Map) (p a b : ℕ) (passing : Passing)
           elim (between.through-half through past p a b passing it (f h) (local.inside h (shown h k))) [
             | IsThrough.is_first e ↦ to-string e
             | IsThrough.is_first_back e ↦
-                absurd (ends-elsewhere h k (sym (begins h (twin x) (shown h k) e) ∙ ap (λ (s : Side). s.0) TX))
+                absurd (ends-elsewhere h k (sym (begins h (twin passing.first) (shown h k) e) ∙ ap (λ (s : Side). s.0) TX))
             | IsThrough.is_second e ↦
-                absurd (ends-elsewhere h k (sym (begins h y (shown h k) e) ∙ ap (λ (s : Side). s.0) Y))
+                absurd (ends-elsewhere h k (sym (begins h passing.second (shown h k) e) ∙ ap (λ (s : Side). s.0) Y))
             | IsThrough.is_second_back e ↦ to-string_back e
             | IsThrough.is_other far ↦ to-other far
           ]

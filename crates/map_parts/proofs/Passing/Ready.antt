@@ -33,32 +33,23 @@ ticked-three n m k w =
     ∙ (let e : k + (m + n) ≡ m + n + k = omega arith in ap (λ (j : ℕ). ticked j w) e)
 
 module _ (passing : Passing) (rows : HalfRows) (held : Held Half) (can : CanGoThrough passing rows held) where
-  abbrev x : Half
-  x = passing.first
-
-  abbrev y : Half
-  y = passing.second
-
-  abbrev z : Half
-  z = passing.whole
-
   whole_there : HasHalves rows can.between.whole_row
   whole_there =
       through_point.whole_there can.through can.past can.p can.a can.b passing can.between rows can.fits.local can.fits.ends can.first_there can.second_there
 
-  pub through-whole_in : has rows z ≡ true
+  pub through-whole_in : has rows passing.whole ≡ true
   through-whole_in =
       between.z-in can.through can.past can.p can.a can.b passing can.between rows can.first_there can.second_there whole_there
 
-  pub through-first_in : has rows x ≡ true
+  pub through-first_in : has rows passing.first ≡ true
   through-first_in =
       between.x-in can.through can.past can.p can.a can.b passing can.between rows can.first_there can.second_there whole_there
 
-  pub through-second_in : has rows y ≡ true
+  pub through-second_in : has rows passing.second ≡ true
   through-second_in =
       between.y-in can.through can.past can.p can.a can.b passing can.between rows can.first_there can.second_there whole_there
 
-  pub through-can : CanReroute z [] x (y ∷ []) (next rows)
+  pub through-can : CanReroute passing.whole [] passing.first (passing.second ∷ []) (next rows)
   through-can = record {
     strung = tt;
     leads_on =
@@ -68,25 +59,16 @@ module _ (passing : Passing) (rows : HalfRows) (held : Held Half) (can : CanGoTh
 
   pub through-then : (new : HalfRows)
       → ((g : Half) → next new g
-      ≡ redirect (rerouted (prev rows z) (prev rows (twin z)) z [] x (y ∷ []) (next rows)) (next rows) g)
-      → IsThroughNow x y z (next rows) (next new)
+      ≡ redirect (rerouted (prev rows passing.whole) (prev rows (twin passing.whole)) passing.whole [] passing.first (passing.second ∷ []) (next rows)) (next rows) g)
+      → IsThroughNow passing.first passing.second passing.whole (next rows) (next new)
   through-then new is =
-      through-now rows can.fits.local.linked x y z
+      through-now rows can.fits.local.linked passing.first passing.second passing.whole
       (between.xy can.through can.past can.p can.a can.b passing can.between)
       (between.zx can.through can.past can.p can.a can.b passing can.between)
       (between.zy can.through can.past can.p can.a can.b passing can.between) through-can.leads_on
       can.loose (next new) is
 
 module _ (passing : Passing) (rows : HalfRows) (held : Held Half) (can : CanGoPast passing rows held) where
-  abbrev first : Half
-  first = passing.first
-
-  abbrev second : Half
-  second = passing.second
-
-  abbrev whole : Half
-  whole = passing.whole
-
   first_there : HasHalves rows can.between.first_row
   first_there =
       past_point.first_there can.through can.past can.p can.a can.b passing can.between rows can.fits.local can.fits.ends can.whole_there
@@ -95,27 +77,27 @@ module _ (passing : Passing) (rows : HalfRows) (held : Held Half) (can : CanGoPa
   second_there =
       past_point.second_there can.through can.past can.p can.a can.b passing can.between rows can.fits.local can.fits.ends can.whole_there
 
-  pub past-first_in : has rows first ≡ true
+  pub past-first_in : has rows passing.first ≡ true
   past-first_in =
       between.x-in can.through can.past can.p can.a can.b passing can.between rows first_there second_there can.whole_there
 
-  pub past-second_in : has rows second ≡ true
+  pub past-second_in : has rows passing.second ≡ true
   past-second_in =
       between.y-in can.through can.past can.p can.a can.b passing can.between rows first_there second_there can.whole_there
 
-  pub past-whole_in : has rows whole ≡ true
+  pub past-whole_in : has rows passing.whole ≡ true
   past-whole_in =
       between.z-in can.through can.past can.p can.a can.b passing can.between rows first_there second_there can.whole_there
 
-  pub past-different : AreDifferent ((first ∷ second ∷ []) ++ whole ∷ [])
+  pub past-different : AreDifferent ((passing.first ∷ passing.second ∷ []) ++ passing.whole ∷ [])
   unfolding IsDistinct
   past-different =
       let d = can.between.different in
-      let xz : nat_eq first.string whole.string ≡ false = nat_eq-symm first.string whole.string ∙ d.0.0 in
-      let yz : nat_eq second.string whole.string ≡ false = nat_eq-symm second.string whole.string ∙ d.0.1.0 in
+      let xz : nat_eq passing.first.string passing.whole.string ≡ false = nat_eq-symm passing.first.string passing.whole.string ∙ d.0.0 in
+      let yz : nat_eq passing.second.string passing.whole.string ≡ false = nat_eq-symm passing.second.string passing.whole.string ∙ d.0.1.0 in
       ((d.1.0.0, (xz, tt)), ((yz, tt), (tt, tt)))
 
-  pub past-can : CanReroute first (second ∷ []) whole [] (next rows)
+  pub past-can : CanReroute passing.first (passing.second ∷ []) passing.whole [] (next rows)
   past-can = record {
     strung = (
       past_point.on-path can.through can.past can.p can.a can.b passing can.between rows can.fits.local can.fits.ends can.whole_there,
@@ -129,10 +111,10 @@ module _ (passing : Passing) (rows : HalfRows) (held : Held Half) (can : CanGoPa
 
   pub past-then : (new : HalfRows)
       → ((g : Half) → next new g
-      ≡ redirect (rerouted (prev rows first) (prev rows (twin second)) first (second ∷ []) whole [] (next rows)) (next rows) g)
-      → IsPastNow first second whole (next rows) (next new)
+      ≡ redirect (rerouted (prev rows passing.first) (prev rows (twin passing.second)) passing.first (passing.second ∷ []) passing.whole [] (next rows)) (next rows) g)
+      → IsPastNow passing.first passing.second passing.whole (next rows) (next new)
   past-then new is =
-      past-now rows can.fits.local.linked first second whole
+      past-now rows can.fits.local.linked passing.first passing.second passing.whole
       (between.xy can.through can.past can.p can.a can.b passing can.between)
       (between.zx can.through can.past can.p can.a can.b passing can.between)
       (between.zy can.through can.past can.p can.a can.b passing can.between)

@@ -30,15 +30,6 @@ module _ (through past : Map) (p a b : ℕ) (passing : Passing)
     (it : HasBetween through past p a b passing) (rows : HalfRows) (local : IsLocal past rows)
     (ends : AllByRecursion (HasHalves rows) past.strings) (first_there : HasHalves rows it.first_row)
     (second_there : HasHalves rows it.second_row) where
-  abbrev x : Half
-  x = passing.first
-
-  abbrev y : Half
-  y = passing.second
-
-  abbrev z : Half
-  z = passing.whole
-
   abbrev f : Half → Half
   f = next rows
 
@@ -53,29 +44,29 @@ module _ (through past : Map) (p a b : ℕ) (passing : Passing)
       All-at_each (HasHalves rows) past.strings it.whole_row ends
       (between.whole-in through past p a b passing it)
 
-  X : side_by rows x ≡ (a, p)
+  X : side_by rows passing.first ≡ (a, p)
   X = between.x-side through past p a b passing it rows first_there second_there whole_there
 
-  Y : side_by rows y ≡ (p, b)
+  Y : side_by rows passing.second ≡ (p, b)
   Y = between.y-side through past p a b passing it rows first_there second_there whole_there
 
-  Z : side_by rows z ≡ (a, b)
+  Z : side_by rows passing.whole ≡ (a, b)
   Z = between.z-side through past p a b passing it rows first_there second_there whole_there
 
-  TX : side_by rows (twin x) ≡ (p, a)
+  TX : side_by rows (twin passing.first) ≡ (p, a)
   TX = between.tx-side through past p a b passing it rows first_there second_there whole_there
 
-  TY : side_by rows (twin y) ≡ (b, p)
+  TY : side_by rows (twin passing.second) ≡ (b, p)
   TY = between.ty-side through past p a b passing it rows first_there second_there whole_there
 
-  TZ : side_by rows (twin z) ≡ (b, a)
+  TZ : side_by rows (twin passing.whole) ≡ (b, a)
   TZ = between.tz-side through past p a b passing it rows first_there second_there whole_there
 
-  z-shown : IsShown past z
-  z-shown = between.whole-shown through past p a b passing it z refl
+  z-shown : IsShown past passing.whole
+  z-shown = between.whole-shown through past p a b passing it passing.whole refl
 
-  tz-shown : IsShown past (twin z)
-  tz-shown = between.whole-shown through past p a b passing it (twin z) refl
+  tz-shown : IsShown past (twin passing.whole)
+  tz-shown = between.whole-shown through past p a b passing it (twin passing.whole) refl
 
   -- ---- The string past the point leads on to others
 
@@ -88,24 +79,24 @@ module _ (through past : Map) (p a b : ℕ) (passing : Passing)
   stands : (h : Half) → IsShown past h → (side_by rows h).0 ≢ (side_by rows h).1 → f h ≢ h
   stands h shown two e = two (sym (ap o e) ∙ local.meets h shown)
 
-  pub leads : LeadsOn z z f
+  pub leads : LeadsOn passing.whole passing.whole f
   leads = record {
-    goes_on = is_half-other (f z) (twin z) (turns z z-shown);
+    goes_on = is_half-other (f passing.whole) (twin passing.whole) (turns passing.whole z-shown);
     no_ring =
-        is_half-other (f z) z
-        (stands z z-shown (λ e. it.joined.apart (sym (ap (λ (s : Side). s.0) Z) ∙ e ∙ ap (λ (s : Side). s.1) Z)));
+        is_half-other (f passing.whole) passing.whole
+        (stands passing.whole z-shown (λ e. it.joined.apart (sym (ap (λ (s : Side). s.0) Z) ∙ e ∙ ap (λ (s : Side). s.1) Z)));
     goes_back =
-        is_half-other (f (twin z)) z
-        (λ e. turns (twin z) tz-shown (e ∙ sym (twin-twin z)));
+        is_half-other (f (twin passing.whole)) passing.whole
+        (λ e. turns (twin passing.whole) tz-shown (e ∙ sym (twin-twin passing.whole)));
     no_ring_back =
-        is_half-other (f (twin z)) (twin z)
-        (stands (twin z) tz-shown (λ e. it.joined.apart (sym (sym (ap (λ (s : Side). s.0) TZ) ∙ e ∙ ap (λ (s : Side). s.1) TZ))));
+        is_half-other (f (twin passing.whole)) (twin passing.whole)
+        (stands (twin passing.whole) tz-shown (λ e. it.joined.apart (sym (sym (ap (λ (s : Side). s.0) TZ) ∙ e ∙ ap (λ (s : Side). s.1) TZ))));
   }
 
   -- ---- The path in its place
 
   module _ (new : HalfRows) (keeps : KeepsHalves rows new) (linked : IsLinked new)
-      (now : IsThroughNow x y z f (next new)) where
+      (now : IsThroughNow passing.first passing.second passing.whole f (next new)) where
     gone : GoesOnSplit through past rows p a b
     gone = goes-on_split through past rows local p a b it.joined it.rings it.rings_past it.look
 
@@ -113,7 +104,7 @@ module _ (through past : Map) (p a b : ℕ) (passing : Passing)
     Goes h = GoesOn rows new keeps through h
 
     -- what comes after the string, one way or the other, is elsewhere
-    elsewhere : (h : Half) → (f h ≡ z → ⊥) → (f h ≡ twin z → ⊥) → IsShown past h → Other (f h)
+    elsewhere : (h : Half) → (f h ≡ passing.whole → ⊥) → (f h ≡ twin passing.whole → ⊥) → IsShown past h → Other (f h)
     elsewhere h not_z not_tz shown =
         elim (between.past-half through past p a b passing it (f h) (local.inside h shown)) [
           | IsPast.is_whole e ↦ absurd (not_z e)
@@ -121,42 +112,42 @@ module _ (through past : Map) (p a b : ℕ) (passing : Passing)
           | IsPast.is_elsewhere k ↦ k
         ]
 
-    goes-first : Goes x
+    goes-first : Goes passing.first
     goes-first =
-        goes-on rows new keeps through x y now.first
-        (between.second-shown through past p a b passing it y refl)
+        goes-on rows new keeps through passing.first passing.second now.first
+        (between.second-shown through past p a b passing it passing.second refl)
         (ap (λ (s : Side). s.0) Y ∙ sym (ap (λ (s : Side). s.1) X))
         (subst (λ (t : Side × ℕ). ComesAfter through t.0 t.1)
         (λ i. (sym X i, sym (ap (λ (s : Side). s.1) Y) i)) it.joined.first_there)
 
-    goes-second_back : Goes (twin y)
+    goes-second_back : Goes (twin passing.second)
     goes-second_back =
-        goes-on rows new keeps through (twin y) (twin x) now.second_back
-        (between.first-shown through past p a b passing it (twin x) refl)
+        goes-on rows new keeps through (twin passing.second) (twin passing.first) now.second_back
+        (between.first-shown through past p a b passing it (twin passing.first) refl)
         (ap (λ (s : Side). s.0) TX ∙ sym (ap (λ (s : Side). s.1) TY))
         (subst (λ (t : Side × ℕ). ComesAfter through t.0 t.1)
         (λ i. (sym TY i, sym (ap (λ (s : Side). s.1) TX) i)) it.joined.second_there)
 
-    goes-second : Goes y
+    goes-second : Goes passing.second
     goes-second =
         let k =
-        elsewhere z (λ e. other-is_half (f z) z leads.no_ring e)
-        (λ e. other-is_half (f z) (twin z) leads.goes_on e) z-shown in
-        goes-on rows new keeps through y (f z) now.second
-        (between.other-through through past p a b passing it (f z) k)
-        (local.meets z z-shown ∙ ap (λ (s : Side). s.1) Z ∙ sym (ap (λ (s : Side). s.1) Y))
-        (subst (λ (s : Side). ComesAfter through s (beyond rows z)) (sym Y) (gone.from_second z z-shown Z))
+        elsewhere passing.whole (λ e. other-is_half (f passing.whole) passing.whole leads.no_ring e)
+        (λ e. other-is_half (f passing.whole) (twin passing.whole) leads.goes_on e) z-shown in
+        goes-on rows new keeps through passing.second (f passing.whole) now.second
+        (between.other-through through past p a b passing it (f passing.whole) k)
+        (local.meets passing.whole z-shown ∙ ap (λ (s : Side). s.1) Z ∙ sym (ap (λ (s : Side). s.1) Y))
+        (subst (λ (s : Side). ComesAfter through s (beyond rows passing.whole)) (sym Y) (gone.from_second passing.whole z-shown Z))
 
-    goes-first_back : Goes (twin x)
+    goes-first_back : Goes (twin passing.first)
     goes-first_back =
         let k =
-        elsewhere (twin z) (λ e. other-is_half (f (twin z)) z leads.goes_back e)
-        (λ e. other-is_half (f (twin z)) (twin z) leads.no_ring_back e) tz-shown in
-        goes-on rows new keeps through (twin x) (f (twin z)) now.first_back
-        (between.other-through through past p a b passing it (f (twin z)) k)
-        (local.meets (twin z) tz-shown ∙ ap (λ (s : Side). s.1) TZ ∙ sym (ap (λ (s : Side). s.1) TX))
-        (subst (λ (s : Side). ComesAfter through s (beyond rows (twin z))) (sym TX)
-        (gone.from_first (twin z) tz-shown TZ))
+        elsewhere (twin passing.whole) (λ e. other-is_half (f (twin passing.whole)) passing.whole leads.goes_back e)
+        (λ e. other-is_half (f (twin passing.whole)) (twin passing.whole) leads.no_ring_back e) tz-shown in
+        goes-on rows new keeps through (twin passing.first) (f (twin passing.whole)) now.first_back
+        (between.other-through through past p a b passing it (f (twin passing.whole)) k)
+        (local.meets (twin passing.whole) tz-shown ∙ ap (λ (s : Side). s.1) TZ ∙ sym (ap (λ (s : Side). s.1) TX))
+        (subst (λ (s : Side). ComesAfter through s (beyond rows (twin passing.whole))) (sym TX)
+        (gone.from_first (twin passing.whole) tz-shown TZ))
 
     module _ (h : Half) (k : Other h) where
       shown : IsShown past h
@@ -169,18 +160,18 @@ module _ (through past : Map) (p a b : ℕ) (passing : Passing)
           (All-at_each (HasHalves rows) past.strings k.row ends
           (between.other-in_past through past p a b passing it k.row k.there)) h k.number
 
-      to-path : f h ≡ z → Goes h
+      to-path : f h ≡ passing.whole → Goes h
       to-path e =
-          goes-on rows new keeps through h x (now.enters h e)
-          (between.first-shown through past p a b passing it x refl)
+          goes-on rows new keeps through h passing.first (now.enters h e)
+          (between.first-shown through past p a b passing it passing.first refl)
           (ap (λ (s : Side). s.0) X ∙ sym (ap (λ (s : Side). s.0) Z) ∙ sym (ap o e) ∙ local.meets h shown)
           (subst (λ (w : ℕ). ComesAfter through (side_by rows h) w) (sym (ap (λ (s : Side). s.1) X))
           (gone.to_first h shown there (ap (side_by rows) e ∙ Z)))
 
-      to-path_back : f h ≡ twin z → Goes h
+      to-path_back : f h ≡ twin passing.whole → Goes h
       to-path_back e =
-          goes-on rows new keeps through h (twin y) (now.returns h e)
-          (between.second-shown through past p a b passing it (twin y) refl)
+          goes-on rows new keeps through h (twin passing.second) (now.returns h e)
+          (between.second-shown through past p a b passing it (twin passing.second) refl)
           (ap (λ (s : Side). s.0) TY ∙ sym (ap (λ (s : Side). s.0) TZ) ∙ sym (ap o e) ∙ local.meets h shown)
           (subst (λ (w : ℕ). ComesAfter through (side_by rows h) w) (sym (ap (λ (s : Side). s.1) TY))
           (gone.to_second h shown there (ap (side_by rows) e ∙ TZ)))
@@ -188,8 +179,8 @@ module _ (through past : Map) (p a b : ℕ) (passing : Passing)
       to-other : Other (f h) → Goes h
       to-other far =
           let apart = between.not-whole through past p a b passing it (f h) far in
-          let not_z : f h ≢ z = λ e. apart (ap (λ (q : Half). q.string) e) in
-          let not_tz : f h ≢ twin z = λ e. apart (ap (λ (q : Half). q.string) e) in
+          let not_z : f h ≢ passing.whole = λ e. apart (ap (λ (q : Half). q.string) e) in
+          let not_tz : f h ≢ twin passing.whole = λ e. apart (ap (λ (q : Half). q.string) e) in
           let inside = local.inside h shown in
           goes-on rows new keeps through h (f h)
           (now.others h (between.not-first through past p a b passing it h k)
@@ -197,8 +188,8 @@ module _ (through past : Map) (p a b : ℕ) (passing : Passing)
           (between.not-whole through past p a b passing it h k) not_z not_tz)
           (between.other-through through past p a b passing it (f h) far) (local.meets h shown)
           (gone.stays h shown there
-          (λ e. not_z (local.apart (f h) z inside z-shown (e ∙ sym Z)))
-          (λ e. not_tz (local.apart (f h) (twin z) inside tz-shown (e ∙ sym TZ))))
+          (λ e. not_z (local.apart (f h) passing.whole inside z-shown (e ∙ sym Z)))
+          (λ e. not_tz (local.apart (f h) (twin passing.whole) inside tz-shown (e ∙ sym TZ))))
 
       goes-other : Goes h
       goes-other =
