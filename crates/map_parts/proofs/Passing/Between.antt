@@ -80,6 +80,15 @@ nat-other a b e same = true≢false (sym ((Decides-eqb a b).1 same) ∙ e)
 nat_eq-is : (a b : ℕ) → IsTrue (nat_eq a b) ↔ (a ≡ b)
 nat_eq-is a b = ((Decides-eqb a b).0, (Decides-eqb a b).1)
 
+-- the sides along which the three halves lead, and back
+pub record LeadBetween (rows : HalfRows) (p a b : ℕ) (passing : Passing) : Type 0 where
+  pub first : side_by rows passing.first ≡ (a, p)
+  pub second : side_by rows passing.second ≡ (p, b)
+  pub whole : side_by rows passing.whole ≡ (a, b)
+  pub first_back : side_by rows (twin passing.first) ≡ (p, a)
+  pub second_back : side_by rows (twin passing.second) ≡ (b, p)
+  pub whole_back : side_by rows (twin passing.whole) ≡ (b, a)
+
 module _ (through past : Map) (p a b : ℕ) (passing : Passing)
     (it : HasBetween through past p a b passing) where
   -- ---- The strings differ
@@ -224,23 +233,19 @@ module _ (through past : Map) (p a b : ℕ) (passing : Passing)
   -- ---- In a table that has all three strings
 
   module _ (rows : HalfRows) (first_there : HasHalves rows it.first_row) (second_there : HasHalves rows it.second_row) (whole_there : HasHalves rows it.whole_row) where
-    pub x-side : side_by rows passing.first ≡ (a, p)
-    x-side = (along-side rows it.first_row passing.first (a, p) first_there it.first_along).1
-
-    pub y-side : side_by rows passing.second ≡ (p, b)
-    y-side = (along-side rows it.second_row passing.second (p, b) second_there it.second_along).1
-
-    pub z-side : side_by rows passing.whole ≡ (a, b)
-    z-side = (along-side rows it.whole_row passing.whole (a, b) whole_there it.whole_along).1
-
-    pub tx-side : side_by rows (twin passing.first) ≡ (p, a)
-    tx-side = twin-side rows passing.first ∙ ap opposite x-side
-
-    pub ty-side : side_by rows (twin passing.second) ≡ (b, p)
-    ty-side = twin-side rows passing.second ∙ ap opposite y-side
-
-    pub tz-side : side_by rows (twin passing.whole) ≡ (b, a)
-    tz-side = twin-side rows passing.whole ∙ ap opposite z-side
+    pub ways : LeadBetween rows p a b passing
+    ways =
+        let first = (along-side rows it.first_row passing.first (a, p) first_there it.first_along).1 in
+        let second = (along-side rows it.second_row passing.second (p, b) second_there it.second_along).1 in
+        let whole = (along-side rows it.whole_row passing.whole (a, b) whole_there it.whole_along).1 in
+        record {
+          first = first;
+          second = second;
+          whole = whole;
+          first_back = twin-side rows passing.first ∙ ap opposite first;
+          second_back = twin-side rows passing.second ∙ ap opposite second;
+          whole_back = twin-side rows passing.whole ∙ ap opposite whole;
+        }
 
     pub x-in : has rows passing.first ≡ true
     x-in = (along-side rows it.first_row passing.first (a, p) first_there it.first_along).0

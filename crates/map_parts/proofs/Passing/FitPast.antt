@@ -26,7 +26,7 @@ use Rattle.map_parts.specs.declared.edits.passing.Passing.{Passing}
 use Rattle.map_parts.proofs.Passing.OneHand.{ring-face_has}
 use Rattle.map_parts.proofs.Passing.RingsWithout as rings
 use Rattle.map_parts.proofs.Passing.Between as between
-use Rattle.map_parts.proofs.Passing.Between.{IsThrough, IsPast, IsOther, other-half}
+use Rattle.map_parts.proofs.Passing.Between.{LeadBetween, IsThrough, IsPast, IsOther, other-half}
 use Rattle.map_parts.proofs.Passing.Routes.{IsPastNow}
 use Rattle.map_parts.proofs.Passing.Past as past_point
 use Rattle.map_parts.proofs.Passing.KeptAlong.{IsKeptOn, kept-made}
@@ -53,23 +53,8 @@ module _ (through past : Map) (p a b : ℕ) (passing : Passing)
   second_there : HasHalves rows it.second_row
   second_there = past_point.second_there through past p a b passing it rows fits.local fits.ends whole_there
 
-  X : side_by rows passing.first ≡ (a, p)
-  X = between.x-side through past p a b passing it rows first_there second_there whole_there
-
-  Y : side_by rows passing.second ≡ (p, b)
-  Y = between.y-side through past p a b passing it rows first_there second_there whole_there
-
-  Z : side_by rows passing.whole ≡ (a, b)
-  Z = between.z-side through past p a b passing it rows first_there second_there whole_there
-
-  TX : side_by rows (twin passing.first) ≡ (p, a)
-  TX = between.tx-side through past p a b passing it rows first_there second_there whole_there
-
-  TY : side_by rows (twin passing.second) ≡ (b, p)
-  TY = between.ty-side through past p a b passing it rows first_there second_there whole_there
-
-  TZ : side_by rows (twin passing.whole) ≡ (b, a)
-  TZ = between.tz-side through past p a b passing it rows first_there second_there whole_there
+  ways : LeadBetween rows p a b passing
+  ways = between.ways through past p a b passing it rows first_there second_there whole_there
 
   pub local : IsLocal past new
   local = past_point.past-local through past p a b passing it rows fits.local fits.ends whole_there new keeps linked now
@@ -83,16 +68,16 @@ module _ (through past : Map) (p a b : ℕ) (passing : Passing)
   -- ---- The faces of the sides past the point
 
   left-has : HasSide through left (a, p)
-  left-has = subst (HasSide through left) X (fits.faces passing.first (between.first-shown through past p a b passing it passing.first refl))
+  left-has = subst (HasSide through left) ways.first (fits.faces passing.first (between.first-shown through past p a b passing it passing.first refl))
 
   right-has : HasSide through right (b, p)
-  right-has = subst (HasSide through right) TY (fits.faces (twin passing.second) (between.second-shown through past p a b passing it (twin passing.second) refl))
+  right-has = subst (HasSide through right) ways.second_back (fits.faces (twin passing.second) (between.second-shown through past p a b passing it (twin passing.second) refl))
 
   pub left-past : HasSide past left (side_by new passing.whole)
-  left-past = subst (HasSide past left) (sym (new-side passing.whole ∙ Z)) (it.joined.side_forth left left-has)
+  left-past = subst (HasSide past left) (sym (new-side passing.whole ∙ ways.whole)) (it.joined.side_forth left left-has)
 
   pub right-past : HasSide past right (side_by new (twin passing.whole))
-  right-past = subst (HasSide past right) (sym (new-side (twin passing.whole) ∙ TZ)) (it.joined.side_back right right-has)
+  right-past = subst (HasSide past right) (sym (new-side (twin passing.whole) ∙ ways.whole_back)) (it.joined.side_back right right-has)
 
   -- the face of a half elsewhere
   elsewhere-faced : (h : Half) → Other h → HasSide past (face new h) (side_by new h)
@@ -272,32 +257,32 @@ module _ (through past : Map) (p a b : ℕ) (passing : Passing)
       b-p = between.b-p through past p a b passing it
 
       on-left : Contains (sides_of c.ring) (a, p) ⊎ Contains (sides_of c.ring) (p, b) → Contains (sides_of (drop c).ring) (side_by rows passing.whole)
-      on-left on = subst (Contains (sides_of (drop c).ring)) (sym Z) (rings.first-past through past p a b it.joined it.rings a-p b-p c isk.there on)
+      on-left on = subst (Contains (sides_of (drop c).ring)) (sym ways.whole) (rings.first-past through past p a b it.joined it.rings a-p b-p c isk.there on)
 
       on-right : Contains (sides_of c.ring) (b, p) ⊎ Contains (sides_of c.ring) (p, a) → Contains (sides_of (drop c).ring) (side_by rows (twin passing.whole))
-      on-right on = subst (Contains (sides_of (drop c).ring)) (sym TZ) (rings.second-past through past p a b it.joined it.rings a-p b-p c isk.there on)
+      on-right on = subst (Contains (sides_of (drop c).ring)) (sym ways.whole_back) (rings.second-past through past p a b it.joined it.rings a-p b-p c isk.there on)
 
       of-first : k.1 ≡ passing.first → IsKeptOn past done it.rings_past (k.0, moved (face_place k.0) k.1) (drop c)
       of-first e =
-          let is : side_by rows k.1 ≡ (a, p) = ap (side_by rows) e ∙ X in
+          let is : side_by rows k.1 ≡ (a, p) = ap (side_by rows) e ∙ ways.first in
           kept-on passing.whole (ap (moved (face_place k.0)) e ∙ to-first (face_place k.0) (ap face_place (mine left (a, p) is left-has)))
           z-shown (on-left (inl (subst (Contains (sides_of c.ring)) is isk.has)))
 
       of-second : k.1 ≡ passing.second → IsKeptOn past done it.rings_past (k.0, moved (face_place k.0) k.1) (drop c)
       of-second e =
-          let is : side_by rows k.1 ≡ (p, b) = ap (side_by rows) e ∙ Y in
+          let is : side_by rows k.1 ≡ (p, b) = ap (side_by rows) e ∙ ways.second in
           kept-on passing.whole (ap (moved (face_place k.0)) e ∙ to-second (face_place k.0) (ap face_place (mine left (p, b) is left-second)))
           z-shown (on-left (inr (subst (Contains (sides_of c.ring)) is isk.has)))
 
       of-second_back : k.1 ≡ twin passing.second → IsKeptOn past done it.rings_past (k.0, moved (face_place k.0) k.1) (drop c)
       of-second_back e =
-          let is : side_by rows k.1 ≡ (b, p) = ap (side_by rows) e ∙ TY in
+          let is : side_by rows k.1 ≡ (b, p) = ap (side_by rows) e ∙ ways.second_back in
           kept-on (twin passing.whole) (ap (moved (face_place k.0)) e ∙ to-second_back (face_place k.0) (ap face_place (mine right (b, p) is right-has)))
           tz-shown (on-right (inl (subst (Contains (sides_of c.ring)) is isk.has)))
 
       of-first_back : k.1 ≡ twin passing.first → IsKeptOn past done it.rings_past (k.0, moved (face_place k.0) k.1) (drop c)
       of-first_back e =
-          let is : side_by rows k.1 ≡ (p, a) = ap (side_by rows) e ∙ TX in
+          let is : side_by rows k.1 ≡ (p, a) = ap (side_by rows) e ∙ ways.first_back in
           kept-on (twin passing.whole) (ap (moved (face_place k.0)) e ∙ to-first_back (face_place k.0) (ap face_place (mine right (p, a) is right-first)))
           tz-shown (on-right (inr (subst (Contains (sides_of c.ring)) is isk.has)))
 

@@ -25,7 +25,7 @@ use Rattle.map_parts.proofs.CycleRings.{cycle-next}
 use Rattle.map_parts.proofs.Passing.OneHand.{ring-face_has}
 use Rattle.map_parts.proofs.Passing.RingsWithout as rings
 use Rattle.map_parts.proofs.Passing.Between as between
-use Rattle.map_parts.proofs.Passing.Between.{IsThrough, IsPast, IsOther, other-half}
+use Rattle.map_parts.proofs.Passing.Between.{LeadBetween, IsThrough, IsPast, IsOther, other-half}
 use Rattle.map_parts.proofs.Passing.Routes.{IsThroughNow}
 use Rattle.map_parts.proofs.Passing.Local.{string-half_side}
 use Rattle.map_parts.proofs.Passing.Through as through_point
@@ -51,17 +51,8 @@ module _ (through past : Map) (p a b : ℕ) (passing : Passing)
   whole_there : HasHalves rows it.whole_row
   whole_there = through_point.whole_there through past p a b passing it rows fits.local fits.ends first_there second_there
 
-  X : side_by rows passing.first ≡ (a, p)
-  X = between.x-side through past p a b passing it rows first_there second_there whole_there
-
-  Z : side_by rows passing.whole ≡ (a, b)
-  Z = between.z-side through past p a b passing it rows first_there second_there whole_there
-
-  TY : side_by rows (twin passing.second) ≡ (b, p)
-  TY = between.ty-side through past p a b passing it rows first_there second_there whole_there
-
-  TZ : side_by rows (twin passing.whole) ≡ (b, a)
-  TZ = between.tz-side through past p a b passing it rows first_there second_there whole_there
+  ways : LeadBetween rows p a b passing
+  ways = between.ways through past p a b passing it rows first_there second_there whole_there
 
   pub local : IsLocal through new
   local = through_point.through-local through past p a b passing it rows fits.local fits.ends first_there second_there new keeps linked now
@@ -75,32 +66,32 @@ module _ (through past : Map) (p a b : ℕ) (passing : Passing)
   -- ---- The faces of the sides through the point
 
   left-past : HasSide past left (a, b)
-  left-past = subst (HasSide past left) Z (fits.faces passing.whole (between.whole-shown through past p a b passing it passing.whole refl))
+  left-past = subst (HasSide past left) ways.whole (fits.faces passing.whole (between.whole-shown through past p a b passing it passing.whole refl))
 
   right-past : HasSide past right (b, a)
-  right-past = subst (HasSide past right) TZ (fits.faces (twin passing.whole) (between.whole-shown through past p a b passing it (twin passing.whole) refl))
+  right-past = subst (HasSide past right) ways.whole_back (fits.faces (twin passing.whole) (between.whole-shown through past p a b passing it (twin passing.whole) refl))
 
   first-among : Contains (all_sides through) (a, p)
   first-among =
-      subst (Contains (all_sides through)) X
+      subst (Contains (all_sides through)) ways.first
       (string-half_side through it.rings rows it.first_row (between.first-in through past p a b passing it) first_there passing.first (sym it.first_along.string))
 
   second-among : Contains (all_sides through) (b, p)
   second-among =
-      subst (Contains (all_sides through)) TY
+      subst (Contains (all_sides through)) ways.second_back
       (string-half_side through it.rings rows it.second_row (between.second-in through past p a b passing it) second_there (twin passing.second) (sym it.second_along.string))
 
   pub left-through : HasSide through left (side_by new passing.first)
   left-through =
       let k = side-face through it.rings (a, p) first-among in
       let same : k.0 ≡ left = one-face past it.rings_past k.0 left (a, b) (it.joined.side_forth k.0 k.2) left-past in
-      subst (HasSide through left) (sym (new-side passing.first ∙ X)) (subst (λ (f : Face). HasSide through f (a, p)) same k.2)
+      subst (HasSide through left) (sym (new-side passing.first ∙ ways.first)) (subst (λ (f : Face). HasSide through f (a, p)) same k.2)
 
   pub right-through : HasSide through right (side_by new (twin passing.second))
   right-through =
       let k = side-face through it.rings (b, p) second-among in
       let same : k.0 ≡ right = one-face past it.rings_past k.0 right (b, a) (it.joined.side_back k.0 k.2) right-past in
-      subst (HasSide through right) (sym (new-side (twin passing.second) ∙ TY)) (subst (λ (f : Face). HasSide through f (b, p)) same k.2)
+      subst (HasSide through right) (sym (new-side (twin passing.second) ∙ ways.second_back)) (subst (λ (f : Face). HasSide through f (b, p)) same k.2)
 
   -- the face of a half elsewhere
   elsewhere-faced : (h : Half) → Other h → HasSide through (face new h) (side_by new h)
@@ -237,7 +228,7 @@ module _ (through past : Map) (p a b : ℕ) (passing : Passing)
 
       of-whole : k.1 ≡ passing.whole → IsKeptOn through done it.rings (k.0, moved (face_place k.0) k.1) c
       of-whole e =
-          let is : side_by rows k.1 ≡ (a, b) = ap (side_by rows) e ∙ Z in
+          let is : side_by rows k.1 ≡ (a, b) = ap (side_by rows) e ∙ ways.whole in
           let mine : k.0 ≡ left =
           one-face past it.rings_past k.0 left (a, b) (subst (HasSide past k.0) is has-face) left-past in
           let to : moved (face_place k.0) k.1 ≡ passing.first =
@@ -246,7 +237,7 @@ module _ (through past : Map) (p a b : ℕ) (passing : Passing)
           ∙ in-place-other R (face_place k.0) (twin passing.whole) (twin passing.second) passing.first
           (other-half passing.first (twin passing.whole) (λ s. between.zx through past p a b passing it (sym s))) in
           kept-on passing.first to x-shown
-          (subst (Contains (sides_of c.ring)) (sym X) (elim split [
+          (subst (Contains (sides_of c.ring)) (sym ways.first) (elim split [
             | inl has ↦ absurd (it.look.forth (subst (Contains (all_sides through)) is (in-map (side_by rows k.1) has)))
             | inr new ↦ elim new [
               | inl forth ↦ forth.1
@@ -256,7 +247,7 @@ module _ (through past : Map) (p a b : ℕ) (passing : Passing)
 
       of-whole_back : k.1 ≡ twin passing.whole → IsKeptOn through done it.rings (k.0, moved (face_place k.0) k.1) c
       of-whole_back e =
-          let is : side_by rows k.1 ≡ (b, a) = ap (side_by rows) e ∙ TZ in
+          let is : side_by rows k.1 ≡ (b, a) = ap (side_by rows) e ∙ ways.whole_back in
           let mine : k.0 ≡ right =
           one-face past it.rings_past k.0 right (b, a) (subst (HasSide past k.0) is has-face) right-past in
           let to : moved (face_place k.0) k.1 ≡ twin passing.second =
@@ -265,7 +256,7 @@ module _ (through past : Map) (p a b : ℕ) (passing : Passing)
           (in-place-other L (face_place k.0) passing.whole passing.first (twin passing.whole) (is_half-turned passing.whole (twin passing.whole) (is_half-twin passing.whole)))
           ∙ in-place-here R (face_place k.0) (twin passing.whole) (twin passing.second) (ap face_place (sym mine)) in
           kept-on (twin passing.second) to ty-shown
-          (subst (Contains (sides_of c.ring)) (sym TY) (elim split [
+          (subst (Contains (sides_of c.ring)) (sym ways.second_back) (elim split [
             | inl has ↦ absurd (it.look.back (subst (Contains (all_sides through)) is (in-map (side_by rows k.1) has)))
             | inr new ↦ elim new [
               | inl forth ↦ absurd (none a b it.joined.apart forth.0 is)
@@ -285,10 +276,10 @@ module _ (through past : Map) (p a b : ℕ) (passing : Passing)
             | inr new ↦ elim new [
               | inl forth ↦
                   absurd (apart (ap (λ (q : Half). q.string)
-                  (fits.local.apart k.1 passing.whole shown (between.whole-shown through past p a b passing it passing.whole refl) (forth.0 ∙ sym Z))))
+                  (fits.local.apart k.1 passing.whole shown (between.whole-shown through past p a b passing it passing.whole refl) (forth.0 ∙ sym ways.whole))))
               | inr back ↦
                   absurd (apart (ap (λ (q : Half). q.string)
-                  (fits.local.apart k.1 (twin passing.whole) shown (between.whole-shown through past p a b passing it (twin passing.whole) refl) (back.0 ∙ sym TZ))))
+                  (fits.local.apart k.1 (twin passing.whole) shown (between.whole-shown through past p a b passing it (twin passing.whole) refl) (back.0 ∙ sym ways.whole_back))))
             ]
           ])
 

@@ -25,7 +25,7 @@ use Rattle.map_parts.proofs.Passing.OneHand.{no-return}
 use Rattle.map_parts.proofs.Passing.Routes.{IsPastNow}
 use Rattle.map_parts.proofs.Passing.Local.{GoesOn, goes-on, halves-kept, local-from, string-half_side}
 use Rattle.map_parts.proofs.Passing.Between as between
-use Rattle.map_parts.proofs.Passing.Between.{IsThrough, IsPast, IsOther, twin-side}
+use Rattle.map_parts.proofs.Passing.Between.{LeadBetween, IsThrough, IsPast, IsOther, twin-side}
 
 module _ (through past : Map) (p a b : ℕ) (passing : Passing)
     (it : HasBetween through past p a b passing) (rows : HalfRows) (local : IsLocal through rows)
@@ -50,23 +50,8 @@ module _ (through past : Map) (p a b : ℕ) (passing : Passing)
       All-at_each (HasHalves rows) through.strings it.second_row ends
       (between.second-in through past p a b passing it)
 
-  X : side_by rows passing.first ≡ (a, p)
-  X = between.x-side through past p a b passing it rows first_there second_there whole_there
-
-  Y : side_by rows passing.second ≡ (p, b)
-  Y = between.y-side through past p a b passing it rows first_there second_there whole_there
-
-  Z : side_by rows passing.whole ≡ (a, b)
-  Z = between.z-side through past p a b passing it rows first_there second_there whole_there
-
-  TX : side_by rows (twin passing.first) ≡ (p, a)
-  TX = between.tx-side through past p a b passing it rows first_there second_there whole_there
-
-  TY : side_by rows (twin passing.second) ≡ (b, p)
-  TY = between.ty-side through past p a b passing it rows first_there second_there whole_there
-
-  TZ : side_by rows (twin passing.whole) ≡ (b, a)
-  TZ = between.tz-side through past p a b passing it rows first_there second_there whole_there
+  ways : LeadBetween rows p a b passing
+  ways = between.ways through past p a b passing it rows first_there second_there whole_there
 
   x-shown : IsShown through passing.first
   x-shown = between.first-shown through past p a b passing it passing.first refl
@@ -100,15 +85,15 @@ module _ (through past : Map) (p a b : ℕ) (passing : Passing)
 
   pub on-path : f passing.first ≡ passing.second
   on-path =
-      let at : o (f passing.first) ≡ p = local.meets passing.first x-shown ∙ ap (λ (s : Side). s.1) X in
+      let at : o (f passing.first) ≡ p = local.meets passing.first x-shown ∙ ap (λ (s : Side). s.1) ways.first in
       local.apart (f passing.first) passing.second (local.inside passing.first x-shown) y-shown
-      ((λ i. (at i, at-point passing.first a b x-shown X (inl (refl, refl)) i)) ∙ sym Y)
+      ((λ i. (at i, at-point passing.first a b x-shown ways.first (inl (refl, refl)) i)) ∙ sym ways.second)
 
   pub back-path : f (twin passing.second) ≡ twin passing.first
   back-path =
-      let at : o (f (twin passing.second)) ≡ p = local.meets (twin passing.second) ty-shown ∙ ap (λ (s : Side). s.1) TY in
+      let at : o (f (twin passing.second)) ≡ p = local.meets (twin passing.second) ty-shown ∙ ap (λ (s : Side). s.1) ways.second_back in
       local.apart (f (twin passing.second)) (twin passing.first) (local.inside (twin passing.second) ty-shown) tx-shown
-      ((λ i. (at i, at-point (twin passing.second) b a ty-shown TY (inr (refl, refl)) i)) ∙ sym TX)
+      ((λ i. (at i, at-point (twin passing.second) b a ty-shown ways.second_back (inr (refl, refl)) i)) ∙ sym ways.first_back)
 
   -- a half begins where the one before it ends
   begins : (h g : Half) → IsShown through h → f h ≡ g → (side_by rows g).0 ≡ (side_by rows h).1
@@ -127,10 +112,10 @@ module _ (through past : Map) (p a b : ℕ) (passing : Passing)
   b-p = between.b-p through past p a b passing it
 
   not-y_x : f passing.second ≢ passing.first
-  not-y_x e = it.joined.apart (sym (ap (λ (s : Side). s.0) X) ∙ begins passing.second passing.first y-shown e ∙ ap (λ (s : Side). s.1) Y)
+  not-y_x e = it.joined.apart (sym (ap (λ (s : Side). s.0) ways.first) ∙ begins passing.second passing.first y-shown e ∙ ap (λ (s : Side). s.1) ways.second)
 
   not-tx_ty : f (twin passing.first) ≢ twin passing.second
-  not-tx_ty e = it.joined.apart (sym (sym (ap (λ (s : Side). s.0) TY) ∙ begins (twin passing.first) (twin passing.second) tx-shown e ∙ ap (λ (s : Side). s.1) TX))
+  not-tx_ty e = it.joined.apart (sym (sym (ap (λ (s : Side). s.0) ways.second_back) ∙ begins (twin passing.first) (twin passing.second) tx-shown e ∙ ap (λ (s : Side). s.1) ways.first_back))
 
   not-tx_x : f (twin passing.first) ≢ passing.first
   not-tx_x e = turns (twin passing.first) tx-shown (e ∙ sym (twin-twin passing.first))
@@ -162,10 +147,10 @@ module _ (through past : Map) (p a b : ℕ) (passing : Passing)
         elim (to-point through past p a b it.joined it.rings (o h) (subst (Contains (all_sides through)) s among)) [
           | inl is ↦
               between.not-first through past p a b passing it h k
-              (ap (λ (q : Half). q.string) (local.apart h passing.first shown x-shown (s ∙ (λ i. (is i, p)) ∙ sym X)))
+              (ap (λ (q : Half). q.string) (local.apart h passing.first shown x-shown (s ∙ (λ i. (is i, p)) ∙ sym ways.first)))
           | inr is ↦
               between.not-second through past p a b passing it h k
-              (ap (λ (q : Half). q.string) (local.apart h (twin passing.second) shown ty-shown (s ∙ (λ i. (is i, p)) ∙ sym TY)))
+              (ap (λ (q : Half). q.string) (local.apart h (twin passing.second) shown ty-shown (s ∙ (λ i. (is i, p)) ∙ sym ways.second_back)))
         ]
 
   other-twin : (h : Half) → Other h → Other (twin h)
@@ -190,9 +175,9 @@ module _ (through past : Map) (p a b : ℕ) (passing : Passing)
     after-y = elim (between.through-half through past p a b passing it (f passing.second) (local.inside passing.second y-shown)) [
       | IsThrough.is_first e ↦ absurd (not-y_x e)
       | IsThrough.is_first_back e ↦
-          absurd (b-p (sym (ap (λ (s : Side). s.1) Y) ∙ sym (begins passing.second (twin passing.first) y-shown e) ∙ ap (λ (s : Side). s.0) TX))
+          absurd (b-p (sym (ap (λ (s : Side). s.1) ways.second) ∙ sym (begins passing.second (twin passing.first) y-shown e) ∙ ap (λ (s : Side). s.0) ways.first_back))
       | IsThrough.is_second e ↦
-          absurd (b-p (sym (ap (λ (s : Side). s.1) Y) ∙ sym (begins passing.second passing.second y-shown e) ∙ ap (λ (s : Side). s.0) Y))
+          absurd (b-p (sym (ap (λ (s : Side). s.1) ways.second) ∙ sym (begins passing.second passing.second y-shown e) ∙ ap (λ (s : Side). s.0) ways.second))
       | IsThrough.is_second_back e ↦ absurd (turns passing.second y-shown e)
       | IsThrough.is_other k ↦ k
     ]
@@ -201,9 +186,9 @@ module _ (through past : Map) (p a b : ℕ) (passing : Passing)
     after-tx = elim (between.through-half through past p a b passing it (f (twin passing.first)) (local.inside (twin passing.first) tx-shown)) [
       | IsThrough.is_first e ↦ absurd (not-tx_x e)
       | IsThrough.is_first_back e ↦
-          absurd (a-p (sym (ap (λ (s : Side). s.1) TX) ∙ sym (begins (twin passing.first) (twin passing.first) tx-shown e) ∙ ap (λ (s : Side). s.0) TX))
+          absurd (a-p (sym (ap (λ (s : Side). s.1) ways.first_back) ∙ sym (begins (twin passing.first) (twin passing.first) tx-shown e) ∙ ap (λ (s : Side). s.0) ways.first_back))
       | IsThrough.is_second e ↦
-          absurd (a-p (sym (ap (λ (s : Side). s.1) TX) ∙ sym (begins (twin passing.first) passing.second tx-shown e) ∙ ap (λ (s : Side). s.0) Y))
+          absurd (a-p (sym (ap (λ (s : Side). s.1) ways.first_back) ∙ sym (begins (twin passing.first) passing.second tx-shown e) ∙ ap (λ (s : Side). s.0) ways.second))
       | IsThrough.is_second_back e ↦ absurd (not-tx_ty e)
       | IsThrough.is_other k ↦ k
     ]
@@ -212,33 +197,33 @@ module _ (through past : Map) (p a b : ℕ) (passing : Passing)
     goes-whole =
         goes-on rows new keeps past passing.whole (f passing.second) now.whole
         (between.other-past through past p a b passing it (f passing.second) after-y)
-        (local.meets passing.second y-shown ∙ ap (λ (s : Side). s.1) Y ∙ sym (ap (λ (s : Side). s.1) Z))
-        (subst (λ (s : Side). ComesAfter past s (beyond rows passing.second)) (sym Z) (gone.from_second passing.second y-shown Y))
+        (local.meets passing.second y-shown ∙ ap (λ (s : Side). s.1) ways.second ∙ sym (ap (λ (s : Side). s.1) ways.whole))
+        (subst (λ (s : Side). ComesAfter past s (beyond rows passing.second)) (sym ways.whole) (gone.from_second passing.second y-shown ways.second))
 
     goes-whole_back : Goes (twin passing.whole)
     goes-whole_back =
         goes-on rows new keeps past (twin passing.whole) (f (twin passing.first)) now.whole_back
         (between.other-past through past p a b passing it (f (twin passing.first)) after-tx)
-        (local.meets (twin passing.first) tx-shown ∙ ap (λ (s : Side). s.1) TX ∙ sym (ap (λ (s : Side). s.1) TZ))
-        (subst (λ (s : Side). ComesAfter past s (beyond rows (twin passing.first))) (sym TZ)
-        (gone.from_first (twin passing.first) tx-shown TX))
+        (local.meets (twin passing.first) tx-shown ∙ ap (λ (s : Side). s.1) ways.first_back ∙ sym (ap (λ (s : Side). s.1) ways.whole_back))
+        (subst (λ (s : Side). ComesAfter past s (beyond rows (twin passing.first))) (sym ways.whole_back)
+        (gone.from_first (twin passing.first) tx-shown ways.first_back))
 
     module _ (h : Half) (k : Other h) where
       to-string : f h ≡ passing.first → Goes h
       to-string e =
           goes-on rows new keeps past h passing.whole (now.enters h e)
           (between.whole-shown through past p a b passing it passing.whole refl)
-          (ap (λ (s : Side). s.0) Z ∙ sym (ap (λ (s : Side). s.0) X) ∙ begins h passing.first (shown h k) e)
-          (subst (λ (w : ℕ). ComesAfter past (side_by rows h) w) (sym (ap (λ (s : Side). s.1) Z))
-          (gone.to_first h (shown h k) (ap (side_by rows) e ∙ X)))
+          (ap (λ (s : Side). s.0) ways.whole ∙ sym (ap (λ (s : Side). s.0) ways.first) ∙ begins h passing.first (shown h k) e)
+          (subst (λ (w : ℕ). ComesAfter past (side_by rows h) w) (sym (ap (λ (s : Side). s.1) ways.whole))
+          (gone.to_first h (shown h k) (ap (side_by rows) e ∙ ways.first)))
 
       to-string_back : f h ≡ twin passing.second → Goes h
       to-string_back e =
           goes-on rows new keeps past h (twin passing.whole) (now.returns h e)
           (between.whole-shown through past p a b passing it (twin passing.whole) refl)
-          (ap (λ (s : Side). s.0) TZ ∙ sym (ap (λ (s : Side). s.0) TY) ∙ begins h (twin passing.second) (shown h k) e)
-          (subst (λ (w : ℕ). ComesAfter past (side_by rows h) w) (sym (ap (λ (s : Side). s.1) TZ))
-          (gone.to_second h (shown h k) (ap (side_by rows) e ∙ TY)))
+          (ap (λ (s : Side). s.0) ways.whole_back ∙ sym (ap (λ (s : Side). s.0) ways.second_back) ∙ begins h (twin passing.second) (shown h k) e)
+          (subst (λ (w : ℕ). ComesAfter past (side_by rows h) w) (sym (ap (λ (s : Side). s.1) ways.whole_back))
+          (gone.to_second h (shown h k) (ap (side_by rows) e ∙ ways.second_back)))
 
       to-other : Other (f h) → Goes h
       to-other far =
@@ -258,9 +243,9 @@ module _ (through past : Map) (p a b : ℕ) (passing : Passing)
           elim (between.through-half through past p a b passing it (f h) (local.inside h (shown h k))) [
             | IsThrough.is_first e ↦ to-string e
             | IsThrough.is_first_back e ↦
-                absurd (ends-elsewhere h k (sym (begins h (twin passing.first) (shown h k) e) ∙ ap (λ (s : Side). s.0) TX))
+                absurd (ends-elsewhere h k (sym (begins h (twin passing.first) (shown h k) e) ∙ ap (λ (s : Side). s.0) ways.first_back))
             | IsThrough.is_second e ↦
-                absurd (ends-elsewhere h k (sym (begins h passing.second (shown h k) e) ∙ ap (λ (s : Side). s.0) Y))
+                absurd (ends-elsewhere h k (sym (begins h passing.second (shown h k) e) ∙ ap (λ (s : Side). s.0) ways.second))
             | IsThrough.is_second_back e ↦ to-string_back e
             | IsThrough.is_other far ↦ to-other far
           ]

@@ -24,7 +24,7 @@ use Rattle.map_parts.proofs.Passing.OneHand.{no-return}
 use Rattle.map_parts.proofs.Passing.Routes.{IsThroughNow}
 use Rattle.map_parts.proofs.Passing.Local.{GoesOn, goes-on, halves-kept, local-from, string-half_side}
 use Rattle.map_parts.proofs.Passing.Between as between
-use Rattle.map_parts.proofs.Passing.Between.{IsThrough, IsPast, IsOther}
+use Rattle.map_parts.proofs.Passing.Between.{LeadBetween, IsThrough, IsPast, IsOther}
 
 module _ (through past : Map) (p a b : ℕ) (passing : Passing)
     (it : HasBetween through past p a b passing) (rows : HalfRows) (local : IsLocal past rows)
@@ -44,23 +44,8 @@ module _ (through past : Map) (p a b : ℕ) (passing : Passing)
       All-at_each (HasHalves rows) past.strings it.whole_row ends
       (between.whole-in through past p a b passing it)
 
-  X : side_by rows passing.first ≡ (a, p)
-  X = between.x-side through past p a b passing it rows first_there second_there whole_there
-
-  Y : side_by rows passing.second ≡ (p, b)
-  Y = between.y-side through past p a b passing it rows first_there second_there whole_there
-
-  Z : side_by rows passing.whole ≡ (a, b)
-  Z = between.z-side through past p a b passing it rows first_there second_there whole_there
-
-  TX : side_by rows (twin passing.first) ≡ (p, a)
-  TX = between.tx-side through past p a b passing it rows first_there second_there whole_there
-
-  TY : side_by rows (twin passing.second) ≡ (b, p)
-  TY = between.ty-side through past p a b passing it rows first_there second_there whole_there
-
-  TZ : side_by rows (twin passing.whole) ≡ (b, a)
-  TZ = between.tz-side through past p a b passing it rows first_there second_there whole_there
+  ways : LeadBetween rows p a b passing
+  ways = between.ways through past p a b passing it rows first_there second_there whole_there
 
   z-shown : IsShown past passing.whole
   z-shown = between.whole-shown through past p a b passing it passing.whole refl
@@ -84,13 +69,13 @@ module _ (through past : Map) (p a b : ℕ) (passing : Passing)
     goes_on = is_half-other (f passing.whole) (twin passing.whole) (turns passing.whole z-shown);
     no_ring =
         is_half-other (f passing.whole) passing.whole
-        (stands passing.whole z-shown (λ e. it.joined.apart (sym (ap (λ (s : Side). s.0) Z) ∙ e ∙ ap (λ (s : Side). s.1) Z)));
+        (stands passing.whole z-shown (λ e. it.joined.apart (sym (ap (λ (s : Side). s.0) ways.whole) ∙ e ∙ ap (λ (s : Side). s.1) ways.whole)));
     goes_back =
         is_half-other (f (twin passing.whole)) passing.whole
         (λ e. turns (twin passing.whole) tz-shown (e ∙ sym (twin-twin passing.whole)));
     no_ring_back =
         is_half-other (f (twin passing.whole)) (twin passing.whole)
-        (stands (twin passing.whole) tz-shown (λ e. it.joined.apart (sym (sym (ap (λ (s : Side). s.0) TZ) ∙ e ∙ ap (λ (s : Side). s.1) TZ))));
+        (stands (twin passing.whole) tz-shown (λ e. it.joined.apart (sym (sym (ap (λ (s : Side). s.0) ways.whole_back) ∙ e ∙ ap (λ (s : Side). s.1) ways.whole_back))));
   }
 
   -- ---- The path in its place
@@ -116,17 +101,17 @@ module _ (through past : Map) (p a b : ℕ) (passing : Passing)
     goes-first =
         goes-on rows new keeps through passing.first passing.second now.first
         (between.second-shown through past p a b passing it passing.second refl)
-        (ap (λ (s : Side). s.0) Y ∙ sym (ap (λ (s : Side). s.1) X))
+        (ap (λ (s : Side). s.0) ways.second ∙ sym (ap (λ (s : Side). s.1) ways.first))
         (subst (λ (t : Side × ℕ). ComesAfter through t.0 t.1)
-        (λ i. (sym X i, sym (ap (λ (s : Side). s.1) Y) i)) it.joined.first_there)
+        (λ i. (sym ways.first i, sym (ap (λ (s : Side). s.1) ways.second) i)) it.joined.first_there)
 
     goes-second_back : Goes (twin passing.second)
     goes-second_back =
         goes-on rows new keeps through (twin passing.second) (twin passing.first) now.second_back
         (between.first-shown through past p a b passing it (twin passing.first) refl)
-        (ap (λ (s : Side). s.0) TX ∙ sym (ap (λ (s : Side). s.1) TY))
+        (ap (λ (s : Side). s.0) ways.first_back ∙ sym (ap (λ (s : Side). s.1) ways.second_back))
         (subst (λ (t : Side × ℕ). ComesAfter through t.0 t.1)
-        (λ i. (sym TY i, sym (ap (λ (s : Side). s.1) TX) i)) it.joined.second_there)
+        (λ i. (sym ways.second_back i, sym (ap (λ (s : Side). s.1) ways.first_back) i)) it.joined.second_there)
 
     goes-second : Goes passing.second
     goes-second =
@@ -135,8 +120,8 @@ module _ (through past : Map) (p a b : ℕ) (passing : Passing)
         (λ e. other-is_half (f passing.whole) (twin passing.whole) leads.goes_on e) z-shown in
         goes-on rows new keeps through passing.second (f passing.whole) now.second
         (between.other-through through past p a b passing it (f passing.whole) k)
-        (local.meets passing.whole z-shown ∙ ap (λ (s : Side). s.1) Z ∙ sym (ap (λ (s : Side). s.1) Y))
-        (subst (λ (s : Side). ComesAfter through s (beyond rows passing.whole)) (sym Y) (gone.from_second passing.whole z-shown Z))
+        (local.meets passing.whole z-shown ∙ ap (λ (s : Side). s.1) ways.whole ∙ sym (ap (λ (s : Side). s.1) ways.second))
+        (subst (λ (s : Side). ComesAfter through s (beyond rows passing.whole)) (sym ways.second) (gone.from_second passing.whole z-shown ways.whole))
 
     goes-first_back : Goes (twin passing.first)
     goes-first_back =
@@ -145,9 +130,9 @@ module _ (through past : Map) (p a b : ℕ) (passing : Passing)
         (λ e. other-is_half (f (twin passing.whole)) (twin passing.whole) leads.no_ring_back e) tz-shown in
         goes-on rows new keeps through (twin passing.first) (f (twin passing.whole)) now.first_back
         (between.other-through through past p a b passing it (f (twin passing.whole)) k)
-        (local.meets (twin passing.whole) tz-shown ∙ ap (λ (s : Side). s.1) TZ ∙ sym (ap (λ (s : Side). s.1) TX))
-        (subst (λ (s : Side). ComesAfter through s (beyond rows (twin passing.whole))) (sym TX)
-        (gone.from_first (twin passing.whole) tz-shown TZ))
+        (local.meets (twin passing.whole) tz-shown ∙ ap (λ (s : Side). s.1) ways.whole_back ∙ sym (ap (λ (s : Side). s.1) ways.first_back))
+        (subst (λ (s : Side). ComesAfter through s (beyond rows (twin passing.whole))) (sym ways.first_back)
+        (gone.from_first (twin passing.whole) tz-shown ways.whole_back))
 
     module _ (h : Half) (k : Other h) where
       shown : IsShown past h
@@ -164,17 +149,17 @@ module _ (through past : Map) (p a b : ℕ) (passing : Passing)
       to-path e =
           goes-on rows new keeps through h passing.first (now.enters h e)
           (between.first-shown through past p a b passing it passing.first refl)
-          (ap (λ (s : Side). s.0) X ∙ sym (ap (λ (s : Side). s.0) Z) ∙ sym (ap o e) ∙ local.meets h shown)
-          (subst (λ (w : ℕ). ComesAfter through (side_by rows h) w) (sym (ap (λ (s : Side). s.1) X))
-          (gone.to_first h shown there (ap (side_by rows) e ∙ Z)))
+          (ap (λ (s : Side). s.0) ways.first ∙ sym (ap (λ (s : Side). s.0) ways.whole) ∙ sym (ap o e) ∙ local.meets h shown)
+          (subst (λ (w : ℕ). ComesAfter through (side_by rows h) w) (sym (ap (λ (s : Side). s.1) ways.first))
+          (gone.to_first h shown there (ap (side_by rows) e ∙ ways.whole)))
 
       to-path_back : f h ≡ twin passing.whole → Goes h
       to-path_back e =
           goes-on rows new keeps through h (twin passing.second) (now.returns h e)
           (between.second-shown through past p a b passing it (twin passing.second) refl)
-          (ap (λ (s : Side). s.0) TY ∙ sym (ap (λ (s : Side). s.0) TZ) ∙ sym (ap o e) ∙ local.meets h shown)
-          (subst (λ (w : ℕ). ComesAfter through (side_by rows h) w) (sym (ap (λ (s : Side). s.1) TY))
-          (gone.to_second h shown there (ap (side_by rows) e ∙ TZ)))
+          (ap (λ (s : Side). s.0) ways.second_back ∙ sym (ap (λ (s : Side). s.0) ways.whole_back) ∙ sym (ap o e) ∙ local.meets h shown)
+          (subst (λ (w : ℕ). ComesAfter through (side_by rows h) w) (sym (ap (λ (s : Side). s.1) ways.second_back))
+          (gone.to_second h shown there (ap (side_by rows) e ∙ ways.whole_back)))
 
       to-other : Other (f h) → Goes h
       to-other far =
@@ -188,8 +173,8 @@ module _ (through past : Map) (p a b : ℕ) (passing : Passing)
           (between.not-whole through past p a b passing it h k) not_z not_tz)
           (between.other-through through past p a b passing it (f h) far) (local.meets h shown)
           (gone.stays h shown there
-          (λ e. not_z (local.apart (f h) passing.whole inside z-shown (e ∙ sym Z)))
-          (λ e. not_tz (local.apart (f h) (twin passing.whole) inside tz-shown (e ∙ sym TZ))))
+          (λ e. not_z (local.apart (f h) passing.whole inside z-shown (e ∙ sym ways.whole)))
+          (λ e. not_tz (local.apart (f h) (twin passing.whole) inside tz-shown (e ∙ sym ways.whole_back))))
 
       goes-other : Goes h
       goes-other =
