@@ -1,5 +1,5 @@
 -- Rows under their numbers, and the list of the rows.
-use Rattle.std.proofs.Common.{Bor, ◌≡◌, ℕ, zero, suc, List, [], ◌∷◌, Bool, true, false, ◌==◌, map, find, refl, sym, ap, ◌∙◌, subst, Option, Some, None, slice_get, insert}
+use Rattle.std.proofs.Common.{Bor, ◌≡◌, ◌≢◌, ◌+◌, ◌++◌, take, ℕ, zero, suc, List, [], ◌∷◌, Bool, true, false, ◌==◌, map, find, refl, sym, ap, ◌∙◌, subst, Option, Some, None, slice_get, insert}
 use Rattle.std.specs.Option.{option_copied}
 use Rattle.std.specs.Prelude.{IsSome, option_map, is_some, IfSome, IfNone}
 use Rattle.std.specs.List.{list_any}
@@ -7,9 +7,10 @@ use Rattle.std.specs.Map.{values_of}
 use Rattle.std.proofs.lemmas.Option.{slice_get-map}
 use Rattle.indexmap.proofs.SetLemmas.{map-insert}
 use Rattle.entry_list.specs.Slots.{Slots, rows_of, row_at, without_number, with_number, StandsAt, PutsIn}
-use Rattle.cad_map.proofs.CallerLemmas.{lookup-row}
+use Rattle.cad_map.proofs.CallerLemmas.{lookup-row, row_with-earlier, take-more}
 use Rattle.map_parts.specs.Rows.{rows_in}
 use Rattle.cad_map.specs.Table.{row_with, without_row, with_row, AreNumbered}
+use Rattle.cad_map.specs.Valid.{EachPair}
 
 module _ {R : Type 0} (number : R → ℕ) where
   -- the rows without one, and with another in its place
@@ -119,3 +120,12 @@ some-by_numbers number n (r ∷ rows) = by (number r == n) refl (some-by_numbers
 pub some-copied : {R : Type 0} (o : Option (Bor R)) (row : R) → option_copied o ≡ Some row → IsSome o
 some-copied None row is = cc
 some-copied (Some r) row is = refl
+
+-- ---- A copy of each row in turn
+
+module _ {R : Type 0} (number : R → ℕ) (all : List R) (place : ℕ) {so_far : List R} {row copy : R} (were : so_far ≡ take place all) (same : copy ≡ row) (at : Some row ≡ slice_get all place) where
+  pub copy-new : EachPair (λ a b. a ≢ b) (map number all) → row_with number (number copy) so_far ≡ None
+  copy-new each = rw (were, same) (row_with-earlier number all place row each (sym at))
+
+  pub copies-more : {more : List R} → more ≡ so_far ++ copy ∷ [] → more ≡ take (place + 1) all
+  copies-more pushed = pushed ∙ rw (were, same) (take-more all place row (sym at))

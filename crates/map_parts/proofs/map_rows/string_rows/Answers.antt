@@ -1,14 +1,11 @@
-use Rattle.std.proofs.Common.{◌∙◌, sym}
 use Rattle.cad_rows.specs.declared.rows.StringRow.{StringRow}
-use Rattle.cad_map.proofs.CallerLemmas.{take-more, row_with-earlier}
+use Rattle.map_parts.proofs.RowLists.{copies-more, copy-new}
 use Rattle.map_parts.proofs.map_rows.string_rows.Goals as goal
 
 pub push-requires : goal.push-requires
 push-requires c =
-    let at = rw c.unwrap-row.ensures at c.string_at.ensures in
-    rw (c.loop-place.invariant, c.in_ok-copy.ensures) (row_with-earlier (λ (r : StringRow). r.number) c.args.map.now.strings c.loop-place.place _ c.requires.strings.distinct (sym at))
+    copy-new (λ (r : StringRow). r.number) c.args.map.now.strings c.loop-place.place c.loop-place.invariant c.in_ok-copy.ensures (rw c.unwrap-row.ensures at c.string_at.ensures) c.requires.strings.distinct
 
 pub loop-place-preserved : goal.loop-place-preserved
 loop-place-preserved c =
-    let at = rw c.unwrap-row.ensures at c.string_at.ensures in
-    c.in_ok-push.ensures.ok ∙ rw (c.loop-place.invariant, c.in_ok-copy.ensures) (take-more c.args.map.now.strings c.loop-place.place _ (sym at))
+    copies-more (λ (r : StringRow). r.number) c.args.map.now.strings c.loop-place.place c.loop-place.invariant c.in_ok-copy.ensures (rw c.unwrap-row.ensures at c.string_at.ensures) c.in_ok-push.ensures.ok

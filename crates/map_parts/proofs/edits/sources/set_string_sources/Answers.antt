@@ -5,7 +5,5 @@ use Rattle.map_parts.proofs.edits.sources.set_string_sources.Goals as goal
 
 pub returns : goal.returns
 returns c =
-    let m = map_in c.args.rows.now in
-    let taken = c.take_there-place in
-    ap (λ l. record m { strings = l }) (c.put_at.ensures.rows ∙ taken.ensures.back _ refl)
-    ∙ sym (string-is m c.args.no (λ r. record r { sources = c.args.sources }) taken.result.1 (rw c.get.ensures.value at taken.ensures.found))
+    ap (λ l. record (map_in c.args.rows.now) { strings = l }) (c.put_at.ensures.rows ∙ c.take_there-place.ensures.back _ refl)
+    ∙ sym (string-is (map_in c.args.rows.now) c.args.no (λ r. record r { sources = c.args.sources }) c.take_there-place.result.1 (rw c.get.ensures.value at c.take_there-place.ensures.found))
