@@ -1,15 +1,25 @@
 -- Edits in place, one kind after another.
 use Rattle.std.proofs.Common.{◌≡◌, ◌∙◌, ℕ, ℤ, refl, sym, subst, to_z, of_z, w64}
-use Rattle.std.specs.Prelude.{IsTrue, List}
+use Rattle.std.specs.Prelude.{IsTrue, List, Result, Ok, Err, IsErr, IsErrAnd}
 use Rattle.std.specs.Global.{Vec}
 use Rattle.geo_exact.specs.Position.{Position}
 use Rattle.cad_rows.specs.declared.edits.Edit.{Edit}
 use Rattle.cad_rows.specs.declared.edits.Edit.TheVariants.{AddSource, AddPoint, DropPoint, Split, Join, Divide, Merge, Move, Attach, Detach, Rename, Enclose}
 use Rattle.cad_rows.specs.declared.names.Face.{Face}
+use Rattle.cad_rows.specs.declared.refusals.Refusal.{Refusal}
 use Rattle.cad_rows.specs.declared.rows.ParcelRow.{ParcelRow}
 use Rattle.cad_rows.specs.declared.rows.PointRow.{PointRow}
 use Rattle.cad_rows.specs.declared.rows.StringRow.{StringRow}
+use Rattle.cad_map.specs.Costs.{work_bound}
+use Rattle.cad_map.specs.Effects.{after}
 use Rattle.cad_map.specs.Map.{Map}
+use Rattle.cad_map.specs.Outcome.{MayRefuse}
+use Rattle.cad_valid.specs.declared.near.Touched.{Touched}
+use Rattle.map_parts.specs.Parts.{Parts, map_of, kept_at}
+use Rattle.cad_surgery.specs.Proper.{IsProper}
+use Rattle.cad_surgery.specs.Trials.{IsReadyFor, IsTrialOf}
+use Rattle.cad_surgery.specs.Work.{TakesWork}
+use Rattle.cad_surgery.proofs.GridSteps.{idle}
 use Rattle.half_table.specs.declared.half.Half.{Half}
 use Rattle.cad_laws.specs.Tried.{IsTried}
 use Rattle.edit_records.specs.Record.{edit_of}
@@ -73,3 +83,36 @@ rows-of (record_of.Attach i source) split join enclose divide along island = ref
 rows-of (record_of.Detach i source j) split join enclose divide along island = refl
 rows-of (record_of.Rename p from to) split join enclose divide along island = refl
 rows-of (record_of.Enclose face points strings parcel label source moved) split join enclose divide along island = absurd (enclose face points strings parcel label source moved refl)
+
+-- ---- Trials that are refused
+
+-- before anything was done
+pub stays : (e : Edit) (d : Parts) (t : Touched) (why : Refusal) → IsReadyFor e d t → MayRefuse (map_of d) e why → IsTrialOf e d d (Err why)
+stays e d t why ready may = record {
+  made = tt;
+  valid = tt;
+  edit = tt;
+  holds = tt;
+  refused = may;
+  err = refl;
+  grid = refl;
+  proper = ready.proper;
+  work = idle d d _ refl;
+}
+
+-- by a call, whose refusal is passed on
+pub passes-on : (e : Edit) (old new : Parts) (why : Refusal) (r : Result SmallRecord Refusal) → IsErr r × IsErrAnd r (λ f. f ≡ why)
+    → MayRefuse (map_of old) e why → map_of new ≡ map_of old → new.grid ≡ old.grid → IsProper (map_of new) new.table.rows (kept_at new)
+    → TakesWork old.table new.table (work_bound (map_of old) (after (map_of old) e)) → IsTrialOf e old new r
+passes-on e old new why (Ok a) is may err grid proper work = absurd is.1
+passes-on e old new why (Err f) is may err grid proper work = record {
+  made = tt;
+  valid = tt;
+  edit = tt;
+  holds = tt;
+  refused = subst (MayRefuse (map_of old) e) (sym is.1) may;
+  err = err;
+  grid = grid;
+  proper = proper;
+  work = work;
+}

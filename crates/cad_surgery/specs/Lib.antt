@@ -1,6 +1,7 @@
 pub mod Proper
 pub mod RowEdits
 pub mod Work
+pub mod Trials
 pub mod AtRest
 pub mod Divisions
 pub mod Enclosures

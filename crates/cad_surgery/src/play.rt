@@ -16,6 +16,7 @@ ghost use Rattle.map_parts.specs.Parts.{map_of, kept_at};
 ghost use Rattle.cad_surgery.specs.Proper.{IsProper};
 ghost use Rattle.edit_records.specs.Record.{edit_of, Holds, Belongs, IsPlaced};
 ghost use Rattle.cad_surgery.specs.RowEdits.{is_of_rows, KeepsBeside};
+ghost use Rattle.cad_surgery.specs.Trials.{IsReadyFor, IsTrialOf};
 ghost use Rattle.cad_surgery.specs.Work.{TakesWork};
 
 use crate::draft::Draft;
@@ -82,21 +83,8 @@ fn try_edit<T: Tally>(
     edit: &Edit,
     touched: &Touched,
 ) -> Result<SmallRecord, Refusal>
-    requires tried { IsTried (map_of draft.old) edit.now }
-    requires held { HoldsMap draft.old.grid (after (map_of draft.old) edit.now) }
-    requires touched { IsTouched (map_of draft.old) (after (map_of draft.old) edit.now)
-        (touched_of touched.now) }
-    requires proper { IsProper (map_of draft.old) draft.old.table.rows (kept_at draft.old) }
-    ensures made { OnOk result (map_of draft.new ≡ after (map_of draft.old) edit.now) }
-    ensures valid { OnOk result (IsValid (map_of draft.new)) }
-    ensures edit { IfOk result (λ r. edit_of r ≡ edit.now) }
-    ensures holds { IfOk result (λ r. Holds r (map_of draft.old)) }
-    ensures refused { IfErr result (MayRefuse (map_of draft.old) edit.now) }
-    ensures err { OnErr result (map_of draft.new ≡ map_of draft.old) }
-    ensures grid { draft.new.grid ≡ draft.old.grid }
-    ensures proper { IsProper (map_of draft.new) draft.new.table.rows (kept_at draft.new) }
-    ensures work { TakesWork draft.old.table draft.new.table
-        (work_bound (map_of draft.old) (after (map_of draft.old) edit.now)) }
+    requires { IsReadyFor edit.now draft.old touched.now }
+    ensures { IsTrialOf edit.now draft.old draft.new result }
 {
     match edit {
         Edit::Split {

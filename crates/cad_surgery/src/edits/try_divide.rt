@@ -19,6 +19,7 @@ ghost use Rattle.edit_records.specs.HeldChains.{HeldChain};
 ghost use Rattle.map_parts.specs.Parts.{map_of, kept_at};
 ghost use Rattle.cad_surgery.specs.Proper.{IsProper};
 ghost use Rattle.edit_records.specs.Record.{edit_of, Holds, Belongs};
+ghost use Rattle.cad_surgery.specs.Trials.{IsReadyFor, IsTrialOf};
 ghost use Rattle.cad_surgery.specs.Work.{TakesWork};
 
 use crate::draft::Draft;
@@ -376,27 +377,13 @@ fn divide_recording<T: Tally>(
     kept: Kept,
     touched: &Touched,
 ) -> Result<SmallRecord, Refusal>
+    requires ready { IsReadyFor (divided_by division.now) draft.old touched.now }
     requires kept { kept ≡ record {
       points = division.now.chain.now;
       strings = division.now.strings.now;
       label = division.now.label.now;
     } }
-    requires tried { IsTried (map_of draft.old) (divided_by division.now) }
-    requires held { HoldsMap draft.old.grid (after (map_of draft.old) (divided_by division.now)) }
-    requires touched { IsTouched (map_of draft.old)
-        (after (map_of draft.old) (divided_by division.now)) (touched_of touched.now) }
-    requires proper { IsProper (map_of draft.old) draft.old.table.rows (kept_at draft.old) }
-    ensures made { OnOk result
-        (map_of draft.new ≡ after (map_of draft.old) (divided_by division.now)) }
-    ensures valid { OnOk result (IsValid (map_of draft.new)) }
-    ensures edit { IfOk result (λ r. edit_of r ≡ divided_by division.now) }
-    ensures holds { IfOk result (λ r. Holds r (map_of draft.old)) }
-    ensures refused { IfErr result (MayRefuse (map_of draft.old) (divided_by division.now)) }
-    ensures err { OnErr result (map_of draft.new ≡ map_of draft.old) }
-    ensures grid { draft.new.grid ≡ draft.old.grid }
-    ensures proper { IsProper (map_of draft.new) draft.new.table.rows (kept_at draft.new) }
-    ensures work { TakesWork draft.old.table draft.new.table
-        (work_bound (map_of draft.old) (after (map_of draft.old) (divided_by division.now))) }
+    ensures { IsTrialOf (divided_by division.now) draft.old draft.new result }
 {
     is_work_in_range(&draft.table);
     let Ok(coming) = coming_by(draft, division) else {
@@ -440,28 +427,10 @@ pub(crate) fn try_divide<'a, T: Tally>(
     source: SourceNo,
     touched: &Touched,
 ) -> Result<SmallRecord, Refusal>
-    requires tried { IsTried (map_of draft.old)
-        (Divide face chain.now strings.now parcel label.now source) }
-    requires held { HoldsMap draft.old.grid
-        (after (map_of draft.old) (Divide face chain.now strings.now parcel label.now source)) }
-    requires touched { IsTouched (map_of draft.old)
-        (after (map_of draft.old) (Divide face chain.now strings.now parcel label.now source))
-        (touched_of touched.now) }
-    requires proper { IsProper (map_of draft.old) draft.old.table.rows (kept_at draft.old) }
-    ensures made { OnOk result (map_of draft.new
-        ≡ after (map_of draft.old) (Divide face chain.now strings.now parcel label.now source)) }
-    ensures valid { OnOk result (IsValid (map_of draft.new)) }
-    ensures edit { IfOk result
-        (λ r. edit_of r ≡ Divide face chain.now strings.now parcel label.now source) }
-    ensures holds { IfOk result (λ r. Holds r (map_of draft.old)) }
-    ensures refused { IfErr result (MayRefuse (map_of draft.old)
-        (Divide face chain.now strings.now parcel label.now source)) }
-    ensures err { OnErr result (map_of draft.new ≡ map_of draft.old) }
-    ensures grid { draft.new.grid ≡ draft.old.grid }
-    ensures proper { IsProper (map_of draft.new) draft.new.table.rows (kept_at draft.new) }
-    ensures work { TakesWork draft.old.table draft.new.table
-        (work_bound (map_of draft.old)
-        (after (map_of draft.old) (Divide face chain.now strings.now parcel label.now source))) }
+    requires { IsReadyFor (Divide face chain.now strings.now parcel label.now source)
+        draft.old touched.now }
+    ensures { IsTrialOf (Divide face chain.now strings.now parcel label.now source)
+        draft.old draft.new result }
 {
     is_work_in_range(&draft.table);
     let Ok(kept) = kept_of(chain, strings, label) else {

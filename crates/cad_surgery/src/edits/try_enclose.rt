@@ -1,7 +1,7 @@
 //! An enclosure on a map on half-edges: tried, taken back, and made again.
 ghost use Rattle.std.specs.Prelude.{◌≡◌, ◌≤◌, ◌++◌, ◌∷◌, [], length, map as map_by, IfOk, IfErr, OnOk, OnErr};
 ghost use Rattle.cad_map.specs.Asked.{GivesInRange};
-ghost use Rattle.cad_map.specs.Chain.{start_of, strings_along};
+ghost use Rattle.cad_map.specs.Chain.{start_of};
 ghost use Rattle.cad_map.specs.Costs.{work_bound};
 ghost use Rattle.cad_map.specs.Effects.{after};
 ghost use Rattle.cad_map.specs.Map.{Map};
@@ -17,7 +17,7 @@ ghost use Rattle.cad_surgery.specs.Enclosures.{LeadsBy, enclosed_by, strings_by,
 ghost use Rattle.map_parts.specs.Parts.{map_of, kept_at};
 ghost use Rattle.map_parts.specs.Placed.{AreOfHoles};
 ghost use Rattle.cad_surgery.specs.Proper.{IsProper};
-ghost use Rattle.edit_records.specs.Record.{edit_of, Holds};
+ghost use Rattle.cad_surgery.specs.Trials.{IsReadyFor, IsTrialOf};
 ghost use Rattle.cad_surgery.specs.Work.{TakesWork};
 
 use crate::draft::Draft;
@@ -345,27 +345,13 @@ fn enclose_recording<T: Tally>(
     kept: Kept,
     touched: &Touched,
 ) -> Result<SmallRecord, Refusal>
+    requires ready { IsReadyFor (enclosed_by enclosure.now) draft.old touched.now }
     requires kept { kept ≡ record {
       points = enclosure.now.points.now;
       strings = enclosure.now.strings.now;
       label = enclosure.now.label.now;
     } }
-    requires tried { IsTried (map_of draft.old) (enclosed_by enclosure.now) }
-    requires held { HoldsMap draft.old.grid (after (map_of draft.old) (enclosed_by enclosure.now)) }
-    requires touched { IsTouched (map_of draft.old)
-        (after (map_of draft.old) (enclosed_by enclosure.now)) (touched_of touched.now) }
-    requires proper { IsProper (map_of draft.old) draft.old.table.rows (kept_at draft.old) }
-    ensures made { OnOk result
-        (map_of draft.new ≡ after (map_of draft.old) (enclosed_by enclosure.now)) }
-    ensures valid { OnOk result (IsValid (map_of draft.new)) }
-    ensures edit { IfOk result (λ r. edit_of r ≡ enclosed_by enclosure.now) }
-    ensures holds { IfOk result (λ r. Holds r (map_of draft.old)) }
-    ensures refused { IfErr result (MayRefuse (map_of draft.old) (enclosed_by enclosure.now)) }
-    ensures err { OnErr result (map_of draft.new ≡ map_of draft.old) }
-    ensures grid { draft.new.grid ≡ draft.old.grid }
-    ensures proper { IsProper (map_of draft.new) draft.new.table.rows (kept_at draft.new) }
-    ensures work { TakesWork draft.old.table draft.new.table
-        (work_bound (map_of draft.old) (after (map_of draft.old) (enclosed_by enclosure.now))) }
+    ensures { IsTrialOf (enclosed_by enclosure.now) draft.old draft.new result }
 {
     is_work_in_range(&draft.table);
     let Ok(coming) = coming_by(draft, enclosure) else {
@@ -407,28 +393,10 @@ pub(crate) fn try_enclose<'a, T: Tally>(
     source: SourceNo,
     touched: &Touched,
 ) -> Result<SmallRecord, Refusal>
-    requires tried { IsTried (map_of draft.old)
-        (Enclose face points.now strings.now parcel label.now source) }
-    requires held { HoldsMap draft.old.grid
-        (after (map_of draft.old) (Enclose face points.now strings.now parcel label.now source)) }
-    requires touched { IsTouched (map_of draft.old)
-        (after (map_of draft.old) (Enclose face points.now strings.now parcel label.now source))
-        (touched_of touched.now) }
-    requires proper { IsProper (map_of draft.old) draft.old.table.rows (kept_at draft.old) }
-    ensures made { OnOk result (map_of draft.new
-        ≡ after (map_of draft.old) (Enclose face points.now strings.now parcel label.now source)) }
-    ensures valid { OnOk result (IsValid (map_of draft.new)) }
-    ensures edit { IfOk result
-        (λ r. edit_of r ≡ Enclose face points.now strings.now parcel label.now source) }
-    ensures holds { IfOk result (λ r. Holds r (map_of draft.old)) }
-    ensures refused { IfErr result (MayRefuse (map_of draft.old)
-        (Enclose face points.now strings.now parcel label.now source)) }
-    ensures err { OnErr result (map_of draft.new ≡ map_of draft.old) }
-    ensures grid { draft.new.grid ≡ draft.old.grid }
-    ensures proper { IsProper (map_of draft.new) draft.new.table.rows (kept_at draft.new) }
-    ensures work { TakesWork draft.old.table draft.new.table
-        (work_bound (map_of draft.old)
-        (after (map_of draft.old) (Enclose face points.now strings.now parcel label.now source))) }
+    requires { IsReadyFor (Enclose face points.now strings.now parcel label.now source)
+        draft.old touched.now }
+    ensures { IsTrialOf (Enclose face points.now strings.now parcel label.now source)
+        draft.old draft.new result }
 {
     is_work_in_range(&draft.table);
     let Ok(kept) = kept_of(points, strings, label) else {

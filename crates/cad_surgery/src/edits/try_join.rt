@@ -17,6 +17,7 @@ ghost use Rattle.cad_surgery.specs.Joinings.{IsOfJoin, joining_of, join_record};
 ghost use Rattle.map_parts.specs.Parts.{map_of, kept_at};
 ghost use Rattle.cad_surgery.specs.Proper.{IsProper};
 ghost use Rattle.edit_records.specs.Record.{edit_of, Holds, Belongs};
+ghost use Rattle.cad_surgery.specs.Trials.{IsReadyFor, IsTrialOf};
 ghost use Rattle.cad_surgery.specs.Work.{TakesWork};
 
 use crate::draft::Draft;
@@ -116,21 +117,8 @@ pub(crate) fn try_join<T: Tally>(
     string: StringNo,
     touched: &Touched,
 ) -> Result<SmallRecord, Refusal>
-    requires tried { IsTried (map_of draft.old) (Join point string) }
-    requires held { HoldsMap draft.old.grid (after (map_of draft.old) (Join point string)) }
-    requires touched { IsTouched (map_of draft.old) (after (map_of draft.old) (Join point string))
-        (touched_of touched.now) }
-    requires proper { IsProper (map_of draft.old) draft.old.table.rows (kept_at draft.old) }
-    ensures made { OnOk result (map_of draft.new ≡ after (map_of draft.old) (Join point string)) }
-    ensures valid { OnOk result (IsValid (map_of draft.new)) }
-    ensures edit { IfOk result (λ r. edit_of r ≡ Join point string) }
-    ensures holds { IfOk result (λ r. Holds r (map_of draft.old)) }
-    ensures refused { IfErr result (MayRefuse (map_of draft.old) (Join point string)) }
-    ensures err { OnErr result (map_of draft.new ≡ map_of draft.old) }
-    ensures grid { draft.new.grid ≡ draft.old.grid }
-    ensures proper { IsProper (map_of draft.new) draft.new.table.rows (kept_at draft.new) }
-    ensures work { TakesWork draft.old.table draft.new.table
-        (work_bound (map_of draft.old) (after (map_of draft.old) (Join point string))) }
+    requires { IsReadyFor (Join point string) draft.old touched.now }
+    ensures { IsTrialOf (Join point string) draft.old draft.new result }
 {
     if are_far_ends_joined(draft, point) {
         return Err(Refusal::Breaks(Rule::V4));

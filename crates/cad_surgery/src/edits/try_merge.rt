@@ -1,17 +1,6 @@
 //! A merger on a map on half-edges, along a chain or round an island.
-ghost use Rattle.std.specs.Prelude.{◌≡◌, IfOk, IfErr, OnOk, OnErr};
-ghost use Rattle.cad_map.specs.Costs.{work_bound};
-ghost use Rattle.cad_map.specs.Effects.{after};
-ghost use Rattle.cad_map.specs.Outcome.{MayRefuse};
-ghost use Rattle.cad_map.specs.Touched.{IsTouched};
-ghost use Rattle.cad_map.specs.Valid.{IsValid};
 ghost use Rattle.cad_rows.specs.declared.edits.Edit.TheVariants.{Merge};
-ghost use Rattle.cad_laws.specs.Tried.{IsTried};
-ghost use Rattle.cad_valid.specs.Near.{HoldsMap, touched_of};
-ghost use Rattle.cad_surgery.specs.Proper.{IsProper};
-ghost use Rattle.cad_surgery.specs.Work.{TakesWork};
-ghost use Rattle.edit_records.specs.Record.{edit_of, Holds};
-ghost use Rattle.map_parts.specs.Parts.{map_of, kept_at};
+ghost use Rattle.cad_surgery.specs.Trials.{IsReadyFor, IsTrialOf};
 
 use crate::draft::Draft;
 use crate::edits::try_merge_along::try_merge_along;
@@ -30,21 +19,8 @@ pub(crate) fn try_merge<T: Tally>(
     ended: Face,
     touched: &Touched,
 ) -> Result<SmallRecord, Refusal>
-    requires tried { IsTried (map_of draft.old) (Merge kept ended) }
-    requires held { HoldsMap draft.old.grid (after (map_of draft.old) (Merge kept ended)) }
-    requires touched { IsTouched (map_of draft.old) (after (map_of draft.old) (Merge kept ended))
-        (touched_of touched.now) }
-    requires proper { IsProper (map_of draft.old) draft.old.table.rows (kept_at draft.old) }
-    ensures made { OnOk result (map_of draft.new ≡ after (map_of draft.old) (Merge kept ended)) }
-    ensures valid { OnOk result (IsValid (map_of draft.new)) }
-    ensures edit { IfOk result (λ r. edit_of r ≡ Merge kept ended) }
-    ensures holds { IfOk result (λ r. Holds r (map_of draft.old)) }
-    ensures refused { IfErr result (MayRefuse (map_of draft.old) (Merge kept ended)) }
-    ensures err { OnErr result (map_of draft.new ≡ map_of draft.old) }
-    ensures grid { draft.new.grid ≡ draft.old.grid }
-    ensures proper { IsProper (map_of draft.new) draft.new.table.rows (kept_at draft.new) }
-    ensures work { TakesWork draft.old.table draft.new.table
-        (work_bound (map_of draft.old) (after (map_of draft.old) (Merge kept ended))) }
+    requires { IsReadyFor (Merge kept ended) draft.old touched.now }
+    ensures { IsTrialOf (Merge kept ended) draft.old draft.new result }
 {
     let Face::Parcel(parcel) = ended else {
         unreachable!()

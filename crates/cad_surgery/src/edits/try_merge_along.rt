@@ -21,6 +21,7 @@ ghost use Rattle.cad_laws.specs.Tried.{IsTried};
 ghost use Rattle.cad_surgery.specs.Mergers.{HasFoundPath, HasSharedPath, IsMergedBy, IsOfMergeAlong};
 ghost use Rattle.cad_surgery.specs.Mergers.{halves_of, merged_by};
 ghost use Rattle.cad_surgery.specs.Proper.{IsProper};
+ghost use Rattle.cad_surgery.specs.Trials.{IsReadyFor, IsTrialOf};
 ghost use Rattle.cad_surgery.specs.Work.{TakesWork};
 ghost use Rattle.edit_records.specs.HeldChains.{row_between, rows_along};
 ghost use Rattle.edit_records.specs.Record.{edit_of, Holds, Belongs, HeldMergedAlong};
@@ -201,24 +202,10 @@ pub(crate) fn try_merge_along<T: Tally>(
     sides: usize,
     touched: &Touched,
 ) -> Result<SmallRecord, Refusal>
-    requires tried { IsTried (map_of draft.old) (Merge kept (Parcel ended)) }
+    requires ready { IsReadyFor (Merge kept (Parcel ended)) draft.old touched.now }
     requires shared { IsSharedChain (map_of draft.old) kept (Parcel ended)
         (Along first last sides) }
-    requires held { HoldsMap draft.old.grid (after (map_of draft.old) (Merge kept (Parcel ended))) }
-    requires touched { IsTouched (map_of draft.old)
-        (after (map_of draft.old) (Merge kept (Parcel ended))) (touched_of touched.now) }
-    requires proper { IsProper (map_of draft.old) draft.old.table.rows (kept_at draft.old) }
-    ensures made { OnOk result
-        (map_of draft.new ≡ after (map_of draft.old) (Merge kept (Parcel ended))) }
-    ensures valid { OnOk result (IsValid (map_of draft.new)) }
-    ensures edit { IfOk result (λ r. edit_of r ≡ Merge kept (Parcel ended)) }
-    ensures holds { IfOk result (λ r. Holds r (map_of draft.old)) }
-    ensures refused { IfErr result (MayRefuse (map_of draft.old) (Merge kept (Parcel ended))) }
-    ensures err { OnErr result (map_of draft.new ≡ map_of draft.old) }
-    ensures grid { draft.new.grid ≡ draft.old.grid }
-    ensures proper { IsProper (map_of draft.new) draft.new.table.rows (kept_at draft.new) }
-    ensures work { TakesWork draft.old.table draft.new.table
-        (work_bound (map_of draft.old) (after (map_of draft.old) (Merge kept (Parcel ended)))) }
+    ensures { IsTrialOf (Merge kept (Parcel ended)) draft.old draft.new result }
 {
     is_work_in_range(&draft.table);
     let Ok(found) = found_path(draft, &kept, ended, first, last, sides) else {

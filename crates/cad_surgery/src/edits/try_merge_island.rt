@@ -23,6 +23,7 @@ ghost use Rattle.cad_valid.specs.Near.{HoldsMap, touched_of};
 ghost use Rattle.cad_surgery.specs.IslandMergers.{HasSharedRing, IsMergedRound, IsOfMergeIsland, merged_round};
 ghost use Rattle.cad_surgery.specs.Mergers.{halves_of};
 ghost use Rattle.cad_surgery.specs.Proper.{IsProper};
+ghost use Rattle.cad_surgery.specs.Trials.{IsReadyFor, IsTrialOf};
 ghost use Rattle.cad_surgery.specs.Work.{TakesWork};
 ghost use Rattle.map_parts.specs.Merging.{rows_gone};
 ghost use Rattle.map_parts.specs.Parts.{map_of, kept_at};
@@ -394,23 +395,9 @@ pub(crate) fn try_merge_island<T: Tally>(
     side: (PointNo, PointNo),
     touched: &Touched,
 ) -> Result<SmallRecord, Refusal>
-    requires tried { IsTried (map_of draft.old) (Merge kept (Parcel ended)) }
+    requires ready { IsReadyFor (Merge kept (Parcel ended)) draft.old touched.now }
     requires shared { IsSharedChain (map_of draft.old) kept (Parcel ended) (Around side) }
-    requires held { HoldsMap draft.old.grid (after (map_of draft.old) (Merge kept (Parcel ended))) }
-    requires touched { IsTouched (map_of draft.old)
-        (after (map_of draft.old) (Merge kept (Parcel ended))) (touched_of touched.now) }
-    requires proper { IsProper (map_of draft.old) draft.old.table.rows (kept_at draft.old) }
-    ensures made { OnOk result
-        (map_of draft.new ≡ after (map_of draft.old) (Merge kept (Parcel ended))) }
-    ensures valid { OnOk result (IsValid (map_of draft.new)) }
-    ensures edit { IfOk result (λ r. edit_of r ≡ Merge kept (Parcel ended)) }
-    ensures holds { IfOk result (λ r. Holds r (map_of draft.old)) }
-    ensures refused { IfErr result (MayRefuse (map_of draft.old) (Merge kept (Parcel ended))) }
-    ensures err { OnErr result (map_of draft.new ≡ map_of draft.old) }
-    ensures grid { draft.new.grid ≡ draft.old.grid }
-    ensures proper { IsProper (map_of draft.new) draft.new.table.rows (kept_at draft.new) }
-    ensures work { TakesWork draft.old.table draft.new.table
-        (work_bound (map_of draft.old) (after (map_of draft.old) (Merge kept (Parcel ended)))) }
+    ensures { IsTrialOf (Merge kept (Parcel ended)) draft.old draft.new result }
 {
     is_work_in_range(&draft.table);
     let Ok(found) = found_ring(draft, &kept, ended, side) else {

@@ -12,9 +12,10 @@ ghost use Rattle.cad_rows.specs.declared.rows.StringRow.{StringRow as StringRowO
 ghost use Rattle.cad_valid.specs.Near.{HoldsMap, touched_of};
 ghost use Rattle.map_parts.specs.Parts.{map_of, kept_at};
 ghost use Rattle.cad_surgery.specs.Proper.{IsProper};
-ghost use Rattle.edit_records.specs.Record.{edit_of, Holds, IsMadeOf};
+ghost use Rattle.edit_records.specs.Record.{IsMadeOf};
 ghost use Rattle.map_parts.specs.Rows.{map_in};
 ghost use Rattle.cad_surgery.specs.Halvings.{split_by, split_record, split_rows};
+ghost use Rattle.cad_surgery.specs.Trials.{IsReadyFor, IsTrialOf};
 ghost use Rattle.cad_surgery.specs.Work.{TakesWork};
 
 use crate::draft::Draft;
@@ -141,23 +142,8 @@ pub(crate) fn try_split<T: Tally>(
     halving: &Halving,
     touched: &Touched,
 ) -> Result<SmallRecord, Refusal>
-    requires tried { IsTried (map_of draft.old) (split_by string halving.now) }
-    requires held { HoldsMap draft.old.grid
-        (after (map_of draft.old) (split_by string halving.now)) }
-    requires touched { IsTouched (map_of draft.old)
-        (after (map_of draft.old) (split_by string halving.now)) (touched_of touched.now) }
-    requires proper { IsProper (map_of draft.old) draft.old.table.rows (kept_at draft.old) }
-    ensures made { OnOk result (map_of draft.new
-        ≡ after (map_of draft.old) (split_by string halving.now)) }
-    ensures valid { OnOk result (IsValid (map_of draft.new)) }
-    ensures edit { IfOk result (λ r. edit_of r ≡ split_by string halving.now) }
-    ensures holds { IfOk result (λ r. Holds r (map_of draft.old)) }
-    ensures refused { IfErr result (MayRefuse (map_of draft.old) (split_by string halving.now)) }
-    ensures err { OnErr result (map_of draft.new ≡ map_of draft.old) }
-    ensures grid { draft.new.grid ≡ draft.old.grid }
-    ensures proper { IsProper (map_of draft.new) draft.new.table.rows (kept_at draft.new) }
-    ensures work { TakesWork draft.old.table draft.new.table
-        (work_bound (map_of draft.old) (after (map_of draft.old) (split_by string halving.now))) }
+    requires { IsReadyFor (split_by string halving.now) draft.old touched.now }
+    ensures { IsTrialOf (split_by string halving.now) draft.old draft.new result }
 {
     let Ok(coming) = rows_of_split(&draft.rows, &string, halving) else {
         return Err(Refusal::Memory);

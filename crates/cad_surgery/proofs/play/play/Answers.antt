@@ -32,24 +32,20 @@ returns-in_default-enter-clause-rest g c =
     rests c.args.draft.now c.enter.new.self c.enter.ensures.beside c.requires.rest.proper m refl
     (c.in_default-enter.ensures.err m c.requires.rest.grid)
 
-pub try_edit-requires-clause-held : goal.try_edit-requires-clause-held
-try_edit-requires-clause-held g c =
+pub try_edit-requires : goal.try_edit-requires
+try_edit-requires g c =
     let m = map_of c.args.draft.now in
     let e = c.args.edit.now in
     let lists = c.in-Ok.plan.exchange in
     let x = listed m e c.requires.tried lists.gone lists.come c.in-Ok.ensures.gone c.in-Ok.ensures.come in
     let both = c.in-Ok-enter.ensures.both m (after m e) lists.gone c.requires.rest.grid x in
-    subst (λ n. HoldsMap c.enter.new.self.grid (after n e)) (sym (same-map c.args.draft.now c.enter.new.self c.enter.ensures.beside))
-    (both-holds c.enter.new.self.grid m (after m e) both)
-
-pub try_edit-requires-clause-touched : goal.try_edit-requires-clause-touched
-try_edit-requires-clause-touched g c =
-    subst (λ n. IsTouched n (after n c.args.edit.now) (touched_of c.in-Ok.plan.touched)) (sym (same-map c.args.draft.now c.enter.new.self c.enter.ensures.beside))
-    c.in-Ok.ensures.touched
-
-pub try_edit-requires-clause-tried : goal.try_edit-requires-clause-tried
-try_edit-requires-clause-tried g c =
-    subst (λ m. IsTried m c.args.edit.now) (sym (same-map c.args.draft.now c.enter.new.self c.enter.ensures.beside)) c.requires.tried
+    let same = sym (same-map c.args.draft.now c.enter.new.self c.enter.ensures.beside) in
+    record {
+      tried = subst (λ n. IsTried n e) same c.requires.tried;
+      held = subst (λ n. HoldsMap c.enter.new.self.grid (after n e)) same (both-holds c.enter.new.self.grid m (after m e) both);
+      touched = subst (λ n. IsTouched n (after n e) (touched_of c.in-Ok.plan.touched)) same c.in-Ok.ensures.touched;
+      proper = same-proper c.args.draft.now c.enter.new.self c.enter.ensures.beside c.requires.rest.proper;
+    }
 
 pub withdraw-requires : goal.withdraw-requires
 withdraw-requires g c =
@@ -113,9 +109,6 @@ returns-clause-rest g c =
     (c.withdraw-in-Err.ensures.left (after m e) m lists.gone
     (both-back c.try_edit.new.draft.grid m (after m e) (subst (λ grid. IsGridOfBoth grid m (after m e)) (sym c.try_edit.ensures.grid) both))
     (exchange-back m (after m e) lists.gone lists.come x))
-
-pub try_edit-requires-clause-proper : goal.try_edit-requires-clause-proper
-try_edit-requires-clause-proper g c = same-proper c.args.draft.now c.enter.new.self c.enter.ensures.beside c.requires.rest.proper
 
 pub returns-in_default-clause-work : goal.returns-in_default-clause-work
 returns-in_default-clause-work g c = idle c.args.draft.now c.args.draft.now _ refl

@@ -9,22 +9,33 @@ use Rattle.edit_records.specs.HeldChains.{HeldIsland}
 use Rattle.map_parts.specs.Parts.{FitTogether, map_of}
 use Rattle.edit_records.specs.Record.{edit_of, Holds}
 use Rattle.cad_surgery.proofs.OpenedDraft.{names}
+use Rattle.cad_surgery.proofs.Trials.{stays, passes-on}
 use Rattle.cad_surgery.proofs.edits.try_enclose.enclose_recording.Goals as goal
 
-pub returns-in_default-clause-refused : goal.returns-in_default-clause-refused
-returns-in_default-clause-refused g c = out_of_memory c.requires.tried.allowed
+pub returns-in_default : goal.returns-in_default
+returns-in_default g c = stays _ _ _ _ c.requires.ready (out_of_memory c.requires.ready.tried.allowed)
 
-pub returns-clause-edit : goal.returns-clause-edit
-returns-clause-edit g c =
-    let e = c.args.enclosure.now in
-    ap edit_of c.record_of_enclosure.ensures
-    ∙ (λ i. Enclose e.face (c.requires.kept i).points (c.requires.kept i).strings e.parcel (c.requires.kept i).label e.source)
+pub returns-in_err-enclose_within_rules : goal.returns-in_err-enclose_within_rules
+returns-in_err-enclose_within_rules g c =
+    passes-on _ _ _ _ _ c.from_residual.ensures c.in_err-enclose_within_rules.ensures.refused c.in_err-enclose_within_rules.ensures.err
+    c.enclose_within_rules.ensures.grid c.enclose_within_rules.ensures.proper c.enclose_within_rules.ensures.work
 
-pub returns-clause-holds : goal.returns-clause-holds
-returns-clause-holds g c =
-    let e = c.args.enclosure.now in
-    let m = map_of c.args.draft.now in
-    let moved = c.in-Ok.coming.moved in
-    subst (λ (r : SmallRecord). Holds r m) (sym c.record_of_enclosure.ensures)
-    (subst (λ (k : Kept). HeldIsland (after m (Enclose e.face k.points k.strings e.parcel k.label e.source)) (Parcel e.parcel) k.points moved.items) (sym c.requires.kept)
-    (names c.args.draft.now (subst FitTogether c.draft.view_is c.draft.invariant) e c.requires.tried moved.items c.in-Ok.ensures.holes))
+pub returns : goal.returns
+returns g c = record {
+  made = c.in_ok-enclose_within_rules.ensures.made;
+  valid = c.in_ok-enclose_within_rules.ensures.valid;
+  edit = (let e = c.args.enclosure.now in
+      ap edit_of c.record_of_enclosure.ensures
+      ∙ (λ i. Enclose e.face (c.requires.kept i).points (c.requires.kept i).strings e.parcel (c.requires.kept i).label e.source));
+  holds = (let e = c.args.enclosure.now in
+      let m = map_of c.args.draft.now in
+      let moved = c.in-Ok.coming.moved in
+      subst (λ (r : SmallRecord). Holds r m) (sym c.record_of_enclosure.ensures)
+      (subst (λ (k : Kept). HeldIsland (after m (Enclose e.face k.points k.strings e.parcel k.label e.source)) (Parcel e.parcel) k.points moved.items) (sym c.requires.kept)
+      (names c.args.draft.now (subst FitTogether c.draft.view_is c.draft.invariant) e c.requires.ready.tried moved.items c.in-Ok.ensures.holes)));
+  refused = tt;
+  err = tt;
+  grid = c.enclose_within_rules.ensures.grid;
+  proper = c.enclose_within_rules.ensures.proper;
+  work = c.enclose_within_rules.ensures.work;
+}

@@ -8,7 +8,11 @@ use Rattle.cad_laws.specs.Tried.{IsTried}
 use Rattle.cad_laws.proofs.CallerLemmas.{join-breaks}
 use Rattle.cad_valid.specs.Near.{HoldsMap, touched_of}
 use Rattle.map_parts.specs.Parts.{map_of}
+use Rattle.edit_records.specs.declared.record.SmallRecord.{SmallRecord}
+use Rattle.edit_records.specs.Record.{edit_of, Holds}
+use Rattle.cad_surgery.specs.Joinings.{join_record}
 use Rattle.cad_surgery.specs.Work.{TakesWork}
+use Rattle.cad_surgery.proofs.Trials.{stays}
 use Rattle.cad_surgery.proofs.JoinDraft as draft
 use Rattle.cad_surgery.proofs.edits.try_join.try_join.Goals as goal
 
@@ -16,22 +20,20 @@ pub are_far_ends_joined-requires-clause-two : goal.are_far_ends_joined-requires-
 are_far_ends_joined-requires-clause-two g c =
     draft.join-two (map_of c.args.draft.now) c.args.point c.args.string c.requires.tried
 
-pub returns-then-are_far_ends_joined-clause-refused :
-    goal.returns-then-are_far_ends_joined-clause-refused
-returns-then-are_far_ends_joined-clause-refused g c =
+pub returns-then-are_far_ends_joined : goal.returns-then-are_far_ends_joined
+returns-then-are_far_ends_joined g c =
     let m = map_of c.args.draft.now in
     let t = c.requires.tried in
-    refused (breaking t.allowed
+    stays _ _ _ _ c.requires (refused (breaking t.allowed
     (join-breaks m c.args.point c.args.string t.valid t.given t.allowed
-    (c.are_far_ends_joined.ensures.joined c.if-are_far_ends_joined.true c.args.string)))
+    (c.are_far_ends_joined.ensures.joined c.if-are_far_ends_joined.true c.args.string))))
 
 pub joining_at-requires-clause-two : goal.joining_at-requires-clause-two
 joining_at-requires-clause-two g c =
     draft.join-two (map_of c.args.draft.now) c.args.point c.args.string c.requires.tried
 
-pub returns-in_default-clause-refused : goal.returns-in_default-clause-refused
-returns-in_default-clause-refused g c =
-    out_of_memory c.requires.tried.allowed
+pub returns-in_default : goal.returns-in_default
+returns-in_default g c = stays _ _ _ _ c.requires (out_of_memory c.requires.tried.allowed)
 
 pub join_within_rules-requires-clause-tried : goal.join_within_rules-requires-clause-tried
 join_within_rules-requires-clause-tried g c =
@@ -62,29 +64,35 @@ join_within_rules-requires-clause-touched g c =
     (sym (draft.joining-number (map_of c.args.draft.now) c.args.point c.args.string
     c.requires.tried c.in-Ok.joining c.in-Ok.ensures)) c.requires.touched
 
-pub returns-in-Ok-join_within_rules-clause-made : goal.returns-in-Ok-join_within_rules-clause-made
-returns-in-Ok-join_within_rules-clause-made g c =
-    c.in-Ok-join_within_rules.ensures.made
-    ∙ ap (λ (i : ℕ). after (map_of c.args.draft.now) (Join c.args.point i))
-    (draft.joining-number (map_of c.args.draft.now) c.args.point c.args.string c.requires.tried
-    c.in-Ok.joining c.in-Ok.ensures)
+pub returns-in-Ok-join_within_rules : goal.returns-in-Ok-join_within_rules
+returns-in-Ok-join_within_rules g c =
+    let m = map_of c.args.draft.now in
+    let number = draft.joining-number (map_of c.args.draft.now) c.args.point c.args.string c.requires.tried c.in-Ok.joining c.in-Ok.ensures in
+    let it = c.in-Ok-join_within_rules in
+    record {
+      made = it.ensures.made ∙ ap (λ (i : ℕ). after m (Join c.args.point i)) number;
+      valid = it.ensures.valid;
+      edit = ap edit_of c.record_of_join.ensures ∙ ap (λ (p : ℕ). Join p c.args.string) it.ensures.point;
+      holds = subst (λ (r : SmallRecord). Holds r m) (sym c.record_of_join.ensures) (subst (λ (i : ℕ). Holds (join_record it.joined i) m) number it.ensures.holds);
+      refused = tt;
+      err = tt;
+      grid = c.join_within_rules.ensures.grid;
+      proper = c.join_within_rules.ensures.proper;
+      work = subst (λ (i : ℕ). TakesWork c.args.draft.now.table c.join_within_rules.new.draft.table (work_bound m (after m (Join c.args.point i)))) number c.join_within_rules.ensures.work;
+    }
 
-pub returns-in-Ok-join_within_rules-clause-work : goal.returns-in-Ok-join_within_rules-clause-work
-returns-in-Ok-join_within_rules-clause-work g c =
-    subst (λ (i : ℕ). TakesWork c.args.draft.now.table c.join_within_rules.new.draft.table
-    (work_bound (map_of c.args.draft.now) (after (map_of c.args.draft.now) (Join c.args.point i))))
-    (draft.joining-number (map_of c.args.draft.now) c.args.point c.args.string c.requires.tried
-    c.in-Ok.joining c.in-Ok.ensures) c.join_within_rules.ensures.work
-
-pub returns-in-Err-clause-refused : goal.returns-in-Err-clause-refused
-returns-in-Err-clause-refused g c =
-    subst (λ (i : ℕ). MayRefuse (map_of c.args.draft.now) (Join c.args.point i) c.in-Err.refusal)
-    (draft.joining-number (map_of c.args.draft.now) c.args.point c.args.string c.requires.tried
-    c.in-Ok.joining c.in-Ok.ensures) c.in-Err.ensures.refused
-
-pub returns-in-Err-clause-work : goal.returns-in-Err-clause-work
-returns-in-Err-clause-work g c =
-    subst (λ (i : ℕ). TakesWork c.args.draft.now.table c.join_within_rules.new.draft.table
-    (work_bound (map_of c.args.draft.now) (after (map_of c.args.draft.now) (Join c.args.point i))))
-    (draft.joining-number (map_of c.args.draft.now) c.args.point c.args.string c.requires.tried
-    c.in-Ok.joining c.in-Ok.ensures) c.join_within_rules.ensures.work
+pub returns-in-Err : goal.returns-in-Err
+returns-in-Err g c =
+    let m = map_of c.args.draft.now in
+    let number = draft.joining-number (map_of c.args.draft.now) c.args.point c.args.string c.requires.tried c.in-Ok.joining c.in-Ok.ensures in
+    record {
+      made = tt;
+      valid = tt;
+      edit = tt;
+      holds = tt;
+      refused = subst (λ (i : ℕ). MayRefuse m (Join c.args.point i) c.in-Err.refusal) number c.in-Err.ensures.refused;
+      err = c.in-Err.ensures.err;
+      grid = c.join_within_rules.ensures.grid;
+      proper = c.join_within_rules.ensures.proper;
+      work = subst (λ (i : ℕ). TakesWork c.args.draft.now.table c.join_within_rules.new.draft.table (work_bound m (after m (Join c.args.point i)))) number c.join_within_rules.ensures.work;
+    }

@@ -3,13 +3,11 @@ use Rattle.std.specs.Prelude.{◌==◌, IsSome, IfNone}
 use Rattle.cad_rows.specs.declared.edits.Edit.TheVariants.{Merge}
 use Rattle.cad_rows.specs.declared.names.Face.{Face}
 use Rattle.cad_rows.specs.declared.names.Face.TheVariants.{Parcel}
-use Rattle.cad_map.specs.Costs.{work_bound}
-use Rattle.cad_map.specs.Effects.{after}
 use Rattle.cad_map.specs.Merger.{ChainInRings, shared_chains}
 use Rattle.cad_map.specs.declared.shared_chain.SharedChain.{SharedChain}
 use Rattle.cad_map.proofs.CallerLemmas.{allowed, names-parcels, not-when}
 use Rattle.map_parts.specs.Parts.{map_of}
-use Rattle.cad_surgery.specs.Work.{TakesWork}
+use Rattle.cad_surgery.specs.Trials.{IsReadyFor, IsTrialOf}
 use Rattle.cad_surgery.proofs.edits.try_merge.try_merge.Goals as goal
 
 -- where there is a chain, one is found
@@ -29,12 +27,18 @@ unwrap-chain-requires g c =
     found-one c.find_shared_chain.result (shared_chains m c.args.kept (Parcel c.in-Parcel.parcel))
     (subst (λ (f : Face). (length (shared_chains m c.args.kept f) == 0) ≡ false) c.in-Parcel.is more) c.find_shared_chain.ensures.none
 
-pub returns-in-Along-clause-work : goal.returns-in-Along-clause-work
-returns-in-Along-clause-work g c =
-    let m = map_of c.args.draft.now in
-    subst (λ (f : Face). TakesWork c.args.draft.now.table c.try_merge_along.new.draft.table (work_bound m (after m (Merge c.args.kept f)))) (sym c.in-Parcel.is) c.try_merge_along.ensures.work
+pub try_merge_along-requires-clause-ready : goal.try_merge_along-requires-clause-ready
+try_merge_along-requires-clause-ready g c =
+    subst (λ (f : Face). IsReadyFor (Merge c.args.kept f) c.args.draft.now c.args.touched.now) c.in-Parcel.is c.requires
 
-pub returns-in-Around-clause-work : goal.returns-in-Around-clause-work
-returns-in-Around-clause-work g c =
-    let m = map_of c.args.draft.now in
-    subst (λ (f : Face). TakesWork c.args.draft.now.table c.try_merge_island.new.draft.table (work_bound m (after m (Merge c.args.kept f)))) (sym c.in-Parcel.is) c.try_merge_island.ensures.work
+pub returns-in-Along : goal.returns-in-Along
+returns-in-Along g c =
+    subst (λ (f : Face). IsTrialOf (Merge c.args.kept f) c.args.draft.now c.try_merge_along.new.draft c.try_merge_along.result) (sym c.in-Parcel.is) c.try_merge_along.ensures
+
+pub try_merge_island-requires-clause-ready : goal.try_merge_island-requires-clause-ready
+try_merge_island-requires-clause-ready g c =
+    subst (λ (f : Face). IsReadyFor (Merge c.args.kept f) c.args.draft.now c.args.touched.now) c.in-Parcel.is c.requires
+
+pub returns-in-Around : goal.returns-in-Around
+returns-in-Around g c =
+    subst (λ (f : Face). IsTrialOf (Merge c.args.kept f) c.args.draft.now c.try_merge_island.new.draft c.try_merge_island.result) (sym c.in-Parcel.is) c.try_merge_island.ensures
