@@ -1,10 +1,12 @@
 -- What is listed of an edit's touch.
-use Rattle.std.proofs.Common.{◌≡◌, ◌≤◌, ◌+◌, ◌⊎◌, inl, inr, ℕ, List, [], ◌∷◌, Bool, true, false, nat_eq, ◌==◌, map, refl, sym, ap, ◌∙◌, subst, Option, Some, None, true≢false, filter, length, ℤ, arith}
+use Rattle.std.proofs.Common.{◌≡◌, ◌<◌, take, get_or, ◌≤◌, ◌+◌, ◌⊎◌, inl, inr, ℕ, List, [], ◌∷◌, Bool, true, false, nat_eq, ◌==◌, map, refl, sym, ap, ◌∙◌, subst, Option, Some, None, true≢false, filter, length, ℤ, arith}
 use Rattle.std.specs.Prelude.{IsTrue, ◌||◌, is_some, IfNone, flat_map, option_map, unwrap_or}
 use Rattle.std.specs.List.{Contains, list_any}
 use Rattle.std.proofs.lemmas.Bool.{eqb-true, eq-eqb}
 use Rattle.std.proofs.lemmas.Option.{same_Some}
-use Rattle.std.proofs.lemmas.List.{length-take-le}
+use Rattle.std.proofs.lemmas.Grind.{flat_map-append}
+use Rattle.std.proofs.lemmas.List.Elements.{Contains-append_cases}
+use Rattle.std.proofs.lemmas.List.{length-take-le, take_more}
 use Rattle.std.proofs.lemmas.List.Sorted.{IsPermutation-sym, Contains-permutation}
 use Rattle.cad_rows.specs.declared.edits.Edit.{Edit}
 use Rattle.cad_rows.specs.declared.edits.Edit.TheVariants.{AddPoint, Split, Join, Merge, Move}
@@ -277,3 +279,17 @@ faces-some m valid n there None none = by (string_of m n) refl there
     by : (o : Option StringRow) → string_of m n ≡ o → is_some o ≡ true → is_some {T = Face × Face} None ≡ true
     by None is known = cc
     by (Some row) is known = absurd (some-faces m valid n row (find-Contains (λ (r : StringRow). r.number == n) m.strings row is).0 is none)
+
+-- a side of the rings up to one is of those before it, or its own
+pub up-to : (rings : List Ring) (place : ℕ) (s : Side) → place < length rings → Contains (flat_map sides_of (take (place + 1) rings)) s
+    → Contains (flat_map sides_of (take place rings)) s ⊎ Contains (sides_of (get_or rings place [])) s
+up-to rings place s within among =
+    let here = get_or rings place [] in
+    let more = ap (flat_map sides_of) (take_more rings place [] within) ∙ flat_map-append sides_of (take place rings) (here ∷ []) in
+    elim (Contains-append_cases (flat_map sides_of (take place rings)) (flat_map sides_of (here ∷ [])) s (subst (λ (l : List Side). Contains l s) more among)) [
+      | inl earlier ↦ inl earlier
+      | inr last ↦ elim (Contains-append_cases (sides_of here) [] s last) [
+        | inl on ↦ inr on
+        | inr none ↦ let low = none.1 in absurd (omega arith)
+      ]
+    ]

@@ -1,17 +1,14 @@
-use Rattle.std.proofs.Common.{◌<◌, ◌≤◌, ◌∙◌, ◌∷◌, [], ℕ, List, sym, ap, subst, inl, inr, take, length, arith}
+use Rattle.std.proofs.Common.{◌<◌, ◌≤◌, ℕ, List, sym, subst, inl, inr, length, arith}
 use Rattle.std.specs.Prelude.{flat_map}
 use Rattle.std.specs.List.{Contains}
-use Rattle.std.proofs.lemmas.List.{take_more, take_all}
-use Rattle.std.proofs.lemmas.List.Elements.{Contains-append_cases}
-use Rattle.std.proofs.lemmas.Grind.{flat_map-append}
-use Rattle.cad_rings.specs.Cycle.{Ring, Side, sides_of}
+use Rattle.std.proofs.lemmas.List.{take_all}
+use Rattle.cad_rings.specs.Cycle.{Ring, sides_of}
 use Rattle.cad_map.specs.Map.{rings_at}
-use Rattle.cad_map.specs.Rings.{ring_at}
 use Rattle.cad_map.specs.Steps.{has_twin_in}
 use Rattle.cad_map.proofs.Boundaries.SideCounts.{count_up_to-next, count_up_to-all}
 use Rattle.cad_map.proofs.CallerLemmas.{whole_valid}
 use Rattle.edit_records.specs.GridLists.{span_of}
-use Rattle.edit_records.proofs.TouchedLists.{kept-side}
+use Rattle.edit_records.proofs.TouchedLists.{kept-side, up-to}
 use Rattle.edit_records.proofs.shared_strings.shared_spans.Goals as goal
 
 pub ring_count-place-end-requires : goal.ring_count-place-end-requires
@@ -27,20 +24,15 @@ loop-place-preserved g c =
     let bs = g.M.MapView.rings c.args.map.now in
     let rings : List Ring = rings_at c.args.face.now bs in
     let place = c.loop-place.place in
-    let here = ring_at bs c.args.face.now place in
     let within : place < length rings = subst (λ (n : ℕ). place < n) c.ring_count-place-end.ensures.count c.loop-place-test.true in
-    let more = ap (flat_map sides_of) (take_more rings place [] within) ∙ flat_map-append sides_of (take place rings) (here ∷ []) in
     let added = c.in_ok-add_ring.ensures in
     let before = c.loop-place.invariant in
     let next = count_up_to-next m bs (whole_valid m c.requires) c.ring_count-place-end.ensures.canonical_order c.args.face.now (has_twin_in m c.args.other.now) place within in
     record {
       strings = λ t s among has there leads.
-          elim (Contains-append_cases (flat_map sides_of (take place rings)) (flat_map sides_of (here ∷ [])) t (subst (λ (l : List Side). Contains l t) more among)) [
+          elim (up-to rings place t within among) [
             | inl earlier ↦ added.keeps (span_of s) (before.strings t s earlier has there leads)
-            | inr last ↦ elim (Contains-append_cases (sides_of here) [] t last) [
-              | inl on ↦ added.strings t s on has there leads
-              | inr none ↦ let low = none.1 in absurd (omega arith)
-            ]
+            | inr on ↦ added.strings t s on has there leads
           ];
       few = let had = before.few in let now = added.few in omega (arith, next, had, now);
     }

@@ -1,13 +1,10 @@
-use Rattle.std.proofs.Common.{◌<◌, ◌≤◌, ◌∙◌, ◌∷◌, [], ℕ, List, sym, ap, subst, inl, inr, take, length, arith}
+use Rattle.std.proofs.Common.{◌<◌, ◌≤◌, ℕ, List, sym, subst, inl, inr, length}
 use Rattle.std.specs.Prelude.{flat_map}
 use Rattle.std.specs.List.{Contains}
-use Rattle.std.proofs.lemmas.List.{take_more, take_all}
-use Rattle.std.proofs.lemmas.List.Elements.{Contains-append_cases}
-use Rattle.std.proofs.lemmas.Grind.{flat_map-append}
-use Rattle.cad_rings.specs.Cycle.{Ring, Side, sides_of}
+use Rattle.std.proofs.lemmas.List.{take_all}
+use Rattle.cad_rings.specs.Cycle.{Ring, sides_of}
 use Rattle.cad_map.specs.Map.{rings_at}
-use Rattle.cad_map.specs.Rings.{ring_at}
-use Rattle.edit_records.proofs.TouchedLists.{kept-side}
+use Rattle.edit_records.proofs.TouchedLists.{kept-side, up-to}
 use Rattle.edit_records.proofs.touched.shared_ends.Goals as goal
 
 pub add_ends-requires-clause-there : goal.add_ends-requires-clause-there
@@ -16,19 +13,11 @@ add_ends-requires-clause-there g c =
 
 pub loop-place-preserved : goal.loop-place-preserved
 loop-place-preserved g c s among has =
-    let bs = g.M.MapView.rings c.args.map.now in
-    let rings : List Ring = rings_at c.args.face.now bs in
-    let place = c.loop-place.place in
-    let here = ring_at bs c.args.face.now place in
-    let within : place < length rings = subst (λ (n : ℕ). place < n) c.ring_count-place-end.ensures.count c.loop-place-test.true in
-    let more = ap (flat_map sides_of) (take_more rings place [] within) ∙ flat_map-append sides_of (take place rings) (here ∷ []) in
+    let within = subst (λ (n : ℕ). c.loop-place.place < n) c.ring_count-place-end.ensures.count c.loop-place-test.true in
     let added = c.in_ok-add_ends.ensures in
-    elim (Contains-append_cases (flat_map sides_of (take place rings)) (flat_map sides_of (here ∷ [])) s (subst (λ (l : List Side). Contains l s) more among)) [
+    elim (up-to (rings_at c.args.face.now (g.M.MapView.rings c.args.map.now)) c.loop-place.place s within among) [
       | inl before ↦ let two = c.loop-place.invariant s before has in (added.keeps s.0 two.0, added.keeps s.1 two.1)
-      | inr last ↦ elim (Contains-append_cases (sides_of here) [] s last) [
-        | inl on ↦ added.ends s on has
-        | inr none ↦ let low = none.1 in absurd (omega arith)
-      ]
+      | inr on ↦ added.ends s on has
     ]
 
 pub returns : goal.returns
