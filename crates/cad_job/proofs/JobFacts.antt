@@ -1,10 +1,6 @@
 -- From the parts of a job to the whole.
-use Rattle.std.proofs.Common.{◌≡◌, ◌≢◌, ◌≤◌, ◌∙◌, sym, ap, refl, ℕ, List, [], ◌∷◌, ◌++◌, append-nil, append_assoc, subst, Option, Some, None, Result, Ok, Err, inl, inr, ◌⊎◌, IfSome, IfOk, option_map, false, length}
-use Rattle.std.proofs.lemmas.List.Elements.{All-nil}
-use Rattle.csv.specs.Reading.{Reached, default_config, source_of, strip_bom, reader_trim, reader_config, reader_state, is_flexible, names_headers, reader_headers, expected_len}
+use Rattle.std.proofs.Common.{◌≡◌, ◌≢◌, ◌≤◌, sym, refl, ℕ, List, [], ◌∷◌, ◌++◌, append-nil, append_assoc, subst, Option, Result, Ok, Err, inl, inr, ◌⊎◌, IfOk, length}
 use Rattle.csv.specs.declared.reader.Reader.{Reader}
-use Rattle.csv.specs.declared.reader.Trim.TheVariants as trim
-use Rattle.csv.specs.declared.parser.State.TheVariants as st
 use Rattle.cad_map.specs.Map.{Map}
 use Rattle.cad_files.specs.Input.{HasRead, AreTaken}
 use Rattle.cad_files.specs.Rows.{Rows}
@@ -17,10 +13,6 @@ use Rattle.cad_files.proofs.SevenFields.{taken, taken-plan}
 use Rattle.cad_job.specs.Jobs.{DoesScript, DoesJob, IsFaultyPlan, IsJobText, BeginsJobText, job_fault, script_limit}
 use Rattle.cad_job.specs.declared.faults.JobFault.{JobFault}
 use Rattle.cad_job.specs.declared.faults.JobFault.TheVariants as faults
-
-pub if_some : {X : Type 0} (o : Option X) (P : X → Type 0) → ((x : X) → o ≡ Some x → P x) → IfSome o P
-if_some None P h = tt
-if_some (Some x) P h = h x refl
 
 -- what follows from a fact of the value
 pub if_ok_follows : {X E : Type 0} (P Q : X → Type 0) (r : Result X E) → ((x : X) → P x → Q x) → IfOk r P → IfOk r Q
@@ -99,17 +91,3 @@ job_taken_next rem text plan script fields reader rows opens read =
 pub job_read : {R : Type 0} (rem : R → Option (List ℕ)) (text : List ℕ) (plan : List (List (List ℕ))) (reader : Reader R) (rows : Rows)
     → plan_of plan ≡ opened rows → HasRead rem text plan reader → AreTaken text plan
 job_read rem text plan reader rows opens read = taken-plan rem text plan reader (opened rows) opens (λ e. cc e) (λ e. cc e) read
-
--- a new reader has read nothing
-pub has_read-start : {R : Type 0} (rem : R → Option (List ℕ)) (reader : Reader R) (input : Option (List ℕ)) (text : List ℕ)
-    → reader_trim reader ≡ trim.None → names_headers reader ≡ false → reader_headers reader ≡ None → reader_config reader ≡ default_config → is_flexible reader ≡ false
-    → reader_state reader ≡ st.StartRecord → source_of rem reader ≡ option_map strip_bom input → input ≡ Some text → HasRead rem (strip_bom text) [] reader
-unfolding Reached
-has_read-start rem reader input text t n h c f s source e = record {
-  trim = t;
-  ready = inr (inr (n, h));
-  config = c;
-  strict = f;
-  reached = (strip_bom text, source ∙ ap (λ o. option_map strip_bom o) e, (sym s, refl));
-  lengths = All-nil (λ row. expected_len reader ≡ Some (length row));
-}

@@ -19,13 +19,13 @@ ghost use Rattle.cad_job.specs.Jobs.{IsAnswered, DoesScript, DoesJob, job_fault}
 use crate::faults::JobFault;
 use cad_files::{
     InputFault, Line, LineFault, PlanFault, PlanRows, Sink, answer_text, area_text, build,
-    next_row, outline_text, plan_text, read_line, read_plan, syntax_text, write_all,
+    next_row, outline_text, plan_text, read_line, read_plan, records_of, syntax_text, write_all,
 };
 use cad_history::{Answer, Command, Depth, Editor, step};
 use cad_map::{MapStore, MapView};
 use cad_rows::{Memory, Refusal};
 use cad_surgery::HalfMap;
-use csv::{ByteRecord, Reader, ReaderBuilder};
+use csv::{ByteRecord, Reader};
 use half_table::Ticks;
 use number_hash::NumberHash;
 use std::alloc::Global;
@@ -61,9 +61,7 @@ pub fn run_job<R: Read + Drop, S: Sink>(
         → S.failures sink.new ≡ counted_up (S.failures sink.old) }
     ensures quiet { OnOk result (S.failures sink.new ≡ S.failures sink.old) }
 {
-    let mut reader = ReaderBuilder::new()
-        .has_headers(false)
-        .from_reader(alloc, reader);
+    let mut reader = records_of(alloc, reader);
     let rows = match read_plan(alloc, &mut reader) {
         Ok(rows) => rows,
         Err(fault) => return Err(fault_of_plan(fault)),
