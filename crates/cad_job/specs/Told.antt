@@ -1,7 +1,5 @@
 -- What the program tells of a fault, and the status with which it ends.
 use Rattle.std.specs.Prelude.{ℕ, List, ◌++◌, codes}
-use Rattle.clap.specs.declared.error.kind.ErrorKind.{ErrorKind}
-use Rattle.clap.specs.declared.error.kind.ErrorKind.TheVariants as kinds
 use Rattle.cad_files.specs.FaultTexts.{fault_text}
 use Rattle.cad_job.specs.declared.faults.JobFault.{JobFault}
 use Rattle.cad_job.specs.declared.faults.JobFault.TheVariants as fault
@@ -21,10 +19,3 @@ status_of fault.Read = 3
 status_of fault.Write = 3
 status_of fault.Long = 4
 status_of fault.Memory = 5
-
--- the status after arguments that were not read: help or the version that was asked for is no fault
-abbrev pub status_of_kind : ErrorKind → ℕ
-status_of_kind kinds.DisplayHelp = 0
-status_of_kind kinds.DisplayVersion = 0
-status_of_kind kinds.OutOfMemory = 5
-status_of_kind _ = 64

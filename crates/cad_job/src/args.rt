@@ -1,9 +1,7 @@
 //! The program's arguments.
 ghost use Rattle.std.specs.Prelude.{◌≡◌, IfOk, map, option_map};
-ghost use Rattle.clap.specs.Values.{kind_of};
 ghost use Rattle.clap.specs.Words.{app_of};
 ghost use Rattle.cad_job.specs.Arguments.{ReadsArgs, cadedit};
-ghost use Rattle.cad_job.specs.Told.{status_of_kind};
 
 use cad_history::Depth;
 use clap::error::ErrorKind;
@@ -92,19 +90,4 @@ pub fn read_args<'a>(alloc: Global, words: &'a [&'a str]) -> Result<Args<'a>, Er
         }
     }
     Err(command.error(ErrorKind::ValueValidation, "a depth from 1 to 1000")?)
-}
-
-/// The status with which the program ends where its arguments aren't as they should be.
-pub const ARGUMENTS_STATUS: u8 = 64;
-
-/// The status with which the program ends after these arguments: 0 for help and the version, 5 where memory ran out, else
-/// [`ARGUMENTS_STATUS`].
-pub fn args_status(error: &Error) -> u8
-    ensures { result ≡ status_of_kind (kind_of error.now) }
-{
-    match error.kind() {
-        ErrorKind::DisplayHelp | ErrorKind::DisplayVersion => 0,
-        ErrorKind::OutOfMemory => 5,
-        _ => ARGUMENTS_STATUS,
-    }
 }

@@ -7,7 +7,8 @@ mod job;
 mod path;
 mod program;
 
-pub use args::{ARGUMENTS_STATUS, Args, args_status, read_args};
+pub use args::{Args, read_args};
+pub use command_line::args_status;
 pub use faults::{JobFault, status};
 pub use job::{run_job, run_script};
 pub use path::run_path;

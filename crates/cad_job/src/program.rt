@@ -1,15 +1,13 @@
 //! What the program does with the words of its command line, and what it tells of it.
 ghost use Rattle.std.specs.Prelude.{◌≡◌};
-ghost use Rattle.clap.specs.Values.{kind_of};
-ghost use Rattle.cad_job.specs.Told.{status_of, status_of_kind};
+ghost use Rattle.cad_job.specs.Told.{status_of};
 
-use crate::args::{Args, args_status, read_args};
+use crate::args::{Args, read_args};
 use crate::faults::{JobFault, status};
 use crate::job::run_job;
 use crate::path::run_path;
 use cad_files::OutSink;
-use clap::Error;
-use clap::error::ErrorKind;
+use command_line::tell_refused;
 use number_hash::NumberHash;
 use std::fs::Files;
 use std::io::{self, BufWriter};
@@ -27,7 +25,7 @@ where
 {
     match read_args(rt.alloc(), words) {
         Ok(args) => run_args(rt, &args),
-        Err(error) => tell_refused(rt, &error),
+        Err(error) => tell_refused(rt, "cadedit", &error),
     }
 }
 
@@ -68,17 +66,6 @@ where
             args.depth,
         ),
     }
-}
-
-/// Tells why the arguments weren't read. Gives the status, also where the text can't be written.
-fn tell_refused<R: Print + Eprint + AllocGlobal>(rt: &R, error: &Error) -> u8
-    ensures { result ≡ status_of_kind (kind_of error.now) }
-{
-    if error.kind() == ErrorKind::OutOfMemory {
-        return tell(rt, &JobFault::Memory);
-    }
-    let _ = error.print(rt);
-    args_status(error)
 }
 
 /// Tells a fault on standard error. Gives the status with which the program ends, also where the line can't be written.

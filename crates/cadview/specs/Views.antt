@@ -14,7 +14,8 @@ use Rattle.cadview.specs.declared.args.View.{View}
 use Rattle.cadview.specs.declared.args.View.TheVariants.{Svg, Table, Diff}
 use Rattle.cadview.specs.declared.faults.ViewFault.{ViewFault}
 use Rattle.cadview.specs.Arguments.{AsksFor, IsRefused}
-use Rattle.cadview.specs.Told.{status_of, status_of_kind}
+use Rattle.command_line.specs.Statuses.{status_of_kind}
+use Rattle.cadview.specs.Told.{status_of}
 
 -- the text is the table of a map's rows of one kind
 abbrev pub IsTable : Layer → Map → List ℕ → Type 0

@@ -6,7 +6,6 @@ ghost use Rattle.cadview.specs.Arguments.{AsksFor, IsCadview, IsTable, MatchesAs
 ghost use Rattle.cadview.specs.Arguments.{SubcommandAsksFor, cadview_alone, diff, layer_name};
 ghost use Rattle.cadview.specs.Arguments.{IsRefused, MatchesAskForNone, NamesNoLayer};
 ghost use Rattle.cadview.specs.Arguments.{SubcommandAsksForNone, plan_rule, svg};
-ghost use Rattle.cadview.specs.Told.{status_of_kind};
 
 use clap::error::ErrorKind;
 use clap::{Arg, ArgMatches, Command, Error};
@@ -186,20 +185,5 @@ pub fn read_args<'a>(alloc: Global, words: &'a [&'a str]) -> Result<View<'a>, Er
     match view_asked(&matches) {
         Some(view) => Ok(view),
         None => Err(command.error(ErrorKind::MissingSubcommand, "a command is needed")?),
-    }
-}
-
-/// The status with which the program ends where its arguments aren't as they should be.
-pub const ARGUMENTS_STATUS: u8 = 64;
-
-/// The status with which the program ends after these arguments: 0 for help and the version, 5 where memory ran out, else
-/// [`ARGUMENTS_STATUS`].
-pub fn args_status(error: &Error) -> u8
-    ensures { result ≡ status_of_kind (kind_of error.now) }
-{
-    match error.kind() {
-        ErrorKind::DisplayHelp | ErrorKind::DisplayVersion => 0,
-        ErrorKind::OutOfMemory => 5,
-        _ => ARGUMENTS_STATUS,
     }
 }

@@ -1,19 +1,17 @@
 //! What the program does with the words of its command line.
 ghost use Rattle.std.specs.Prelude.{◌≡◌, map, IfOk, IfErr, Ok, IsErrOf};
 ghost use Rattle.cad_files.specs.Building.{IsBuilt};
-ghost use Rattle.clap.specs.Values.{kind_of};
-ghost use Rattle.cadview.specs.Told.{status_of, status_of_kind};
+ghost use Rattle.cadview.specs.Told.{status_of};
 ghost use Rattle.cadview.specs.Views.{IsDifference, IsTable, IsTextOf, OfPlan};
 ghost use Rattle.cadview.specs.Views.{IsStatusOfView, IsStatusOfWords};
 ghost use Rattle.cadview.specs.declared.faults.ViewFault.TheVariants as faults;
 
-use crate::args::{Layer, View, args_status, read_args};
+use crate::args::{Layer, View, read_args};
 use crate::faults::{ViewFault, status};
 use cad_files::{OutSink, PlanFault, Sink, write_all};
 use cad_rows::Memory;
 use cad_views::{Plan, difference_text, draw, parcel_table, point_table, read_map, string_table};
-use clap::Error;
-use clap::error::ErrorKind;
+use command_line::tell_refused;
 use number_hash::NumberHash;
 use std::alloc::Global;
 use std::fs::{self, Files};
@@ -32,7 +30,7 @@ where
 {
     match read_args(rt.alloc(), words) {
         Ok(view) => run_view(rt, &view),
-        Err(error) => tell_refused(rt, &error),
+        Err(error) => tell_refused(rt, "cadview", &error),
     }
 }
 
@@ -187,17 +185,6 @@ fn write_out<R: Print + AllocGlobal>(rt: &R, text: &[u8]) -> Result<(), ViewFaul
         return Err(ViewFault::Write);
     }
     Ok(())
-}
-
-/// Tells why the arguments weren't read. Gives the status, also where the text can't be written.
-fn tell_refused<R: Print + Eprint + AllocGlobal>(rt: &R, error: &Error) -> u8
-    ensures { result ≡ status_of_kind (kind_of error.now) }
-{
-    if error.kind() == ErrorKind::OutOfMemory {
-        return tell(rt, &ViewFault::Memory);
-    }
-    let _ = error.print(rt);
-    args_status(error)
 }
 
 /// Tells a fault on standard error. Gives the status with which the program ends, also where the line can't be written.
