@@ -1,5 +1,5 @@
 -- Edits in place, one kind after another.
-use Rattle.std.proofs.Common.{◌≡◌, ◌∙◌, ℕ, ℤ, refl, sym, subst, to_z, of_z, w64}
+use Rattle.std.proofs.Common.{◌≡◌, ◌∙◌, ℕ, ℤ, refl, sym, subst, true≢false, to_z, of_z, w64}
 use Rattle.std.specs.Prelude.{IsTrue, List, Result, Ok, Err, IsErr, IsErrAnd}
 use Rattle.std.specs.Global.{Vec}
 use Rattle.geo_exact.specs.Position.{Position}
@@ -17,7 +17,7 @@ use Rattle.cad_map.specs.Outcome.{MayRefuse}
 use Rattle.cad_valid.specs.declared.near.Touched.{Touched}
 use Rattle.map_parts.specs.Parts.{Parts, map_of, kept_at}
 use Rattle.cad_surgery.specs.Proper.{IsProper}
-use Rattle.cad_surgery.specs.Trials.{IsReadyFor, IsTrialOf}
+use Rattle.cad_surgery.specs.Trials.{IsReadyFor, IsTrialOf, IsTakenBack}
 use Rattle.cad_surgery.specs.Work.{TakesWork}
 use Rattle.cad_surgery.proofs.GridSteps.{idle}
 use Rattle.half_table.specs.declared.half.Half.{Half}
@@ -116,3 +116,22 @@ passes-on e old new why (Err f) is may err grid proper work = record {
   proper = proper;
   work = work;
 }
+
+-- ---- Edits that aren't taken back
+
+pub stays-made : {A E : Type 0} (Was : Map → Type 0) (old new : Parts) (r : Result A E) → IsErr r → map_of new ≡ map_of old → new.grid ≡ old.grid
+    → IsProper (map_of new) new.table.rows (kept_at new) → ((m : Map) → Was m → TakesWork old.table new.table (work_bound m (map_of old)))
+    → IsTakenBack Was old new r
+stays-made Was old new (Ok a) is map_is grid proper work = absurd (true≢false (sym is))
+stays-made Was old new (Err f) is map_is grid proper work = record {
+  before = tt;
+  err = map_is;
+  grid = grid;
+  proper = proper;
+  work = work;
+}
+
+-- before anything was done
+pub stays-whole : {A E : Type 0} (Was : Map → Type 0) (d : Parts) (r : Result A E) → IsErr r → IsProper (map_of d) d.table.rows (kept_at d)
+    → IsTakenBack Was d d r
+stays-whole Was d r is proper = stays-made Was d d r is refl refl proper (λ m was. idle d d _ refl)

@@ -4,6 +4,7 @@ use Rattle.cad_rows.specs.declared.edits.Edit.{Edit}
 use Rattle.cad_rows.specs.declared.refusals.Refusal.{Refusal}
 use Rattle.cad_map.specs.Costs.{work_bound}
 use Rattle.cad_map.specs.Effects.{after}
+use Rattle.cad_map.specs.Map.{Map}
 use Rattle.cad_map.specs.Outcome.{MayRefuse}
 use Rattle.cad_map.specs.Touched.{IsTouched}
 use Rattle.cad_map.specs.Valid.{IsValid}
@@ -47,3 +48,16 @@ pub record IsTrialOf (e : Edit) (old new : Parts) (result : Result SmallRecord R
   pub proper : IsProper (map_of new) new.table.rows (kept_at new)
   -- the work on it stays within the bound of the edit
   pub work : TakesWork old.table new.table (work_bound (map_of old) (after (map_of old) e))
+
+-- An edit is taken back, to whichever map it was made on, or there is no memory and the map stays.
+pub record IsTakenBack {A E : Type 0} (Was : Map → Type 0) (old new : Parts) (result : Result A E) : Type 0 where
+  -- the map is the one before the edit
+  pub before : OnOk result ((m : Map) → Was m → map_of new ≡ m)
+  -- an error leaves the map
+  pub err : OnErr result (map_of new ≡ map_of old)
+  -- the grid stays
+  pub grid : new.grid ≡ old.grid
+  -- the table is the map's again
+  pub proper : IsProper (map_of new) new.table.rows (kept_at new)
+  -- the work on it is small
+  pub work : (m : Map) → Was m → TakesWork old.table new.table (work_bound m (map_of old))

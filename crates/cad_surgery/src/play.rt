@@ -16,7 +16,7 @@ ghost use Rattle.map_parts.specs.Parts.{map_of, kept_at};
 ghost use Rattle.cad_surgery.specs.Proper.{IsProper};
 ghost use Rattle.edit_records.specs.Record.{edit_of, Holds, Belongs, IsPlaced};
 ghost use Rattle.cad_surgery.specs.RowEdits.{is_of_rows, KeepsBeside};
-ghost use Rattle.cad_surgery.specs.Trials.{IsReadyFor, IsTrialOf};
+ghost use Rattle.cad_surgery.specs.Trials.{IsReadyFor, IsTakenBack, IsTrialOf};
 ghost use Rattle.cad_surgery.specs.Work.{TakesWork};
 
 use crate::draft::Draft;
@@ -207,13 +207,8 @@ fn back_edit<T: Tally>(draft: &mut Draft<T>, change: &SmallRecord) -> Result<(),
     requires given { GivesInRange (edit_of change.now) }
     requires made { (m : Map) × Belongs change.now m (map_of draft.old) }
     requires proper { IsProper (map_of draft.old) draft.old.table.rows (kept_at draft.old) }
-    ensures before { OnOk result ((m : Map) → Belongs change.now m (map_of draft.old)
-        → map_of draft.new ≡ m) }
-    ensures err { OnErr result (map_of draft.new ≡ map_of draft.old) }
-    ensures grid { draft.new.grid ≡ draft.old.grid }
-    ensures proper { IsProper (map_of draft.new) draft.new.table.rows (kept_at draft.new) }
-    ensures work { (m : Map) → Belongs change.now m (map_of draft.old)
-        → TakesWork draft.old.table draft.new.table (work_bound m (map_of draft.old)) }
+    ensures { IsTakenBack (λ m. Belongs change.now m (map_of draft.old)) draft.old draft.new
+        result }
 {
     match change {
         SmallRecord::Split {

@@ -21,7 +21,7 @@ ghost use Rattle.cad_laws.specs.Tried.{IsTried};
 ghost use Rattle.cad_surgery.specs.Mergers.{HasFoundPath, HasSharedPath, IsMergedBy, IsOfMergeAlong};
 ghost use Rattle.cad_surgery.specs.Mergers.{halves_of, merged_by};
 ghost use Rattle.cad_surgery.specs.Proper.{IsProper};
-ghost use Rattle.cad_surgery.specs.Trials.{IsReadyFor, IsTrialOf};
+ghost use Rattle.cad_surgery.specs.Trials.{IsReadyFor, IsTakenBack, IsTrialOf};
 ghost use Rattle.cad_surgery.specs.Work.{TakesWork};
 ghost use Rattle.edit_records.specs.HeldChains.{row_between, rows_along};
 ghost use Rattle.edit_records.specs.Record.{edit_of, Holds, Belongs, HeldMergedAlong};
@@ -493,13 +493,8 @@ pub(crate) fn back_merge_along<T: Tally>(
     requires given { GivesInRange (edit_of change.now) }
     requires made { (m : Map) × Belongs change.now m (map_of draft.old) }
     requires proper { IsProper (map_of draft.old) draft.old.table.rows (kept_at draft.old) }
-    ensures before { OnOk result ((m : Map) → Belongs change.now m (map_of draft.old)
-        → map_of draft.new ≡ m) }
-    ensures err { OnErr result (map_of draft.new ≡ map_of draft.old) }
-    ensures grid { draft.new.grid ≡ draft.old.grid }
-    ensures proper { IsProper (map_of draft.new) draft.new.table.rows (kept_at draft.new) }
-    ensures work { (m : Map) → Belongs change.now m (map_of draft.old)
-        → TakesWork draft.old.table draft.new.table (work_bound m (map_of draft.old)) }
+    ensures { IsTakenBack (λ m. Belongs change.now m (map_of draft.old)) draft.old draft.new
+        result }
 {
     is_work_in_range(&draft.table);
     let alloc = draft.rows.points.allocator();

@@ -23,7 +23,7 @@ ghost use Rattle.cad_valid.specs.Near.{HoldsMap, touched_of};
 ghost use Rattle.cad_surgery.specs.IslandMergers.{HasSharedRing, IsMergedRound, IsOfMergeIsland, merged_round};
 ghost use Rattle.cad_surgery.specs.Mergers.{halves_of};
 ghost use Rattle.cad_surgery.specs.Proper.{IsProper};
-ghost use Rattle.cad_surgery.specs.Trials.{IsReadyFor, IsTrialOf};
+ghost use Rattle.cad_surgery.specs.Trials.{IsReadyFor, IsTakenBack, IsTrialOf};
 ghost use Rattle.cad_surgery.specs.Work.{TakesWork};
 ghost use Rattle.map_parts.specs.Merging.{rows_gone};
 ghost use Rattle.map_parts.specs.Parts.{map_of, kept_at};
@@ -264,13 +264,8 @@ pub(crate) fn back_merge_island<T: Tally>(
     requires given { GivesInRange (edit_of change.now) }
     requires made { (m : Map) × Belongs change.now m (map_of draft.old) }
     requires proper { IsProper (map_of draft.old) draft.old.table.rows (kept_at draft.old) }
-    ensures before { OnOk result ((m : Map) → Belongs change.now m (map_of draft.old)
-        → map_of draft.new ≡ m) }
-    ensures err { OnErr result (map_of draft.new ≡ map_of draft.old) }
-    ensures grid { draft.new.grid ≡ draft.old.grid }
-    ensures proper { IsProper (map_of draft.new) draft.new.table.rows (kept_at draft.new) }
-    ensures work { (m : Map) → Belongs change.now m (map_of draft.old)
-        → TakesWork draft.old.table draft.new.table (work_bound m (map_of draft.old)) }
+    ensures { IsTakenBack (λ m. Belongs change.now m (map_of draft.old)) draft.old draft.new
+        result }
 {
     is_work_in_range(&draft.table);
     let alloc = draft.rows.points.allocator();

@@ -16,14 +16,6 @@ back_split-requires-clause-made g c =
     let b = rw c.in-Split.is at c.requires.made in
     (b.0, made-by _ b.0 _ b.1, b.1.leads.is)
 
-pub returns-in-Split-clause-before : goal.returns-in-Split-clause-before
-returns-in-Split-clause-before g c =
-    rw c.in-Split.is (on_ok_weaker c.back_split.result (λ f m belongs. f m (made-by _ m _ belongs) belongs.leads.is) c.back_split.ensures.before)
-
-pub returns-in-Split-clause-work : goal.returns-in-Split-clause-work
-returns-in-Split-clause-work g c =
-    rw c.in-Split.is (λ m belongs. c.back_split.ensures.work m (made-by _ m _ belongs) belongs.leads.is)
-
 pub back_join-requires-clause-join : goal.back_join-requires-clause-join
 back_join-requires-clause-join g c =
     rw c.in-Join.is tt
@@ -50,16 +42,6 @@ back_enclose-requires-clause-made g c =
     let b = rw c.in-Enclose.is at c.requires.made in
     (b.0, leads-by _ _ _ _ _ b.0 _ c.as_slice.ensures c.as_slice-in-Enclose.ensures c.as_slice-in-Enclose-2.ensures.value b.1)
 
-pub returns-in-Enclose-clause-before : goal.returns-in-Enclose-clause-before
-returns-in-Enclose-clause-before g c =
-    rw c.in-Enclose.is (on_ok_weaker c.back_enclose.result
-    (λ f m belongs. f m (leads-by _ _ _ _ _ m _ c.as_slice.ensures c.as_slice-in-Enclose.ensures c.as_slice-in-Enclose-2.ensures.value belongs)) c.back_enclose.ensures.before)
-
-pub returns-in-Enclose-clause-work : goal.returns-in-Enclose-clause-work
-returns-in-Enclose-clause-work g c =
-    rw c.in-Enclose.is (λ m belongs. c.back_enclose.ensures.work m
-    (leads-by _ _ _ _ _ m _ c.as_slice.ensures c.as_slice-in-Enclose.ensures c.as_slice-in-Enclose-2.ensures.value belongs))
-
 pub unmake_rows-requires-clause-alone : goal.unmake_rows-requires-clause-alone
 unmake_rows-requires-clause-alone g c =
     rows-of c.args.change.now c.in_default.not-Split c.in_default.not-Join c.in_default.not-Enclose c.in_default.not-Divide
@@ -70,18 +52,40 @@ unmake_rows-requires-clause-made g c =
     let b = c.requires.made in
     (b.0, made-by c.args.change.now b.0 (map_of c.args.draft.now) b.1, b.1.leads.is)
 
-pub returns-in_default-clause-before : goal.returns-in_default-clause-before
-returns-in_default-clause-before g c =
-    on_ok_weaker c.unmake_rows.result (λ f m belongs. f m (made-by c.args.change.now m (map_of c.args.draft.now) belongs) belongs.leads.is) c.unmake_rows.ensures.before
+pub returns-in-Split : goal.returns-in-Split
+returns-in-Split g c = record {
+  before = rw c.in-Split.is (on_ok_weaker c.back_split.result (λ f m belongs. f m (made-by _ m _ belongs) belongs.leads.is) c.back_split.ensures.before);
+  err = c.back_split.ensures.err;
+  grid = c.back_split.ensures.grid;
+  proper = c.back_split.ensures.proper;
+  work = rw c.in-Split.is (λ m belongs. c.back_split.ensures.work m (made-by _ m _ belongs) belongs.leads.is);
+}
 
-pub returns-in_default-clause-grid : goal.returns-in_default-clause-grid
-returns-in_default-clause-grid g c =
-    c.unmake_rows.ensures.beside.grid
+pub returns-in-Enclose : goal.returns-in-Enclose
+returns-in-Enclose g c = record {
+  before = rw c.in-Enclose.is (on_ok_weaker c.back_enclose.result
+      (λ f m belongs. f m (leads-by _ _ _ _ _ m _ c.as_slice.ensures c.as_slice-in-Enclose.ensures c.as_slice-in-Enclose-2.ensures.value belongs)) c.back_enclose.ensures.before);
+  err = c.back_enclose.ensures.err;
+  grid = c.back_enclose.ensures.grid;
+  proper = c.back_enclose.ensures.proper;
+  work = rw c.in-Enclose.is (λ m belongs. c.back_enclose.ensures.work m
+      (leads-by _ _ _ _ _ m _ c.as_slice.ensures c.as_slice-in-Enclose.ensures c.as_slice-in-Enclose-2.ensures.value belongs));
+}
 
-pub returns-in_default-clause-proper : goal.returns-in_default-clause-proper
-returns-in_default-clause-proper g c =
-    c.unmake_rows.ensures.beside.proper c.requires.proper
+pub returns-in_default : goal.returns-in_default
+returns-in_default g c = record {
+  before = on_ok_weaker c.unmake_rows.result (λ f m belongs. f m (made-by c.args.change.now m (map_of c.args.draft.now) belongs) belongs.leads.is) c.unmake_rows.ensures.before;
+  err = c.unmake_rows.ensures.err;
+  grid = c.unmake_rows.ensures.beside.grid;
+  proper = c.unmake_rows.ensures.beside.proper c.requires.proper;
+  work = λ m belongs. idle c.args.draft.now c.unmake_rows.new.self _ c.unmake_rows.ensures.beside.table;
+}
 
-pub returns-in_default-clause-work : goal.returns-in_default-clause-work
-returns-in_default-clause-work g c =
-    λ m belongs. idle c.args.draft.now c.unmake_rows.new.self _ c.unmake_rows.ensures.beside.table
+pub returns-in-Join : goal.returns-in-Join
+returns-in-Join g c = record {
+  before = c.back_join.ensures.before;
+  err = c.back_join.ensures.err;
+  grid = c.back_join.ensures.grid;
+  proper = c.back_join.ensures.proper;
+  work = c.back_join.ensures.work;
+}

@@ -2,6 +2,7 @@ use Rattle.std.proofs.Common.{◌∙◌}
 use Rattle.map_parts.specs.Parts.{map_of}
 use Rattle.cad_surgery.proofs.DividedBack.{ok-then}
 use Rattle.cad_surgery.proofs.UnmergedDraft.{by-record}
+use Rattle.cad_surgery.proofs.Trials.{stays-whole}
 use Rattle.cad_surgery.proofs.edits.try_merge_along.back_merge_along.Goals as goal
 
 pub ended_by-requires : goal.ended_by-requires
@@ -19,15 +20,22 @@ unmerge_with-requires-clause-made g c = (
       (map_of c.args.draft.now) c.requires.made.1,
 )
 
-pub returns-clause-before : goal.returns-clause-before
-returns-clause-before g c =
-    ok-then c.unmerge_with.result c.unmerge_with.ensures.before (λ back m it.
-    back m (by-record c.args.change.now c.merger_of-told.result c.requires.given c.merger_of-told.ensures.edit
-    c.merger_of-told.ensures.held m
-    (map_of c.args.draft.now) it))
+pub returns-in_err-path : goal.returns-in_err-path
+returns-in_err-path g c = stays-whole _ _ _ c.from_residual.ensures.0 c.requires.proper
 
-pub returns-clause-work : goal.returns-clause-work
-returns-clause-work g c = λ m it.
-    c.unmerge_with.ensures.work m (by-record c.args.change.now c.merger_of-told.result c.requires.given c.merger_of-told.ensures.edit
-    c.merger_of-told.ensures.held m
-    (map_of c.args.draft.now) it)
+pub returns-in_err-gone : goal.returns-in_err-gone
+returns-in_err-gone g c = stays-whole _ _ _ c.from_residual-in_err-gone.ensures.0 c.requires.proper
+
+pub returns : goal.returns
+returns g c = record {
+  before = ok-then c.unmerge_with.result c.unmerge_with.ensures.before (λ back m it.
+      back m (by-record c.args.change.now c.merger_of-told.result c.requires.given c.merger_of-told.ensures.edit
+      c.merger_of-told.ensures.held m
+      (map_of c.args.draft.now) it));
+  err = c.unmerge_with.ensures.err;
+  grid = c.unmerge_with.ensures.grid;
+  proper = c.unmerge_with.ensures.proper;
+  work = λ m it. c.unmerge_with.ensures.work m (by-record c.args.change.now c.merger_of-told.result c.requires.given c.merger_of-told.ensures.edit
+      c.merger_of-told.ensures.held m
+      (map_of c.args.draft.now) it);
+}
