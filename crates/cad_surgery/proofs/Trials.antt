@@ -14,6 +14,7 @@ use Rattle.cad_map.specs.Costs.{work_bound}
 use Rattle.cad_map.specs.Effects.{after}
 use Rattle.cad_map.specs.Map.{Map}
 use Rattle.cad_map.specs.Outcome.{MayRefuse}
+use Rattle.cad_map.specs.Valid.{IsValid}
 use Rattle.cad_valid.specs.declared.near.Touched.{Touched}
 use Rattle.map_parts.specs.Parts.{Parts, map_of, kept_at}
 use Rattle.cad_surgery.specs.Proper.{IsProper}
@@ -22,7 +23,7 @@ use Rattle.cad_surgery.specs.Work.{TakesWork}
 use Rattle.cad_surgery.proofs.GridSteps.{idle}
 use Rattle.half_table.specs.declared.half.Half.{Half}
 use Rattle.cad_laws.specs.Tried.{IsTried}
-use Rattle.edit_records.specs.Record.{edit_of}
+use Rattle.edit_records.specs.Record.{edit_of, Holds}
 use Rattle.cad_surgery.specs.RowEdits.{is_of_rows}
 use Rattle.edit_records.specs.declared.record.ChainString.{ChainString}
 use Rattle.edit_records.specs.declared.record.SmallRecord.{SmallRecord}
@@ -84,7 +85,23 @@ rows-of (record_of.Detach i source j) split join enclose divide along island = r
 rows-of (record_of.Rename p from to) split join enclose divide along island = refl
 rows-of (record_of.Enclose face points strings parcel label source moved) split join enclose divide along island = absurd (enclose face points strings parcel label source moved refl)
 
--- ---- Trials that are refused
+-- ---- Trials that succeed, and that are refused
+
+-- with the record of what was made
+pub succeeds : (e : Edit) (old new : Parts) (r : SmallRecord) → map_of new ≡ after (map_of old) e → IsValid (map_of new) → edit_of r ≡ e → Holds r (map_of old)
+    → new.grid ≡ old.grid → IsProper (map_of new) new.table.rows (kept_at new)
+    → TakesWork old.table new.table (work_bound (map_of old) (after (map_of old) e)) → IsTrialOf e old new (Ok r)
+succeeds e old new r made valid edit holds grid proper work = record {
+  made = made;
+  valid = valid;
+  edit = edit;
+  holds = holds;
+  refused = tt;
+  err = tt;
+  grid = grid;
+  proper = proper;
+  work = work;
+}
 
 -- before anything was done
 pub stays : (e : Edit) (d : Parts) (t : Touched) (why : Refusal) → IsReadyFor e d t → MayRefuse (map_of d) e why → IsTrialOf e d d (Err why)

@@ -9,7 +9,7 @@ use Rattle.edit_records.specs.HeldChains.{HeldChain}
 use Rattle.map_parts.specs.Parts.{FitTogether, map_of}
 use Rattle.edit_records.specs.Record.{edit_of, Holds}
 use Rattle.cad_surgery.proofs.HeldDivisions.{holds}
-use Rattle.cad_surgery.proofs.Trials.{stays, passes-on}
+use Rattle.cad_surgery.proofs.Trials.{stays, succeeds, passes-on}
 use Rattle.cad_surgery.proofs.edits.try_divide.divide_recording.Goals as goal
 
 pub returns-in_default : goal.returns-in_default
@@ -21,21 +21,15 @@ returns-in_err-divide_within_rules g c =
     c.divide_within_rules.ensures.grid c.divide_within_rules.ensures.proper c.divide_within_rules.ensures.work
 
 pub returns : goal.returns
-returns g c = record {
-  made = c.in_ok-divide_within_rules.ensures.made;
-  valid = c.in_ok-divide_within_rules.ensures.valid;
-  edit = (let e = c.args.division.now in
-      ap edit_of c.record_of_division.ensures
-      ∙ (λ i. Divide e.face (c.requires.kept i).points (c.requires.kept i).strings e.parcel (c.requires.kept i).label e.source));
-  holds = (let e = c.args.division.now in
-      let m = map_of c.args.draft.now in
-      let found = c.in-Ok.coming.crossing in
-      subst (λ (r : SmallRecord). Holds r m) (sym c.record_of_division.ensures)
-      (subst (λ (k : Kept). HeldChain (after m (Divide e.face k.points k.strings e.parcel k.label e.source)) (Parcel e.parcel) k.points found.start found.end found.moved.items) (sym c.requires.kept)
-      (holds c.args.draft.now (subst FitTogether c.draft.view_is c.draft.invariant) c.requires.ready.proper e c.requires.ready.tried found.start found.end found.moved.items c.in-Ok.ensures.crossing)));
-  refused = tt;
-  err = tt;
-  grid = c.divide_within_rules.ensures.grid;
-  proper = c.divide_within_rules.ensures.proper;
-  work = c.divide_within_rules.ensures.work;
-}
+returns g c =
+    succeeds _ _ _ _ c.in_ok-divide_within_rules.ensures.made c.in_ok-divide_within_rules.ensures.valid
+    (let e = c.args.division.now in
+    ap edit_of c.record_of_division.ensures
+    ∙ (λ i. Divide e.face (c.requires.kept i).points (c.requires.kept i).strings e.parcel (c.requires.kept i).label e.source))
+    (let e = c.args.division.now in
+    let m = map_of c.args.draft.now in
+    let found = c.in-Ok.coming.crossing in
+    subst (λ (r : SmallRecord). Holds r m) (sym c.record_of_division.ensures)
+    (subst (λ (k : Kept). HeldChain (after m (Divide e.face k.points k.strings e.parcel k.label e.source)) (Parcel e.parcel) k.points found.start found.end found.moved.items) (sym c.requires.kept)
+    (holds c.args.draft.now (subst FitTogether c.draft.view_is c.draft.invariant) c.requires.ready.proper e c.requires.ready.tried found.start found.end found.moved.items c.in-Ok.ensures.crossing)))
+    c.divide_within_rules.ensures.grid c.divide_within_rules.ensures.proper c.divide_within_rules.ensures.work

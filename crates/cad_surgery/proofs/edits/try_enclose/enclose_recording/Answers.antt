@@ -9,7 +9,7 @@ use Rattle.edit_records.specs.HeldChains.{HeldIsland}
 use Rattle.map_parts.specs.Parts.{FitTogether, map_of}
 use Rattle.edit_records.specs.Record.{edit_of, Holds}
 use Rattle.cad_surgery.proofs.OpenedDraft.{names}
-use Rattle.cad_surgery.proofs.Trials.{stays, passes-on}
+use Rattle.cad_surgery.proofs.Trials.{stays, succeeds, passes-on}
 use Rattle.cad_surgery.proofs.edits.try_enclose.enclose_recording.Goals as goal
 
 pub returns-in_default : goal.returns-in_default
@@ -21,21 +21,15 @@ returns-in_err-enclose_within_rules g c =
     c.enclose_within_rules.ensures.grid c.enclose_within_rules.ensures.proper c.enclose_within_rules.ensures.work
 
 pub returns : goal.returns
-returns g c = record {
-  made = c.in_ok-enclose_within_rules.ensures.made;
-  valid = c.in_ok-enclose_within_rules.ensures.valid;
-  edit = (let e = c.args.enclosure.now in
-      ap edit_of c.record_of_enclosure.ensures
-      ∙ (λ i. Enclose e.face (c.requires.kept i).points (c.requires.kept i).strings e.parcel (c.requires.kept i).label e.source));
-  holds = (let e = c.args.enclosure.now in
-      let m = map_of c.args.draft.now in
-      let moved = c.in-Ok.coming.moved in
-      subst (λ (r : SmallRecord). Holds r m) (sym c.record_of_enclosure.ensures)
-      (subst (λ (k : Kept). HeldIsland (after m (Enclose e.face k.points k.strings e.parcel k.label e.source)) (Parcel e.parcel) k.points moved.items) (sym c.requires.kept)
-      (names c.args.draft.now (subst FitTogether c.draft.view_is c.draft.invariant) e c.requires.ready.tried moved.items c.in-Ok.ensures.holes)));
-  refused = tt;
-  err = tt;
-  grid = c.enclose_within_rules.ensures.grid;
-  proper = c.enclose_within_rules.ensures.proper;
-  work = c.enclose_within_rules.ensures.work;
-}
+returns g c =
+    succeeds _ _ _ _ c.in_ok-enclose_within_rules.ensures.made c.in_ok-enclose_within_rules.ensures.valid
+    (let e = c.args.enclosure.now in
+    ap edit_of c.record_of_enclosure.ensures
+    ∙ (λ i. Enclose e.face (c.requires.kept i).points (c.requires.kept i).strings e.parcel (c.requires.kept i).label e.source))
+    (let e = c.args.enclosure.now in
+    let m = map_of c.args.draft.now in
+    let moved = c.in-Ok.coming.moved in
+    subst (λ (r : SmallRecord). Holds r m) (sym c.record_of_enclosure.ensures)
+    (subst (λ (k : Kept). HeldIsland (after m (Enclose e.face k.points k.strings e.parcel k.label e.source)) (Parcel e.parcel) k.points moved.items) (sym c.requires.kept)
+    (names c.args.draft.now (subst FitTogether c.draft.view_is c.draft.invariant) e c.requires.ready.tried moved.items c.in-Ok.ensures.holes)))
+    c.enclose_within_rules.ensures.grid c.enclose_within_rules.ensures.proper c.enclose_within_rules.ensures.work

@@ -11,7 +11,7 @@ use Rattle.map_parts.specs.Parts.{FitTogether, map_of}
 use Rattle.cad_surgery.specs.ChainStrings.{with_halves}
 use Rattle.cad_surgery.specs.Mergers.{HasFoundPath, HasSharedPath}
 use Rattle.cad_surgery.proofs.RecordedPaths.{held-along}
-use Rattle.cad_surgery.proofs.Trials.{stays, passes-on}
+use Rattle.cad_surgery.proofs.Trials.{stays, succeeds, passes-on}
 use Rattle.cad_surgery.proofs.edits.try_merge_along.try_merge_along.Goals as goal
 
 pub returns-in_default : goal.returns-in_default
@@ -30,26 +30,20 @@ returns-in_err-gone g c =
     c.merge_along_within_rules.ensures.grid c.merge_along_within_rules.ensures.proper c.merge_along_within_rules.ensures.work
 
 pub returns : goal.returns
-returns g c = record {
-  made = c.in_ok-gone.ensures.made;
-  valid = c.in_ok-gone.ensures.valid;
-  edit = ap edit_of c.record_of_merger.ensures ∙ ap (λ (n : ℕ). Merge c.args.kept (Parcel n)) c.in_ok-gone.ensures.number;
-  holds = (let d = c.args.draft.now in
-      let m = map_of d in
-      let rows = d.table.rows in
-      let fit = subst FitTogether c.draft.view_is c.draft.invariant in
-      let it = c.in-Ok.found.shared in
-      let gone = c.in_ok-gone.gone in
-      let found = subst (λ (n : ℕ). HasFoundPath m rows c.args.kept n it.path.items it.chain it.start it.end it.moved.items) (sym c.in_ok-gone.ensures.number) c.in-Ok.ensures.path in
-      let told =
-      held-along m rows fit.ends c.args.kept gone.row gone.place it.path.items it.chain it.start it.end it.moved.items gone.strings.items found
-      (c.in_ok-gone.ensures.gone ∙ ap strings_of c.as_slice.ensures.value) c.in_ok-gone.ensures.stood c.in_ok-gone.ensures.row in
-      subst (λ (r : SmallRecord). Holds r m) (sym c.record_of_merger.ensures)
-      (subst (λ (l : List ChainString). HeldMergedAlong m c.args.kept gone.row gone.place it.chain l it.start it.end it.moved.items)
-      (sym (c.chain_strings.ensures ∙ (λ i. with_halves (c.as_slice-4.ensures.value i) gone.strings.items))) told));
-  refused = tt;
-  err = tt;
-  grid = c.merge_along_within_rules.ensures.grid;
-  proper = c.merge_along_within_rules.ensures.proper;
-  work = c.merge_along_within_rules.ensures.work;
-}
+returns g c =
+    succeeds _ _ _ _ c.in_ok-gone.ensures.made c.in_ok-gone.ensures.valid
+    (ap edit_of c.record_of_merger.ensures ∙ ap (λ (n : ℕ). Merge c.args.kept (Parcel n)) c.in_ok-gone.ensures.number)
+    (let d = c.args.draft.now in
+    let m = map_of d in
+    let rows = d.table.rows in
+    let fit = subst FitTogether c.draft.view_is c.draft.invariant in
+    let it = c.in-Ok.found.shared in
+    let gone = c.in_ok-gone.gone in
+    let found = subst (λ (n : ℕ). HasFoundPath m rows c.args.kept n it.path.items it.chain it.start it.end it.moved.items) (sym c.in_ok-gone.ensures.number) c.in-Ok.ensures.path in
+    let told =
+    held-along m rows fit.ends c.args.kept gone.row gone.place it.path.items it.chain it.start it.end it.moved.items gone.strings.items found
+    (c.in_ok-gone.ensures.gone ∙ ap strings_of c.as_slice.ensures.value) c.in_ok-gone.ensures.stood c.in_ok-gone.ensures.row in
+    subst (λ (r : SmallRecord). Holds r m) (sym c.record_of_merger.ensures)
+    (subst (λ (l : List ChainString). HeldMergedAlong m c.args.kept gone.row gone.place it.chain l it.start it.end it.moved.items)
+    (sym (c.chain_strings.ensures ∙ (λ i. with_halves (c.as_slice-4.ensures.value i) gone.strings.items))) told))
+    c.merge_along_within_rules.ensures.grid c.merge_along_within_rules.ensures.proper c.merge_along_within_rules.ensures.work

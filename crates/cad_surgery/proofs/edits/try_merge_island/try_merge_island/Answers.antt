@@ -10,7 +10,7 @@ use Rattle.map_parts.specs.Parts.{FitTogether, map_of}
 use Rattle.cad_surgery.specs.ChainStrings.{with_halves}
 use Rattle.cad_surgery.specs.IslandMergers.{HasSharedRing}
 use Rattle.cad_surgery.proofs.RecordedIsland.{held-round}
-use Rattle.cad_surgery.proofs.Trials.{stays, passes-on}
+use Rattle.cad_surgery.proofs.Trials.{stays, succeeds, passes-on}
 use Rattle.cad_surgery.proofs.edits.try_merge_island.try_merge_island.Goals as goal
 
 pub returns-in_default : goal.returns-in_default
@@ -22,28 +22,22 @@ returns-in_err-gone g c =
     c.merge_island_within_rules.ensures.grid c.merge_island_within_rules.ensures.proper c.merge_island_within_rules.ensures.work
 
 pub returns : goal.returns
-returns g c = record {
-  made = c.in_ok-gone.ensures.made;
-  valid = c.in_ok-gone.ensures.valid;
-  edit = ap edit_of c.record_of_merger.ensures ∙ ap (λ (n : ℕ). Merge c.args.kept (Parcel n)) c.in_ok-gone.ensures.number;
-  holds = (let d = c.args.draft.now in
-      let m = map_of d in
-      let rows = d.table.rows in
-      let fit = subst FitTogether c.draft.view_is c.draft.invariant in
-      let found = c.in-Ok.found in
-      let gone = c.in_ok-gone.gone in
-      let path = found.ring.path.items in
-      let moved = found.ring.moved.items in
-      let ring = subst (λ (n : ℕ). HasSharedRing m rows c.args.kept n path moved) (sym c.in_ok-gone.ensures.number) c.in-Ok.ensures.ring in
-      let told =
-      held-round m rows fit.ends c.args.kept gone.row gone.place path moved gone.strings.items ring (c.in_ok-gone.ensures.gone ∙ ap strings_of c.as_slice.ensures.value)
-      c.in_ok-gone.ensures.stood c.in_ok-gone.ensures.row found.points c.in-Ok.ensures.points in
-      subst (λ (r : SmallRecord). Holds r m) (sym c.record_of_merger.ensures)
-      (subst (λ (l : List ChainString). HeldMergedIsland m c.args.kept gone.row gone.place found.points l moved)
-      (sym (c.chain_strings.ensures ∙ (λ i. with_halves (c.as_slice-4.ensures.value i) gone.strings.items))) told));
-  refused = tt;
-  err = tt;
-  grid = c.merge_island_within_rules.ensures.grid;
-  proper = c.merge_island_within_rules.ensures.proper;
-  work = c.merge_island_within_rules.ensures.work;
-}
+returns g c =
+    succeeds _ _ _ _ c.in_ok-gone.ensures.made c.in_ok-gone.ensures.valid
+    (ap edit_of c.record_of_merger.ensures ∙ ap (λ (n : ℕ). Merge c.args.kept (Parcel n)) c.in_ok-gone.ensures.number)
+    (let d = c.args.draft.now in
+    let m = map_of d in
+    let rows = d.table.rows in
+    let fit = subst FitTogether c.draft.view_is c.draft.invariant in
+    let found = c.in-Ok.found in
+    let gone = c.in_ok-gone.gone in
+    let path = found.ring.path.items in
+    let moved = found.ring.moved.items in
+    let ring = subst (λ (n : ℕ). HasSharedRing m rows c.args.kept n path moved) (sym c.in_ok-gone.ensures.number) c.in-Ok.ensures.ring in
+    let told =
+    held-round m rows fit.ends c.args.kept gone.row gone.place path moved gone.strings.items ring (c.in_ok-gone.ensures.gone ∙ ap strings_of c.as_slice.ensures.value)
+    c.in_ok-gone.ensures.stood c.in_ok-gone.ensures.row found.points c.in-Ok.ensures.points in
+    subst (λ (r : SmallRecord). Holds r m) (sym c.record_of_merger.ensures)
+    (subst (λ (l : List ChainString). HeldMergedIsland m c.args.kept gone.row gone.place found.points l moved)
+    (sym (c.chain_strings.ensures ∙ (λ i. with_halves (c.as_slice-4.ensures.value i) gone.strings.items))) told))
+    c.merge_island_within_rules.ensures.grid c.merge_island_within_rules.ensures.proper c.merge_island_within_rules.ensures.work

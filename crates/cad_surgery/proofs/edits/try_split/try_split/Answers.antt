@@ -5,7 +5,7 @@ use Rattle.cad_map.proofs.CallerLemmas.{found-number}
 use Rattle.map_parts.specs.Parts.{map_of}
 use Rattle.cad_surgery.specs.Halvings.{split_by}
 use Rattle.cad_surgery.proofs.SplitDraft as draft
-use Rattle.cad_surgery.proofs.Trials.{stays, passes-on}
+use Rattle.cad_surgery.proofs.Trials.{stays, succeeds, passes-on}
 use Rattle.cad_surgery.proofs.edits.try_split.try_split.Goals as goal
 
 pub rows_of_split-requires : goal.rows_of_split-requires
@@ -23,16 +23,10 @@ returns-in_err-place g c =
     c.split_within_rules.ensures.grid c.split_within_rules.ensures.proper c.split_within_rules.ensures.work
 
 pub returns : goal.returns
-returns g c = record {
-  made = c.in_ok-place.ensures.made;
-  valid = c.in_ok-place.ensures.valid;
-  edit = (ap (λ (s : ℕ). split_by s c.args.halving.now)
-      (found-number (λ (r : StringRow). r.number) c.args.string (map_of c.args.draft.now).strings
-      c.in_ok-place.row c.in_ok-place.ensures.found));
-  holds = c.in_ok-place.ensures.row;
-  refused = tt;
-  err = tt;
-  grid = c.split_within_rules.ensures.grid;
-  proper = c.split_within_rules.ensures.proper;
-  work = c.split_within_rules.ensures.work;
-}
+returns g c =
+    succeeds _ _ _ _ c.in_ok-place.ensures.made c.in_ok-place.ensures.valid
+    (ap (λ (s : ℕ). split_by s c.args.halving.now)
+    (found-number (λ (r : StringRow). r.number) c.args.string (map_of c.args.draft.now).strings
+    c.in_ok-place.row c.in_ok-place.ensures.found))
+    c.in_ok-place.ensures.row
+    c.split_within_rules.ensures.grid c.split_within_rules.ensures.proper c.split_within_rules.ensures.work
