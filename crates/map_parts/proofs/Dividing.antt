@@ -1,5 +1,5 @@
 -- A division of a map on half-edges that is made in place, and taken back.
-use Rattle.std.proofs.Common.{◌≡◌, ◌≢◌, ℕ, ◌≤◌, true, false, refl, sym, ap, subst, ◌∙◌, List, [], ◌∷◌, ◌++◌, map, length, None, is_some}
+use Rattle.std.proofs.Common.{◌≡◌, ◌≢◌, ℕ, ◌≤◌, true, false, refl, sym, ap, subst, arith, ◌∙◌, List, [], ◌∷◌, ◌++◌, map, length, None, is_some}
 use Rattle.std.specs.Prelude.{IsSome}
 use Rattle.std.specs.List.{AllByRecursion, Contains}
 use Rattle.cad_rows.specs.declared.edits.Edit.TheVariants.{Divide}
@@ -19,11 +19,10 @@ use Rattle.cad_map.specs.Table.{without_row}
 use Rattle.cad_map.specs.Valid.{EachPair}
 use Rattle.cad_map.proofs.CallerLemmas.{CanDivide as IsAllowed, can-divide, allowed, whole_valid, ends-differ, All-append, All-follows, All-join, numbers-strings_along, sides-strings_along, pairs-from_distinct}
 use Rattle.half_table.specs.declared.half.Half.{Half}
-use Rattle.half_table.specs.Half.{forward_of, twin}
-use Rattle.half_table.specs.Rows.{HalfRows, IsLinked, has, next}
-use Rattle.half_paths.specs.Path.{AreIn, AreDifferent, AreElsewhere, last_of}
+use Rattle.half_table.specs.Half.{forward_of}
+use Rattle.half_table.specs.Rows.{HalfRows, has}
+use Rattle.half_paths.specs.Path.{AreIn, AreDifferent, last_of}
 use Rattle.half_paths.specs.Loose.{numbers_of}
-use Rattle.half_paths.specs.Strung.{IsStrung}
 use Rattle.key_lists.specs.Held.{Held, items_at}
 use Rattle.cad_laws.specs.Faces.{left_of_chain, right_of_chain}
 use Rattle.cad_laws.specs.Local.{IsShown, side_by}
@@ -36,6 +35,7 @@ use Rattle.map_parts.specs.Paths.{AreAlong, HasStringsMore}
 use Rattle.map_parts.specs.Islands.{FitsTable, AreOfRings}
 use Rattle.map_parts.specs.Chains.{IsChainOf}
 use Rattle.map_parts.specs.Labels.{IsOnRing}
+use Rattle.map_parts.specs.FaceChanges.{CanBringAcross, CanTakeAcross}
 use Rattle.map_parts.specs.Handing.{KeepsEach, HaveTwoFaces}
 use Rattle.map_parts.specs.Splitting.{FitMap, AreStarsOf}
 use Rattle.map_parts.specs.StringRows.{CanPutStrings, CanTakeStrings, without_rows}
@@ -149,8 +149,8 @@ module _ (m : Map) (face : Face) (numbers : List ℕ) (added : List StringRow) (
 
 -- ---- It is made
 
-module _ (face : Face) (added : List StringRow) (parcel : ParcelRow) (first : Half) (rest : List Half) (start end : Half) (moved : List Half) (rows : MapRows) (table : HalfRows)
-    (held : Held Half) (stars : Held Spoke) (c : CanDivide face added parcel (first ∷ rest) start end moved rows table held stars) where
+module _ {face : Face} {added : List StringRow} {parcel : ParcelRow} {first : Half} {rest : List Half} {start end : Half} {moved : List Half} {rows : MapRows} {table : HalfRows}
+    {held : Held Half} {stars : Held Spoke} (c : CanDivide face added parcel (first ∷ rest) start end moved rows table held stars) where
   abbrev m : Map
   m = c.map
 
@@ -193,29 +193,23 @@ module _ (face : Face) (added : List StringRow) (parcel : ParcelRow) (first : Ha
   long : 2 ≤ length c.is.chain
   long = chain-long m face ns added parcel.number path c.is
 
-  pub made-within : AreIn table path
-  made-within = within m face ns added parcel.number path c.is table c.there
-
-  pub made-different : AreDifferent path
-  made-different = different m face ns added parcel.number path c.is
-
-  pub made-start : AreElsewhere start path
-  made-start = start-away m (divided c.is) path more_are table c.is.chain c.is.first c.is.last law.corners apart start end c.start_on c.end_on
-
-  pub made-end : AreElsewhere end path
-  made-end = end-away m (divided c.is) path more_are table c.is.chain c.is.first c.is.last law.corners apart start end c.start_on c.end_on
-
-  pub made-apart : start ≢ end
-  made-apart = start-differs m (divided c.is) path more_are table c.is.chain c.is.first c.is.last law.corners apart start end c.start_on c.end_on
-
-  pub made-moved : AreIn table moved
-  made-moved = moved-in m face ns added parcel.number path c.is table ends moved c.moved_are
-
-  pub made-kept : AreIn table (items_at held (face_place face))
-  made-kept = fits.kept-in m whole_is table held table_is keeps face
-
-  pub made-differ : face_place face ≢ face_place new_face
-  made-differ = places-differ m face ns added parcel.number path c.is
+  pub made-can : CanBringAcross first rest start end face new_face moved table held
+  made-can = record {
+    linked = c.fits.fits.local.linked;
+    within = within m face ns added parcel.number path c.is table c.there;
+    different = different m face ns added parcel.number path c.is;
+    loose = c.loose;
+    start_in = c.start_on.there;
+    end_in = c.end_on.there;
+    start_away = start-away m (divided c.is) path more_are table c.is.chain c.is.first c.is.last law.corners apart start end c.start_on c.end_on;
+    end_away = end-away m (divided c.is) path more_are table c.is.chain c.is.first c.is.last law.corners apart start end c.start_on c.end_on;
+    differ = start-differs m (divided c.is) path more_are table c.is.chain c.is.first c.is.last law.corners apart start end c.start_on c.end_on;
+    moved_in = moved-in m face ns added parcel.number path c.is table ends moved c.moved_are;
+    kept_in = fits.kept-in m whole_is table held table_is keeps face;
+    faces = places-differ m face ns added parcel.number path c.is;
+    inner_room = let room = c.inner_room in omega (arith, room);
+    outer_room = let room = c.outer_room in omega (arith, room);
+  }
 
   pub made-none : items_at held (face_place new_face) ≡ []
   made-none = keeps.none new_face (none m face ns added parcel.number path c.is)
@@ -281,8 +275,8 @@ module _ (face : Face) (added : List StringRow) (parcel : ParcelRow) (first : Ha
 
 -- ---- It is taken back
 
-module _ (face : Face) (ns : List ℕ) (parcel : ℕ) (first : Half) (rest moved : List Half) (rows : MapRows) (table : HalfRows)
-    (held : Held Half) (stars : Held Spoke) (c : CanUndivide face ns parcel (first ∷ rest) moved rows table held stars) where
+module _ {face : Face} {ns : List ℕ} {parcel : ℕ} {first : Half} {rest moved : List Half} {rows : MapRows} {table : HalfRows}
+    {held : Held Half} {stars : Held Spoke} (c : CanUndivide face ns parcel (first ∷ rest) moved rows table held stars) where
   abbrev gone_path : List Half
   gone_path = first ∷ rest
 
@@ -322,32 +316,21 @@ module _ (face : Face) (ns : List ℕ) (parcel : ℕ) (first : Half) (rest moved
   gone_along : AreAlong table gone_path (sides_of_chain c.is.chain)
   gone_along = along old face ns c.added parcel gone_path c.is table old_ends.1
 
-  pub gone-linked : IsLinked table
-  gone-linked = c.fits.fits.local.linked
-
-  pub gone-within : AreIn table gone_path
-  gone-within = within old face ns c.added parcel gone_path c.is table old_ends.1
-
-  pub gone-different : AreDifferent gone_path
-  gone-different = different old face ns c.added parcel gone_path c.is
-
-  pub gone-strung : IsStrung (next table) first rest
-  gone-strung = path-strung old last last_parts c.is.chain gone_long c.is.first c.is.last gone_law.corners first rest gone_more table c.fits.fits.local gone_along
-
-  pub gone-on_away : AreElsewhere (next table (last_of first rest)) gone_path
-  gone-on_away = on-away old last last_parts c.is.chain gone_long c.is.first c.is.last gone_law.corners first rest gone_more table c.fits.fits.local gone_along
-
-  pub gone-back_away : AreElsewhere (next table (twin first)) gone_path
-  gone-back_away = back-away old last last_parts c.is.chain gone_long c.is.first c.is.last gone_law.corners first rest gone_more table c.fits.fits.local gone_along
-
-  pub gone-moved : AreIn table moved
-  gone-moved = moved-in old face ns c.added parcel gone_path c.is table shown_table.ends moved c.moved_are
-
-  pub gone-kept : (f : Face) → AreIn table (items_at held (face_place f))
-  gone-kept f = fits.kept-in last last_parts table held shown_table shown_keeps f
-
-  pub gone-differ : face_place face ≢ face_place gone_face
-  gone-differ = places-differ old face ns c.added parcel gone_path c.is
+  pub gone-can : CanTakeAcross first rest face gone_face moved table held
+  gone-can = record {
+    linked = c.fits.fits.local.linked;
+    within = within old face ns c.added parcel gone_path c.is table old_ends.1;
+    different = different old face ns c.added parcel gone_path c.is;
+    strung = path-strung old last last_parts c.is.chain gone_long c.is.first c.is.last gone_law.corners first rest gone_more table c.fits.fits.local gone_along;
+    on_away = on-away old last last_parts c.is.chain gone_long c.is.first c.is.last gone_law.corners first rest gone_more table c.fits.fits.local gone_along;
+    back_away = back-away old last last_parts c.is.chain gone_long c.is.first c.is.last gone_law.corners first rest gone_more table c.fits.fits.local gone_along;
+    moved_in = moved-in old face ns c.added parcel gone_path c.is table shown_table.ends moved c.moved_are;
+    outer_in = fits.kept-in last last_parts table held shown_table shown_keeps face;
+    inner_in = fits.kept-in last last_parts table held shown_table shown_keeps gone_face;
+    faces = places-differ old face ns c.added parcel gone_path c.is;
+    inner_room = c.inner_room;
+    outer_room = c.outer_room;
+  }
 
   old_can : IsAllowed old face c.is.chain ns parcel c.is.label c.is.source
   old_can = can old face ns c.added parcel gone_path c.is

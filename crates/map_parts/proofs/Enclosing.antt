@@ -22,10 +22,9 @@ use Rattle.cad_map.specs.Valid.{EachPair}
 use Rattle.cad_map.proofs.CallerLemmas.{CanEnclose as IsAllowed, can-enclose, allowed, whole_valid, row_with-there, All-append, All-from_each, All-follows, All-join, numbers-strings_along, sides-strings_along, pairs-from_distinct}
 use Rattle.half_table.specs.declared.half.Half.{Half}
 use Rattle.half_table.specs.Half.{forward_of}
-use Rattle.half_table.specs.Rows.{HalfRows, IsLinked, has, next}
+use Rattle.half_table.specs.Rows.{HalfRows, has}
 use Rattle.half_paths.specs.Path.{AreIn, AreDifferent}
 use Rattle.half_paths.specs.Loose.{numbers_of}
-use Rattle.half_paths.specs.Round.{IsRound}
 use Rattle.key_lists.specs.Held.{Held, items_at}
 use Rattle.cad_laws.specs.Local.{IsShown}
 use Rattle.cad_laws.proofs.CallerLemmas.{whole-after}
@@ -36,6 +35,7 @@ use Rattle.map_parts.specs.Parts.{HasHalves}
 use Rattle.map_parts.specs.Paths.{AreAlong, HasStringsMore}
 use Rattle.map_parts.specs.Islands.{FitsTable, AreOfRings, IsIslandOf}
 use Rattle.map_parts.specs.Labels.{IsOnRing}
+use Rattle.map_parts.specs.FaceChanges.{CanBringIn, CanTakeOut}
 use Rattle.map_parts.specs.Handing.{KeepsEach, HaveTwoFaces}
 use Rattle.map_parts.specs.Splitting.{FitMap, AreStarsOf}
 use Rattle.map_parts.specs.StringRows.{CanPutStrings, CanTakeStrings, without_rows}
@@ -183,8 +183,11 @@ module _ (m : Map) (face : Face) (numbers : List ℕ) (added : List StringRow) (
 
 -- ---- It is made
 
-module _ (face : Face) (added : List StringRow) (parcel : ParcelRow) (path moved : List Half) (rows : MapRows) (table : HalfRows)
-    (held : Held Half) (stars : Held Spoke) (c : CanEnclose face added parcel path moved rows table held stars) where
+module _ {face : Face} {added : List StringRow} {parcel : ParcelRow} {first : Half} {rest moved : List Half} {rows : MapRows} {table : HalfRows}
+    {held : Held Half} {stars : Held Spoke} (c : CanEnclose face added parcel (first ∷ rest) moved rows table held stars) where
+  abbrev all_path : List Half
+  all_path = first ∷ rest
+
   abbrev m : Map
   m = c.map
 
@@ -195,41 +198,39 @@ module _ (face : Face) (added : List StringRow) (parcel : ParcelRow) (path moved
   ns = c.numbers
 
   table_is : FitsTable m table
-  table_is = fits.table-of m (whole m face ns added parcel.number path c.is) table held c.fits.fits
+  table_is = fits.table-of m (whole m face ns added parcel.number all_path c.is) table held c.fits.fits
 
   keeps : KeepsEach m table held
-  keeps = fits.each-of m (whole m face ns added parcel.number path c.is) table held stars c.fits.are_stars c.fits.fits
+  keeps = fits.each-of m (whole m face ns added parcel.number all_path c.is) table held stars c.fits.are_stars c.fits.fits
 
   ends : AllByRecursion (HasHalves table) (enclosed c.is).strings
-  ends = all-ends m face ns added parcel.number path c.is table c.there table_is.ends
+  ends = all-ends m face ns added parcel.number all_path c.is table c.there table_is.ends
 
-  pub made-within : AreIn table path
-  made-within = within m face ns added parcel.number path c.is table c.there
-
-  pub made-different : AreDifferent path
-  made-different = different m face ns added parcel.number path c.is
-
-  pub made-moved : AreIn table moved
-  made-moved = moved-in m face ns added parcel.number path c.is table ends moved c.moved_are
-
-  pub made-kept : AreIn table (items_at held (face_place face))
-  made-kept = fits.kept-in m (whole m face ns added parcel.number path c.is) table held table_is keeps face
-
-  pub made-differ : face_place face ≢ face_place new_face
-  made-differ = places-differ m face ns added parcel.number path c.is
+  pub made-can : CanBringIn first rest face new_face moved table held
+  made-can = record {
+    linked = c.fits.fits.local.linked;
+    within = within m face ns added parcel.number all_path c.is table c.there;
+    different = different m face ns added parcel.number all_path c.is;
+    loose = c.loose;
+    moved_in = moved-in m face ns added parcel.number all_path c.is table ends moved c.moved_are;
+    kept_in = fits.kept-in m (whole m face ns added parcel.number all_path c.is) table held table_is keeps face;
+    differ = places-differ m face ns added parcel.number all_path c.is;
+    inner_room = let room = c.inner_room in omega (arith, room);
+    outer_room = let room = c.outer_room in omega (arith, room);
+  }
 
   pub made-none : items_at held (face_place new_face) ≡ []
-  made-none = keeps.none new_face (none m face ns added parcel.number path c.is)
+  made-none = keeps.none new_face (none m face ns added parcel.number all_path c.is)
 
   pub made-put : CanPutStrings added rows stars
   made-put = record {
     slots = c.slots;
     absent =
         subst (λ (q : Map). AllByRecursion (λ (s : StringRow). string_of q s.number ≡ None) added) (sym c.fits.rows_are)
-        (absent added (subst (AllByRecursion (λ n. string_of m n ≡ None)) (sym (numbered m face ns added parcel.number path c.is))
-        (can m face ns added parcel.number path c.is).rows.strings_new));
-    differ = subst (EachPair (λ a b. a ≢ b)) (sym (numbered m face ns added parcel.number path c.is)) (distinct m face ns added parcel.number path c.is);
-    two = two-of_added m face ns added parcel.number path c.is;
+        (absent added (subst (AllByRecursion (λ n. string_of m n ≡ None)) (sym (numbered m face ns added parcel.number all_path c.is))
+        (can m face ns added parcel.number all_path c.is).rows.strings_new));
+    differ = subst (EachPair (λ a b. a ≢ b)) (sym (numbered m face ns added parcel.number all_path c.is)) (distinct m face ns added parcel.number all_path c.is);
+    two = two-of_added m face ns added parcel.number all_path c.is;
     room = c.room;
   }
     where
@@ -239,7 +240,7 @@ module _ (face : Face) (added : List StringRow) (parcel : ParcelRow) (path moved
       absent (s ∷ ss) all = (all.0, absent ss all.1)
 
   pub made-parcel : parcel_of (map_in rows) parcel.number ≡ None
-  made-parcel = ap (λ (q : Map). parcel_of q parcel.number) c.fits.rows_are ∙ (can m face ns added parcel.number path c.is).rows.parcel_new
+  made-parcel = ap (λ (q : Map). parcel_of q parcel.number) c.fits.rows_are ∙ (can m face ns added parcel.number all_path c.is).rows.parcel_new
 
   -- what holds of table and kept halves, of rows and of stars makes them those of the map after it
   pub made-fits : (grown : MapRows) (wide : HalfRows) (put : Held Half) (filled : Held Spoke)
@@ -247,8 +248,8 @@ module _ (face : Face) (added : List StringRow) (parcel : ParcelRow) (path moved
       → HasWholeRings whole → HasWholeRings parted
       → IsIslandOf whole parted face new_face ring left right others
       → HaveTwoFaces whole parted face new_face → has_face whole new_face ≡ false
-      → HasStringsMore whole parted path
-      → AreAlong table path (sides_of ring)
+      → HasStringsMore whole parted all_path
+      → AreAlong table all_path (sides_of ring)
       → AllByRecursion (HasHalves table) parted.strings
       → AreOfRings parted table moved new_face others
       → FitsTable whole table → KeepsEach whole table held
@@ -260,13 +261,13 @@ module _ (face : Face) (added : List StringRow) (parcel : ParcelRow) (path moved
       let is = c.is in
       let after_it =
       brings m (enclosed is) is.points (canonical_form (bounding new_face is.points)) (canonical_form (bounding face (reverse is.points))) (rings_placed is)
-      (whole m face ns added parcel.number path is) (parts m face ns added parcel.number path is) (island m face ns added parcel.number path is)
-      (two m face ns added parcel.number path is) (none m face ns added parcel.number path is) (more m face ns added parcel.number path is)
-      (along m face ns added parcel.number path is table c.there) ends c.moved_are table_is keeps in
-      let are = rows-after m face ns added parcel.number path is parcel refl c.label_is c.sources_are (map_in rows) (map_in grown) c.fits.rows_are same in
+      (whole m face ns added parcel.number all_path is) (parts m face ns added parcel.number all_path is) (island m face ns added parcel.number all_path is)
+      (two m face ns added parcel.number all_path is) (none m face ns added parcel.number all_path is) (more m face ns added parcel.number all_path is)
+      (along m face ns added parcel.number all_path is table c.there) ends c.moved_are table_is keeps in
+      let are = rows-after m face ns added parcel.number all_path is parcel refl c.label_is c.sources_are (map_in rows) (map_in grown) c.fits.rows_are same in
       record {
         rows_are = are;
-        fits = fits.of-each (enclosed is) (parts m face ns added parcel.number path is) wide put after_it.0 after_it.1;
+        fits = fits.of-each (enclosed is) (parts m face ns added parcel.number all_path is) wide put after_it.0 after_it.1;
         are_stars =
             subst (λ (q : Map). AreStarsOf q.strings filled) are
             (star (subst (λ (q : Map). AreStarsOf q.strings stars) (sym c.fits.rows_are) c.fits.are_stars));
@@ -274,8 +275,8 @@ module _ (face : Face) (added : List StringRow) (parcel : ParcelRow) (path moved
 
 -- ---- It is taken back
 
-module _ (face : Face) (ns : List ℕ) (parcel : ℕ) (first : Half) (rest moved : List Half) (rows : MapRows) (table : HalfRows)
-    (held : Held Half) (stars : Held Spoke) (c : CanOpen face ns parcel (first ∷ rest) moved rows table held stars) where
+module _ {face : Face} {ns : List ℕ} {parcel : ℕ} {first : Half} {rest moved : List Half} {rows : MapRows} {table : HalfRows}
+    {held : Held Half} {stars : Held Spoke} (c : CanOpen face ns parcel (first ∷ rest) moved rows table held stars) where
   abbrev path : List Half
   path = first ∷ rest
 
@@ -300,35 +301,27 @@ module _ (face : Face) (ns : List ℕ) (parcel : ℕ) (first : Half) (rest moved
   old_ends : AllByRecursion (HasHalves table) old.strings × AllByRecursion (HasHalves table) c.added
   old_ends = added-ends old face ns c.added parcel path c.is table shown_table.ends
 
-  pub gone-linked : IsLinked table
-  gone-linked = c.fits.fits.local.linked
-
-  pub gone-within : AreIn table path
-  gone-within = within old face ns c.added parcel path c.is table old_ends.1
-
-  pub gone-different : AreDifferent path
-  gone-different = different old face ns c.added parcel path c.is
-
   gone_along : AreAlong table path (sides_of c.is.points)
   gone_along = along old face ns c.added parcel path c.is table old_ends.1
 
   long : 2 ≤ length c.is.points
   long = let three = (can old face ns c.added parcel path c.is).long in omega (arith, three)
 
-  pub gone-round : IsRound (next table) first rest
-  gone-round =
-      ring-round last parts_are table c.fits.fits.local first rest c.is.points long gone_along
-      (All-from_each (IsShown last) path (λ h among. more-new old last path (more old face ns c.added parcel path c.is) h among))
-      (island old face ns c.added parcel path c.is).corners.along (island old face ns c.added parcel path c.is).corners.back
-
-  pub gone-moved : AreIn table moved
-  gone-moved = moved-in old face ns c.added parcel path c.is table shown_table.ends moved c.moved_are
-
-  pub gone-kept : (f : Face) → AreIn table (items_at held (face_place f))
-  gone-kept f = fits.kept-in last parts_are table held shown_table shown_keeps f
-
-  pub gone-differ : face_place face ≢ face_place gone_face
-  gone-differ = places-differ old face ns c.added parcel path c.is
+  pub gone-can : CanTakeOut first rest face gone_face moved table held
+  gone-can = record {
+    linked = c.fits.fits.local.linked;
+    within = within old face ns c.added parcel path c.is table old_ends.1;
+    different = different old face ns c.added parcel path c.is;
+    round = ring-round last parts_are table c.fits.fits.local first rest c.is.points long gone_along
+        (All-from_each (IsShown last) path (λ h among. more-new old last path (more old face ns c.added parcel path c.is) h among))
+        (island old face ns c.added parcel path c.is).corners.along (island old face ns c.added parcel path c.is).corners.back;
+    moved_in = moved-in old face ns c.added parcel path c.is table shown_table.ends moved c.moved_are;
+    outer_in = fits.kept-in last parts_are table held shown_table shown_keeps face;
+    inner_in = fits.kept-in last parts_are table held shown_table shown_keeps gone_face;
+    differ = places-differ old face ns c.added parcel path c.is;
+    inner_room = c.inner_room;
+    outer_room = c.outer_room;
+  }
 
   pub gone-take : CanTakeStrings ns rows stars
   gone-take = record {

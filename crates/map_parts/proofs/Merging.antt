@@ -12,7 +12,7 @@ use Rattle.cad_rows.specs.declared.rows.ParcelRow.{ParcelRow}
 use Rattle.cad_rings.specs.Cycle.{Corner, turned}
 use Rattle.cad_rings.specs.Surgery.{sides_of_chain, chain_from, joined}
 use Rattle.cad_map.specs.declared.boundary.Boundary.{Boundary}
-use Rattle.cad_map.specs.Boundaries.{face_place, bounding, canonical_form}
+use Rattle.cad_map.specs.Boundaries.{bounding, canonical_form}
 use Rattle.cad_map.specs.Chain.{start_of, next_of, end_of, last_but_one, leaving}
 use Rattle.cad_map.specs.Map.{Map, has_face}
 use Rattle.cad_map.specs.Chain.{are_distinct}
@@ -22,11 +22,9 @@ use Rattle.cad_map.specs.Rings.{HasWholeRings}
 use Rattle.cad_map.specs.Valid.{EachPair, IsValid}
 use Rattle.cad_map.proofs.CallerLemmas.{IsFound, found, along-passed, pairs-from_distinct, pairs-IsPermutation, All-at_each, Contains-first, Contains-later}
 use Rattle.half_table.specs.declared.half.Half.{Half}
-use Rattle.half_table.specs.Half.{twin}
-use Rattle.half_table.specs.Rows.{HalfRows, IsLinked, next}
-use Rattle.half_paths.specs.Path.{AreIn, AreDifferent, AreElsewhere, last_of}
-use Rattle.half_paths.specs.Strung.{IsStrung}
-use Rattle.key_lists.specs.Held.{Held, items_at}
+use Rattle.half_table.specs.Rows.{HalfRows}
+use Rattle.half_paths.specs.Path.{last_of}
+use Rattle.key_lists.specs.Held.{Held}
 use Rattle.cad_laws.specs.Local.{IsShown, side_by}
 use Rattle.map_parts.specs.declared.edits.placed_strings.PlacedString.{PlacedString}
 use Rattle.map_parts.specs.declared.map_rows.MapRows.{MapRows}
@@ -35,6 +33,7 @@ use Rattle.map_parts.specs.Parts.{HasHalves}
 use Rattle.map_parts.specs.Paths.{AreAlong, HasStringsMore}
 use Rattle.map_parts.specs.Islands.{FitsTable, AreOfRings}
 use Rattle.map_parts.specs.Chains.{IsChainOf}
+use Rattle.map_parts.specs.FaceChanges.{CanBringAcross, CanTakeAcross}
 use Rattle.map_parts.specs.Handing.{KeepsEach, HaveTwoFaces}
 use Rattle.map_parts.specs.Merging.{IsMerging, merged, shared_chain, first_corner, last_corner, rings_past, CanMerge, CanUnmerge}
 use Rattle.map_parts.proofs.ChainAcross.{first-along, last-along, start-away, end-away, start-differs, path-strung, on-away, back-away, two-last, ends-last}
@@ -148,32 +147,21 @@ module _ {keeper : Face} {ended : ℕ} {strings : List ℕ} {first : Half} {rest
   more_is : HasStringsMore (merged c.is) m path
   more_is = more m keeper ended path c.is
 
-  pub made-linked : IsLinked table
-  made-linked = c.fits.fits.local.linked
-
-  pub made-within : AreIn table path
-  made-within = rows_of.within m keeper ended path c.is.tried c.is.shared table table_is.ends
-
-  pub made-different : AreDifferent path
-  made-different = rows_of.different m keeper ended path c.is.tried c.is.shared
-
-  pub made-strung : IsStrung (next table) first rest
-  made-strung = path-strung (merged c.is) m whole_is chain open_is.long (first_corner c.is) (last_corner c.is) law.corners first rest more_is table c.fits.fits.local c.leads
-
-  pub made-on_away : AreElsewhere (next table (last_of first rest)) path
-  made-on_away = on-away (merged c.is) m whole_is chain open_is.long (first_corner c.is) (last_corner c.is) law.corners first rest more_is table c.fits.fits.local c.leads
-
-  pub made-back_away : AreElsewhere (next table (twin first)) path
-  made-back_away = back-away (merged c.is) m whole_is chain open_is.long (first_corner c.is) (last_corner c.is) law.corners first rest more_is table c.fits.fits.local c.leads
-
-  pub made-moved : AreIn table moved
-  made-moved = rows_of.moved-in m keeper ended path c.is.tried c.is.shared (rings_past c.is) table table_is.ends moved c.moved_are
-
-  pub made-kept : (f : Face) → AreIn table (items_at held (face_place f))
-  made-kept f = fits.kept-in m whole_is table held table_is keeps f
-
-  pub made-differ : face_place keeper ≢ face_place (Parcel ended)
-  made-differ = rows_of.places-differ m keeper ended path c.is.tried c.is.shared
+  pub made-can : CanTakeAcross first rest keeper (Parcel ended) moved table held
+  made-can = record {
+    linked = c.fits.fits.local.linked;
+    within = rows_of.within m keeper ended path c.is.tried c.is.shared table table_is.ends;
+    different = rows_of.different m keeper ended path c.is.tried c.is.shared;
+    strung = path-strung (merged c.is) m whole_is chain open_is.long (first_corner c.is) (last_corner c.is) law.corners first rest more_is table c.fits.fits.local c.leads;
+    on_away = on-away (merged c.is) m whole_is chain open_is.long (first_corner c.is) (last_corner c.is) law.corners first rest more_is table c.fits.fits.local c.leads;
+    back_away = back-away (merged c.is) m whole_is chain open_is.long (first_corner c.is) (last_corner c.is) law.corners first rest more_is table c.fits.fits.local c.leads;
+    moved_in = rows_of.moved-in m keeper ended path c.is.tried c.is.shared (rings_past c.is) table table_is.ends moved c.moved_are;
+    outer_in = fits.kept-in m whole_is table held table_is keeps keeper;
+    inner_in = fits.kept-in m whole_is table held table_is keeps (Parcel ended);
+    faces = rows_of.places-differ m keeper ended path c.is.tried c.is.shared;
+    inner_room = c.inner_room;
+    outer_room = c.outer_room;
+  }
 
   -- the table goes with the map after it
   pub made-table : (wide : HalfRows) (put : Held Half)
@@ -241,32 +229,23 @@ module _ {keeper : Face} {row : ParcelRow} {place : ℕ} {first : Half} {rest : 
   back-ends : AllByRecursion (HasHalves table) old.strings
   back-ends = rows_of.back-ends old keeper row.number gone_path c.is.tried c.is.shared gone c.went.numbers c.went.stood table last_table.ends c.there
 
-  pub back-linked : IsLinked table
-  back-linked = c.fits.fits.local.linked
-
-  pub back-within : AreIn table gone_path
-  back-within = rows_of.within old keeper row.number gone_path c.is.tried c.is.shared table back-ends
-
-  pub back-different : AreDifferent gone_path
-  back-different = rows_of.different old keeper row.number gone_path c.is.tried c.is.shared
-
-  pub back-start : AreElsewhere start gone_path
-  back-start = start-away last old gone_path gone_more table gone_chain (first_corner c.is) (last_corner c.is) gone_law.corners gone_open.apart start end c.start_on c.end_on
-
-  pub back-end : AreElsewhere end gone_path
-  back-end = end-away last old gone_path gone_more table gone_chain (first_corner c.is) (last_corner c.is) gone_law.corners gone_open.apart start end c.start_on c.end_on
-
-  pub back-apart : start ≢ end
-  back-apart = start-differs last old gone_path gone_more table gone_chain (first_corner c.is) (last_corner c.is) gone_law.corners gone_open.apart start end c.start_on c.end_on
-
-  pub back-moved : AreIn table moved
-  back-moved = rows_of.moved-in old keeper row.number gone_path c.is.tried c.is.shared (rings_past c.is) table back-ends moved c.moved_are
-
-  pub back-kept : AreIn table (items_at held (face_place keeper))
-  back-kept = fits.kept-in last last_parts table held last_table last_keeps keeper
-
-  pub back-differ : face_place keeper ≢ face_place gone_face
-  back-differ = rows_of.places-differ old keeper row.number gone_path c.is.tried c.is.shared
+  pub back-can : CanBringAcross first rest start end keeper gone_face moved table held
+  back-can = record {
+    linked = c.fits.fits.local.linked;
+    within = rows_of.within old keeper row.number gone_path c.is.tried c.is.shared table back-ends;
+    different = rows_of.different old keeper row.number gone_path c.is.tried c.is.shared;
+    loose = c.loose;
+    start_in = c.start_on.there;
+    end_in = c.end_on.there;
+    start_away = start-away last old gone_path gone_more table gone_chain (first_corner c.is) (last_corner c.is) gone_law.corners gone_open.apart start end c.start_on c.end_on;
+    end_away = end-away last old gone_path gone_more table gone_chain (first_corner c.is) (last_corner c.is) gone_law.corners gone_open.apart start end c.start_on c.end_on;
+    differ = start-differs last old gone_path gone_more table gone_chain (first_corner c.is) (last_corner c.is) gone_law.corners gone_open.apart start end c.start_on c.end_on;
+    moved_in = rows_of.moved-in old keeper row.number gone_path c.is.tried c.is.shared (rings_past c.is) table back-ends moved c.moved_are;
+    kept_in = fits.kept-in last last_parts table held last_table last_keeps keeper;
+    faces = rows_of.places-differ old keeper row.number gone_path c.is.tried c.is.shared;
+    inner_room = c.inner_room;
+    outer_room = c.outer_room;
+  }
 
   -- the table goes with the map before it
   pub back-table : (wide : HalfRows) (put : Held Half)

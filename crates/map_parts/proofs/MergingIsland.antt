@@ -1,5 +1,5 @@
 -- A merger round an island on a map on half-edges that is made in place, and taken back.
-use Rattle.std.proofs.Common.{◌≡◌, ◌≢◌, ℕ, ◌≤◌, false, subst, List, ◌∷◌, length}
+use Rattle.std.proofs.Common.{◌≡◌, ℕ, ◌≤◌, false, subst, List, ◌∷◌, length}
 use Rattle.std.specs.List.{AllByRecursion, Contains}
 use Rattle.std.proofs.lemmas.List.Sorted.{IsPermutation-sym, Contains-permutation}
 use Rattle.cad_rows.specs.declared.names.Face.{Face}
@@ -8,15 +8,13 @@ use Rattle.cad_rows.specs.declared.rows.ParcelRow.{ParcelRow}
 use Rattle.cad_rings.specs.Cycle.{Ring, sides_of}
 use Rattle.cad_rings.proofs.CallerLemmas.{IsSameRing-length}
 use Rattle.cad_map.specs.declared.boundary.Boundary.{Boundary}
-use Rattle.cad_map.specs.Boundaries.{face_place, bounding}
+use Rattle.cad_map.specs.Boundaries.{bounding}
 use Rattle.cad_map.specs.Map.{Map, has_face}
 use Rattle.cad_map.specs.Rings.{HasWholeRings}
 use Rattle.cad_map.proofs.CallerLemmas.{All-from_each, All-at_each, Contains-first}
 use Rattle.half_table.specs.declared.half.Half.{Half}
-use Rattle.half_table.specs.Rows.{HalfRows, next}
-use Rattle.half_paths.specs.Path.{AreIn, AreDifferent}
-use Rattle.half_paths.specs.Round.{IsRound}
-use Rattle.key_lists.specs.Held.{Held, items_at}
+use Rattle.half_table.specs.Rows.{HalfRows}
+use Rattle.key_lists.specs.Held.{Held}
 use Rattle.cad_laws.specs.Local.{IsShown}
 use Rattle.cad_laws.proofs.CallerLemmas.{two-sides}
 use Rattle.map_parts.specs.declared.edits.placed_strings.PlacedString.{PlacedString}
@@ -25,6 +23,7 @@ use Rattle.map_parts.specs.declared.stars.Spoke.{Spoke}
 use Rattle.map_parts.specs.Parts.{HasHalves}
 use Rattle.map_parts.specs.Paths.{AreAlong, HasStringsMore}
 use Rattle.map_parts.specs.Islands.{FitsTable, AreOfRings, IsIslandOf}
+use Rattle.map_parts.specs.FaceChanges.{CanBringIn, CanTakeOut}
 use Rattle.map_parts.specs.Handing.{KeepsEach, HaveTwoFaces}
 use Rattle.map_parts.specs.MergingIsland.{IsMergingIsland, without_island, rings_apart, CanMergeIsland, CanUnmergeIsland}
 use Rattle.map_parts.proofs.AlongPaths.{ring-round}
@@ -73,25 +72,20 @@ module _ {keeper : Face} {ended : ℕ} {strings : List ℕ} {first : Half} {rest
   more_is : HasStringsMore (without_island c.is) m path
   more_is = rows_of.more m keeper ended path c.is.tried c.is.shared
 
-  pub made-within : AreIn table path
-  made-within = rows_of.within m keeper ended path c.is.tried c.is.shared table table_is.ends
-
-  pub made-different : AreDifferent path
-  made-different = rows_of.different m keeper ended path c.is.tried c.is.shared
-
-  pub made-round : IsRound (next table) first rest
-  made-round =
-      ring-round m whole_is table c.fits.fits.local first rest c.points (long m keeper ended c.points path c.is) c.along
-      (All-from_each (IsShown m) path (λ h among. more-new (without_island c.is) m path more_is h among)) law.corners.along law.corners.back
-
-  pub made-moved : AreIn table moved
-  made-moved = rows_of.moved-in m keeper ended path c.is.tried c.is.shared (rings_apart c.is) table table_is.ends moved c.moved_are
-
-  pub made-kept : (f : Face) → AreIn table (items_at held (face_place f))
-  made-kept f = fits.kept-in m whole_is table held table_is keeps f
-
-  pub made-differ : face_place keeper ≢ face_place (Parcel ended)
-  made-differ = rows_of.places-differ m keeper ended path c.is.tried c.is.shared
+  pub made-can : CanTakeOut first rest keeper (Parcel ended) moved table held
+  made-can = record {
+    linked = c.fits.fits.local.linked;
+    within = rows_of.within m keeper ended path c.is.tried c.is.shared table table_is.ends;
+    different = rows_of.different m keeper ended path c.is.tried c.is.shared;
+    round = ring-round m whole_is table c.fits.fits.local first rest c.points (long m keeper ended c.points path c.is) c.along
+        (All-from_each (IsShown m) path (λ h among. more-new (without_island c.is) m path more_is h among)) law.corners.along law.corners.back;
+    moved_in = rows_of.moved-in m keeper ended path c.is.tried c.is.shared (rings_apart c.is) table table_is.ends moved c.moved_are;
+    outer_in = fits.kept-in m whole_is table held table_is keeps keeper;
+    inner_in = fits.kept-in m whole_is table held table_is keeps (Parcel ended);
+    differ = rows_of.places-differ m keeper ended path c.is.tried c.is.shared;
+    inner_room = c.inner_room;
+    outer_room = c.outer_room;
+  }
 
   -- the table goes with the map after it
   pub made-table : (wide : HalfRows) (put : Held Half)
@@ -144,20 +138,18 @@ module _ {keeper : Face} {row : ParcelRow} {place : ℕ} {first : Half} {rest mo
   back-ends : AllByRecursion (HasHalves table) old.strings
   back-ends = rows_of.back-ends old keeper row.number gone_path c.is.tried c.is.shared gone c.went.numbers c.went.stood table last_table.ends c.there
 
-  pub back-within : AreIn table gone_path
-  back-within = rows_of.within old keeper row.number gone_path c.is.tried c.is.shared table back-ends
-
-  pub back-different : AreDifferent gone_path
-  back-different = rows_of.different old keeper row.number gone_path c.is.tried c.is.shared
-
-  pub back-moved : AreIn table moved
-  back-moved = rows_of.moved-in old keeper row.number gone_path c.is.tried c.is.shared (rings_apart c.is) table back-ends moved c.moved_are
-
-  pub back-kept : AreIn table (items_at held (face_place keeper))
-  back-kept = fits.kept-in last last_parts table held last_table last_keeps keeper
-
-  pub back-differ : face_place keeper ≢ face_place gone_face
-  back-differ = rows_of.places-differ old keeper row.number gone_path c.is.tried c.is.shared
+  pub back-can : CanBringIn first rest keeper gone_face moved table held
+  back-can = record {
+    linked = c.fits.fits.local.linked;
+    within = rows_of.within old keeper row.number gone_path c.is.tried c.is.shared table back-ends;
+    different = rows_of.different old keeper row.number gone_path c.is.tried c.is.shared;
+    loose = c.loose;
+    moved_in = rows_of.moved-in old keeper row.number gone_path c.is.tried c.is.shared (rings_apart c.is) table back-ends moved c.moved_are;
+    kept_in = fits.kept-in last last_parts table held last_table last_keeps keeper;
+    differ = rows_of.places-differ old keeper row.number gone_path c.is.tried c.is.shared;
+    inner_room = c.inner_room;
+    outer_room = c.outer_room;
+  }
 
   -- the table goes with the map before it
   pub back-table : (wide : HalfRows) (put : Held Half)

@@ -3,6 +3,7 @@ pub mod KeptRings
 pub mod Stars
 pub mod Parts
 pub mod Views
+pub mod FaceChanges
 pub mod Fits
 pub mod Shown
 pub mod Paths

@@ -23,6 +23,7 @@ ghost use Rattle.map_parts.specs.Parts.{HasHalves};
 ghost use Rattle.map_parts.specs.Paths.{AreAlong, HasStringsMore};
 ghost use Rattle.map_parts.specs.Relabelled.{cycles_length};
 ghost use Rattle.map_parts.specs.Islands.{FitsTable, AreOfRings};
+ghost use Rattle.map_parts.specs.FaceChanges.{CanBringAcross, CanTakeAcross};
 ghost use Rattle.map_parts.specs.Handing.{KeepsEach, HaveTwoFaces, KeepsEnds, KeepsNoMore};
 ghost use Rattle.map_parts.specs.Chains.{IsChainOf};
 ghost use Rattle.key_lists.specs.Held.{items_at, HasRoomAt, capacity_at};
@@ -144,21 +145,8 @@ pub(crate) fn bring_across<T: Tally>(
     inner: &Face,
     moved: &[Half],
 )
-    requires linked { IsLinked table.old.rows }
-    requires within { AreIn table.old.rows (first.now ∷ rest.now) }
-    requires different { AreDifferent (first.now ∷ rest.now) }
-    requires loose { AreLoose (next table.old.rows) (first.now ∷ rest.now) }
-    requires start_in { has table.old.rows start.now ≡ true }
-    requires end_in { has table.old.rows end.now ≡ true }
-    requires start_away { AreElsewhere start.now (first.now ∷ rest.now) }
-    requires end_away { AreElsewhere end.now (first.now ∷ rest.now) }
-    requires differ { start.now ≢ end.now }
-    requires moved_in { AreIn table.old.rows moved.now }
-    requires kept_in { AreIn table.old.rows (items_at kept.old (face_place_of outer.now)) }
-    requires faces { face_place_of outer.now ≢ face_place_of inner.now }
-    requires inner_room { HasRoomAt kept.old (face_place_of inner.now)
-        (length (items_at kept.old (face_place_of outer.now)) + 1) }
-    requires outer_room { HasRoomAt kept.old (face_place_of outer.now) 1 }
+    requires { CanBringAcross first.now rest.now start.now end.now outer.now inner.now
+        moved.now table.old.rows kept.old }
 
     // A table that goes with a map goes with the map that has the chain more, and so do the kept
     // halves.
@@ -211,22 +199,8 @@ pub(crate) fn take_across<T: Tally>(
     inner: &Face,
     moved: &[Half],
 )
-    requires linked { IsLinked table.old.rows }
-    requires within { AreIn table.old.rows (first.now ∷ rest.now) }
-    requires different { AreDifferent (first.now ∷ rest.now) }
-    requires strung { IsStrung (next table.old.rows) first.now rest.now }
-    requires on_away { AreElsewhere (next table.old.rows (last_of first.now rest.now))
-        (first.now ∷ rest.now) }
-    requires back_away { AreElsewhere (next table.old.rows (twin first.now))
-        (first.now ∷ rest.now) }
-    requires moved_in { AreIn table.old.rows moved.now }
-    requires outer_in { AreIn table.old.rows (items_at kept.old (face_place_of outer.now)) }
-    requires inner_in { AreIn table.old.rows (items_at kept.old (face_place_of inner.now)) }
-    requires faces { face_place_of outer.now ≢ face_place_of inner.now }
-    requires inner_room { HasRoomAt kept.old (face_place_of inner.now)
-        (length (items_at kept.old (face_place_of outer.now))) }
-    requires outer_room { HasRoomAt kept.old (face_place_of outer.now)
-        (length (items_at kept.old (face_place_of inner.now)) + 1) }
+    requires { CanTakeAcross first.now rest.now outer.now inner.now moved.now table.old.rows
+        kept.old }
 
     // A table that goes with a map with a chain more goes with the map without it, and so do the
     // kept halves.

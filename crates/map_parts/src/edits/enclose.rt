@@ -19,6 +19,7 @@ ghost use Rattle.map_parts.specs.Parts.{HasHalves};
 ghost use Rattle.map_parts.specs.Paths.{AreAlong, HasStringsMore};
 ghost use Rattle.map_parts.specs.Relabelled.{cycles_length};
 ghost use Rattle.map_parts.specs.Islands.{FitsTable, AreOfRings, IsIslandOf};
+ghost use Rattle.map_parts.specs.FaceChanges.{CanBringIn, CanTakeOut};
 ghost use Rattle.map_parts.specs.Handing.{KeepsEach, HaveTwoFaces, KeepsEnds, KeepsNoMore};
 
 use crate::edits::handing::{clear, hand_over};
@@ -41,16 +42,8 @@ pub(crate) fn bring_in<T: Tally>(
     inner: &Face,
     moved: &[Half],
 )
-    requires linked { IsLinked table.old.rows }
-    requires within { AreIn table.old.rows (first.now ∷ rest.now) }
-    requires different { AreDifferent (first.now ∷ rest.now) }
-    requires loose { AreLoose (next table.old.rows) (first.now ∷ rest.now) }
-    requires moved_in { AreIn table.old.rows moved.now }
-    requires kept_in { AreIn table.old.rows (items_at kept.old (face_place_of outer.now)) }
-    requires differ { face_place_of outer.now ≢ face_place_of inner.now }
-    requires inner_room { HasRoomAt kept.old (face_place_of inner.now)
-        (length (items_at kept.old (face_place_of outer.now)) + 1) }
-    requires outer_room { HasRoomAt kept.old (face_place_of outer.now) 1 }
+    requires { CanBringIn first.now rest.now outer.now inner.now moved.now table.old.rows
+        kept.old }
 
     // A table that goes with a map goes with that map and the island, and so do the kept halves.
     ensures island { (whole parted : Map) (ring : Ring) (left right : BoundaryOf) (others : List BoundaryOf)
@@ -94,18 +87,8 @@ pub(crate) fn take_out<T: Tally>(
     inner: &Face,
     moved: &[Half],
 )
-    requires linked { IsLinked table.old.rows }
-    requires within { AreIn table.old.rows (first.now ∷ rest.now) }
-    requires different { AreDifferent (first.now ∷ rest.now) }
-    requires round { IsRound (next table.old.rows) first.now rest.now }
-    requires moved_in { AreIn table.old.rows moved.now }
-    requires outer_in { AreIn table.old.rows (items_at kept.old (face_place_of outer.now)) }
-    requires inner_in { AreIn table.old.rows (items_at kept.old (face_place_of inner.now)) }
-    requires differ { face_place_of outer.now ≢ face_place_of inner.now }
-    requires inner_room { HasRoomAt kept.old (face_place_of inner.now)
-        (length (items_at kept.old (face_place_of outer.now))) }
-    requires outer_room { HasRoomAt kept.old (face_place_of outer.now)
-        (length (items_at kept.old (face_place_of inner.now))) }
+    requires { CanTakeOut first.now rest.now outer.now inner.now moved.now table.old.rows
+        kept.old }
 
     // A table that goes with a map and an island goes with the map without it, and so do the kept
     // halves.

@@ -9,42 +9,18 @@ use Rattle.map_parts.proofs.Dividing as it
 use Rattle.map_parts.proofs.edits.dividing.divide.Goals as goal
 
 pub bring_across-requires : goal.bring_across-requires
-bring_across-requires g c =
-    let face = c.args.face.now in
-    let added = c.args.strings.items in
-    let rows = c.args.rows.now in
-    let table = c.args.table.now.rows in
-    let inner_room = c.requires.inner_room in
-    let outer_room = c.requires.outer_room in
-    record {
-      linked = c.requires.fits.fits.local.linked;
-      within = it.made-within face added c.args.parcel c.args.first.now c.args.rest.now c.args.start.now c.args.end.now c.args.moved.now rows table c.args.kept.now c.args.stars.now c.requires;
-      different = it.made-different face added c.args.parcel c.args.first.now c.args.rest.now c.args.start.now c.args.end.now c.args.moved.now rows table c.args.kept.now c.args.stars.now c.requires;
-      loose = c.requires.loose;
-      start_in = c.requires.start_on.there;
-      end_in = c.requires.end_on.there;
-      start_away = it.made-start face added c.args.parcel c.args.first.now c.args.rest.now c.args.start.now c.args.end.now c.args.moved.now rows table c.args.kept.now c.args.stars.now c.requires;
-      end_away = it.made-end face added c.args.parcel c.args.first.now c.args.rest.now c.args.start.now c.args.end.now c.args.moved.now rows table c.args.kept.now c.args.stars.now c.requires;
-      differ = it.made-apart face added c.args.parcel c.args.first.now c.args.rest.now c.args.start.now c.args.end.now c.args.moved.now rows table c.args.kept.now c.args.stars.now c.requires;
-      moved_in = it.made-moved face added c.args.parcel c.args.first.now c.args.rest.now c.args.start.now c.args.end.now c.args.moved.now rows table c.args.kept.now c.args.stars.now c.requires;
-      kept_in = it.made-kept face added c.args.parcel c.args.first.now c.args.rest.now c.args.start.now c.args.end.now c.args.moved.now rows table c.args.kept.now c.args.stars.now c.requires;
-      faces = it.made-differ face added c.args.parcel c.args.first.now c.args.rest.now c.args.start.now c.args.end.now c.args.moved.now rows table c.args.kept.now c.args.stars.now c.requires;
-      inner_room = omega (arith, inner_room);
-      outer_room = omega (arith, outer_room);
-    }
+bring_across-requires g c = it.made-can c.requires
 
 pub put_strings-requires : goal.put_strings-requires
 put_strings-requires g c =
-    it.made-put c.args.face.now c.args.strings.items c.args.parcel c.args.first.now c.args.rest.now c.args.start.now c.args.end.now c.args.moved.now c.args.rows.now c.args.table.now.rows
-    c.args.kept.now c.args.stars.now c.requires
+    it.made-put c.requires
 
 pub put_last-requires : goal.put_last-requires
 put_last-requires g c = record {
   slot = c.put_strings.ensures.parcels c.args.parcel.number c.requires.parcel_slot;
   absent =
       ap (λ (q : Map). parcel_of q c.args.parcel.number) c.put_strings.ensures.rows
-      ∙ it.made-parcel c.args.face.now c.args.strings.items c.args.parcel c.args.first.now c.args.rest.now c.args.start.now c.args.end.now c.args.moved.now c.args.rows.now
-      c.args.table.now.rows c.args.kept.now c.args.stars.now c.requires;
+      ∙ it.made-parcel c.requires;
 }
 
 pub returns-clause-fits : goal.returns-clause-fits
@@ -53,10 +29,8 @@ returns-clause-fits g c = λ can.
     let new : MapRows = record mid { parcels = c.put_last.new.self } in
     let wide = c.bring_across.new.table.rows in
     let put = c.bring_across.new.kept in
-    it.made-fits c.args.face.now c.args.strings.items c.args.parcel c.args.first.now c.args.rest.now c.args.start.now c.args.end.now c.args.moved.now c.args.rows.now
-    c.args.table.now.rows c.args.kept.now c.args.stars.now can new wide put c.put_strings.new.stars
-    (it.made-table c.args.face.now c.args.strings.items c.args.parcel c.args.first.now c.args.rest.now c.args.start.now c.args.end.now c.args.moved.now c.args.rows.now
-    c.args.table.now.rows c.args.kept.now c.args.stars.now can wide put c.bring_across.ensures.chain)
+    it.made-fits can new wide put c.put_strings.new.stars
+    (it.made-table can wide put c.bring_across.ensures.chain)
     (ap (λ (l : List ParcelRow). record (map_in mid) { parcels = l }) c.put_last.ensures.rows
     ∙ ap (λ (q : Map). record q { parcels = q.parcels ++ c.args.parcel ∷ [] }) c.put_strings.ensures.rows)
     c.put_strings.ensures.stars
@@ -74,6 +48,5 @@ returns-clause-outer_room g c =
     let cap = c.bring_across.ensures.capacity (face_place c.args.face.now) in
     let room = c.requires.outer_room in
     let none =
-    ap length (it.made-none c.args.face.now c.args.strings.items c.args.parcel c.args.first.now c.args.rest.now c.args.start.now c.args.end.now c.args.moved.now c.args.rows.now
-    c.args.table.now.rows c.args.kept.now c.args.stars.now c.requires) in
+    ap length (it.made-none c.requires) in
     omega (arith, count, cap, room, none)

@@ -1,6 +1,5 @@
 use Rattle.std.proofs.Common.{ℕ, List, sym, ap, subst, ◌∙◌}
 use Rattle.std.specs.Prelude.{IsSome}
-use Rattle.cad_rows.specs.declared.names.Face.TheVariants.{Parcel}
 use Rattle.cad_rows.specs.declared.rows.ParcelRow.{ParcelRow}
 use Rattle.cad_map.specs.Map.{Map, parcel_of}
 use Rattle.cad_map.specs.Table.{without_row}
@@ -10,29 +9,16 @@ use Rattle.map_parts.proofs.Dividing as it
 use Rattle.map_parts.proofs.edits.dividing.undivide.Goals as goal
 
 pub take_across-requires : goal.take_across-requires
-take_across-requires g c = record {
-  linked = it.gone-linked c.args.face.now c.args.strings.now c.args.parcel c.args.first.now c.args.rest.now c.args.moved.now c.args.rows.now c.args.table.now.rows c.args.kept.now c.args.stars.now c.requires;
-  within = it.gone-within c.args.face.now c.args.strings.now c.args.parcel c.args.first.now c.args.rest.now c.args.moved.now c.args.rows.now c.args.table.now.rows c.args.kept.now c.args.stars.now c.requires;
-  different = it.gone-different c.args.face.now c.args.strings.now c.args.parcel c.args.first.now c.args.rest.now c.args.moved.now c.args.rows.now c.args.table.now.rows c.args.kept.now c.args.stars.now c.requires;
-  strung = it.gone-strung c.args.face.now c.args.strings.now c.args.parcel c.args.first.now c.args.rest.now c.args.moved.now c.args.rows.now c.args.table.now.rows c.args.kept.now c.args.stars.now c.requires;
-  on_away = it.gone-on_away c.args.face.now c.args.strings.now c.args.parcel c.args.first.now c.args.rest.now c.args.moved.now c.args.rows.now c.args.table.now.rows c.args.kept.now c.args.stars.now c.requires;
-  back_away = it.gone-back_away c.args.face.now c.args.strings.now c.args.parcel c.args.first.now c.args.rest.now c.args.moved.now c.args.rows.now c.args.table.now.rows c.args.kept.now c.args.stars.now c.requires;
-  moved_in = it.gone-moved c.args.face.now c.args.strings.now c.args.parcel c.args.first.now c.args.rest.now c.args.moved.now c.args.rows.now c.args.table.now.rows c.args.kept.now c.args.stars.now c.requires;
-  outer_in = it.gone-kept c.args.face.now c.args.strings.now c.args.parcel c.args.first.now c.args.rest.now c.args.moved.now c.args.rows.now c.args.table.now.rows c.args.kept.now c.args.stars.now c.requires c.args.face.now;
-  inner_in = it.gone-kept c.args.face.now c.args.strings.now c.args.parcel c.args.first.now c.args.rest.now c.args.moved.now c.args.rows.now c.args.table.now.rows c.args.kept.now c.args.stars.now c.requires (Parcel c.args.parcel);
-  faces = it.gone-differ c.args.face.now c.args.strings.now c.args.parcel c.args.first.now c.args.rest.now c.args.moved.now c.args.rows.now c.args.table.now.rows c.args.kept.now c.args.stars.now c.requires;
-  inner_room = c.requires.inner_room;
-  outer_room = c.requires.outer_room;
-}
+take_across-requires g c = it.gone-can c.requires
 
 pub take_strings-requires : goal.take_strings-requires
 take_strings-requires g c =
-    it.gone-take c.args.face.now c.args.strings.now c.args.parcel c.args.first.now c.args.rest.now c.args.moved.now c.args.rows.now c.args.table.now.rows c.args.kept.now c.args.stars.now c.requires
+    it.gone-take c.requires
 
 pub take_there-requires : goal.take_there-requires
 take_there-requires g c =
     subst (λ (v : ℕ × Map). IsSome (parcel_of v.1 v.0)) (λ i. (sym c.get.ensures.value i, sym c.take_strings.ensures.rows i))
-    (it.gone-parcel c.args.face.now c.args.strings.now c.args.parcel c.args.first.now c.args.rest.now c.args.moved.now c.args.rows.now c.args.table.now.rows c.args.kept.now c.args.stars.now c.requires)
+    (it.gone-parcel c.requires)
 
 pub returns-clause-fits : goal.returns-clause-fits
 returns-clause-fits g c = λ can.
@@ -40,9 +26,9 @@ returns-clause-fits g c = λ can.
     let new : MapRows = record mid { parcels = c.take_there.new.self } in
     let wide = c.take_across.new.table.rows in
     let put = c.take_across.new.kept in
-    it.gone-fits c.args.face.now c.args.strings.now c.args.parcel c.args.first.now c.args.rest.now c.args.moved.now c.args.rows.now c.args.table.now.rows c.args.kept.now c.args.stars.now can new
+    it.gone-fits can new
     wide put c.take_strings.new.stars
-    (it.gone-table c.args.face.now c.args.strings.now c.args.parcel c.args.first.now c.args.rest.now c.args.moved.now c.args.rows.now c.args.table.now.rows c.args.kept.now c.args.stars.now can
+    (it.gone-table can
     wide put c.take_across.ensures.chain)
     (ap (λ (l : List ParcelRow). record (map_in mid) { parcels = l })
     (c.take_there.ensures.rows ∙ ap (λ (n : ℕ). without_row (λ (r : ParcelRow). r.number) n (rows_in mid.parcels)) c.get.ensures.value)

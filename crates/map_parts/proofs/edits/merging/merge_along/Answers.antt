@@ -1,26 +1,10 @@
 use Rattle.std.proofs.Common.{◌∷◌}
-use Rattle.cad_rows.specs.declared.names.Face.TheVariants.{Parcel}
 use Rattle.map_parts.proofs.MergedRows as rows_of
 use Rattle.map_parts.proofs.Merging as it
 use Rattle.map_parts.proofs.edits.merging.merge_along.Goals as goal
 
 pub take_across-requires : goal.take_across-requires
-take_across-requires g c =
-    let can = c.requires.can in
-    record {
-      linked = it.made-linked can;
-      within = it.made-within can;
-      different = it.made-different can;
-      strung = it.made-strung can;
-      on_away = it.made-on_away can;
-      back_away = it.made-back_away can;
-      moved_in = it.made-moved can;
-      outer_in = it.made-kept can c.args.keeper.now;
-      inner_in = it.made-kept can (Parcel c.args.ended);
-      faces = it.made-differ can;
-      inner_room = can.inner_room;
-      outer_room = can.outer_room;
-    }
+take_across-requires g c = it.made-can c.requires.can
 
 pub take_ended-requires-clause-can : goal.take_ended-requires-clause-can
 take_ended-requires-clause-can g c =

@@ -4,24 +4,7 @@ use Rattle.map_parts.proofs.Merging as it
 use Rattle.map_parts.proofs.edits.merging.unmerge_along.Goals as goal
 
 pub bring_across-requires : goal.bring_across-requires
-bring_across-requires g c =
-    let can = c.requires in
-    record {
-      linked = can.fits.fits.local.linked;
-      within = it.back-within can;
-      different = it.back-different can;
-      loose = can.loose;
-      start_in = can.start_on.there;
-      end_in = can.end_on.there;
-      start_away = it.back-start can;
-      end_away = it.back-end can;
-      differ = it.back-apart can;
-      moved_in = it.back-moved can;
-      kept_in = it.back-kept can;
-      faces = it.back-differ can;
-      inner_room = can.inner_room;
-      outer_room = can.outer_room;
-    }
+bring_across-requires g c = it.back-can c.requires
 
 pub put_ended-requires : goal.put_ended-requires
 put_ended-requires g c =

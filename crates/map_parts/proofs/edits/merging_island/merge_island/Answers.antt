@@ -1,24 +1,10 @@
 use Rattle.std.proofs.Common.{◌∷◌}
-use Rattle.cad_rows.specs.declared.names.Face.TheVariants.{Parcel}
 use Rattle.map_parts.proofs.MergedRows as rows_of
 use Rattle.map_parts.proofs.MergingIsland as it
 use Rattle.map_parts.proofs.edits.merging_island.merge_island.Goals as goal
 
 pub take_out-requires : goal.take_out-requires
-take_out-requires g c =
-    let can = c.requires.can in
-    record {
-      linked = can.fits.fits.local.linked;
-      within = it.made-within can;
-      different = it.made-different can;
-      round = it.made-round can;
-      moved_in = it.made-moved can;
-      outer_in = it.made-kept can c.args.keeper.now;
-      inner_in = it.made-kept can (Parcel c.args.ended);
-      differ = it.made-differ can;
-      inner_room = can.inner_room;
-      outer_room = can.outer_room;
-    }
+take_out-requires g c = it.made-can c.requires.can
 
 pub take_ended-requires-clause-can : goal.take_ended-requires-clause-can
 take_ended-requires-clause-can g c =

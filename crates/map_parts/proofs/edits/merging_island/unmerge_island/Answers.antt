@@ -4,19 +4,7 @@ use Rattle.map_parts.proofs.MergingIsland as it
 use Rattle.map_parts.proofs.edits.merging_island.unmerge_island.Goals as goal
 
 pub bring_in-requires : goal.bring_in-requires
-bring_in-requires g c =
-    let can = c.requires in
-    record {
-      linked = can.fits.fits.local.linked;
-      within = it.back-within can;
-      different = it.back-different can;
-      loose = can.loose;
-      moved_in = it.back-moved can;
-      kept_in = it.back-kept can;
-      differ = it.back-differ can;
-      inner_room = can.inner_room;
-      outer_room = can.outer_room;
-    }
+bring_in-requires g c = it.back-can c.requires
 
 pub put_ended-requires : goal.put_ended-requires
 put_ended-requires g c =
