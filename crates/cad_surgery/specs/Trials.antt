@@ -59,5 +59,5 @@ pub record IsTakenBack {A E : Type 0} (Was : Map → Type 0) (old new : Parts) (
   pub grid : new.grid ≡ old.grid
   -- the table is the map's again
   pub proper : IsProper (map_of new) new.table.rows (kept_at new)
-  -- the work on it is small
+  -- the work on it stays within the bound of that edit
   pub work : (m : Map) → Was m → TakesWork old.table new.table (work_bound m (map_of old))
