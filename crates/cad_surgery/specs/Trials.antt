@@ -29,7 +29,8 @@ pub record IsReadyFor (e : Edit) (d : Parts) (listed : Touched) : Type 0 where
   pub proper : IsProper (map_of d) d.table.rows (kept_at d)
 
 -- The edit is made with its record, or it is refused and the map stays.
-pub record IsTrialOf (e : Edit) (old new : Parts) (result : Result SmallRecord Refusal) : Type 0 where
+pub record IsTrialOf (e : Edit) (old new : Parts) (result : Result SmallRecord Refusal)
+    : Type 0 where
   -- the map is the one after the edit
   pub made : OnOk result (map_of new ≡ after (map_of old) e)
   -- which keeps the rules
@@ -50,7 +51,8 @@ pub record IsTrialOf (e : Edit) (old new : Parts) (result : Result SmallRecord R
   pub work : TakesWork old.table new.table (work_bound (map_of old) (after (map_of old) e))
 
 -- An edit is taken back, to whichever map it was made on, or there is no memory and the map stays.
-pub record IsTakenBack {A E : Type 0} (Was : Map → Type 0) (old new : Parts) (result : Result A E) : Type 0 where
+pub record IsTakenBack {A E : Type 0} (Was : Map → Type 0) (old new : Parts) (result : Result A E)
+    : Type 0 where
   -- the map is the one before the edit
   pub before : OnOk result ((m : Map) → Was m → map_of new ≡ m)
   -- an error leaves the map
