@@ -38,7 +38,7 @@ use Rattle.map_parts.specs.Handing.{KeepsEach, HaveTwoFaces}
 use Rattle.map_parts.specs.Splitting.{FitMap, AreStarsOf}
 use Rattle.map_parts.specs.StringRows.{without_rows}
 use Rattle.map_parts.specs.PlacedStrings.{numbers_placed, StoodIn}
-use Rattle.map_parts.specs.Merging.{CanComeBack, CanEnd, HaveGone, HaveRoomBack, without_ended}
+use Rattle.map_parts.specs.Merging.{CanComeBack, CanEnd, HaveGone, StoodThere, HaveRoomBack, without_ended}
 use Rattle.map_parts.proofs.AddedStrings.{numbers-distinct}
 use Rattle.map_parts.proofs.EachFits as fits
 use Rattle.map_parts.proofs.MergedChain.{merged-face, faces-apart}
@@ -237,7 +237,7 @@ module _ (old : Map) (keeper : Face) (ended : ℕ) (gone_path : List Half) (trie
 
 module _ (old : Map) (keeper : Face) {row : ParcelRow} {place : ℕ} (gone_path : List Half) (tried : IsTried old (Merge keeper (Parcel row.number)))
     (shared : IsPermutation (numbers_of (shared_strings old keeper (Parcel row.number))) (strings_of gone_path))
-    {gone : List PlacedString} (went : HaveGone old row.number (strings_of gone_path) row place gone)
+    {gone : List PlacedString} (went : StoodThere old (strings_of gone_path) row place gone)
     {rows : MapRows} {table : HalfRows} {held : Held Half} {stars : Held Spoke} (fit : FitMap (after old (Merge keeper (Parcel row.number))) rows table held stars)
     (room : HaveRoomBack row gone rows stars) where
   abbrev whole_rings : HasWholeRings old

@@ -76,7 +76,7 @@ module _ {keeper : Face} {row : ParcelRow} {place : ℕ} {strings : List ℕ} {p
           start_on = record { there = halves.has start ∙ start_on.there; shown = start_on.shown; side = side-same table wide halves.origin start ∙ start_on.side };
           end_on = record { there = halves.has end ∙ end_on.there; shown = end_on.shown; side = side-same table wide halves.origin end ∙ end_on.side };
           moved_are = of-same table wide halves.origin c.map moved (Parcel row.number) (rings_past c.is) c.moved_are;
-          went = record { row = before.row; found = before.found; numbers = before.numbers ∙ c.strings_are; stood = before.stood };
+          went = record { row = before.row; numbers = before.numbers ∙ c.strings_are; stood = before.stood };
           room = room;
           inner_room = inner_room;
           outer_room = outer_room;

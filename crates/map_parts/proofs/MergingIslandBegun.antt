@@ -74,7 +74,7 @@ module _ {keeper : Face} {row : ParcelRow} {place : ℕ} {strings : List ℕ} {p
           loose = loose;
           along = along-same table wide halves.origin path (sides_of c.points) c.along;
           moved_are = of-same table wide halves.origin c.map moved (Parcel row.number) (rings_apart c.is) c.moved_are;
-          went = record { row = before.row; found = before.found; numbers = before.numbers ∙ c.strings_are; stood = before.stood };
+          went = record { row = before.row; numbers = before.numbers ∙ c.strings_are; stood = before.stood };
           room = room;
           inner_room = inner_room;
           outer_room = outer_room;

@@ -24,7 +24,6 @@ use Rattle.half_paths.specs.Loose.{AddsStrings, AreNew, HasEnds, numbers_of, is_
 use Rattle.entry_list.specs.Slots.{HasSlot}
 use Rattle.key_lists.specs.Held.{Held, IsSame, items_at, HasRoomAt}
 use Rattle.cad_laws.specs.Local.{side_by}
-use Rattle.cad_laws.proofs.CallerLemmas.{found-at}
 use Rattle.map_parts.specs.declared.edits.placed_strings.PlacedString.{PlacedString}
 use Rattle.map_parts.specs.declared.map_rows.MapRows.{MapRows}
 use Rattle.map_parts.specs.declared.stars.Spoke.{Spoke}
@@ -277,7 +276,6 @@ module _ {keeper : Face} {row : ParcelRow} {place : ℕ} {path : List Half} {sta
         };
         went = record {
           row = c.at;
-          found = found-at (λ (p : ParcelRow). p.number) c.map.parcels place row (rows_of.whole c.map keeper row.number path c.is.tried c.is.shared).v1.parcels.distinct c.at;
           numbers = c.numbers_are;
           stood = c.stood;
         };

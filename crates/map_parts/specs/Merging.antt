@@ -113,6 +113,15 @@ sides_led (h ∷ path) (r ∷ rows) =
     (if h.forward then side_of r else opposite (side_of r)) ∷ sides_led path rows
 sides_led path rows = []
 
+-- A parcel and strings stood in the rows of a map, each at its place.
+pub record StoodThere (m : Map) (strings : List ℕ) (parcel : ParcelRow) (place : ℕ) (gone : List PlacedString) : Type 0 where
+  -- the parcel's row stood at the place
+  pub row : slice_get m.parcels place ≡ Some parcel
+  -- the strings are these, in this order
+  pub numbers : numbers_placed gone ≡ strings
+  -- each stood at its place when those before it were out
+  pub stood : StoodIn m.strings gone
+
 -- A parcel and strings went from the rows of a map, and these are their rows, with their places.
 pub record HaveGone (m : Map) (ended : ℕ) (strings : List ℕ) (parcel : ParcelRow) (place : ℕ) (gone : List PlacedString) : Type 0 where
   -- the parcel's row stood at the place
@@ -176,7 +185,7 @@ pub record CanUnmerge (keeper : Face) (row : ParcelRow) (place : ℕ) (path : Li
   pub start_on : IsAlong (merged is) table (leaving (first_corner is)) start
   pub end_on : IsAlong (merged is) table (leaving (last_corner is)) end
   pub moved_are : AreOfRings map table moved (Parcel row.number) (rings_past is)
-  pub went : HaveGone map row.number (strings_of path) row place gone
+  pub went : StoodThere map (strings_of path) row place gone
   pub room : HaveRoomBack row gone rows stars
   pub inner_room : HasRoomAt held (face_place (Parcel row.number)) (length (items_at held (face_place keeper)) + 1)
   pub outer_room : HasRoomAt held (face_place keeper) 1

@@ -26,7 +26,7 @@ use Rattle.map_parts.specs.declared.stars.Spoke.{Spoke}
 use Rattle.map_parts.specs.Parts.{HasHalves}
 use Rattle.map_parts.specs.Paths.{AreAlong}
 use Rattle.map_parts.specs.Islands.{AreOfRings, IsTakenIsland}
-use Rattle.map_parts.specs.Merging.{rows_gone, sides_led, HaveGone, HaveRoomBack}
+use Rattle.map_parts.specs.Merging.{rows_gone, sides_led, StoodThere, HaveRoomBack}
 use Rattle.map_parts.specs.PlacedStrings.{numbers_placed, StoodIn}
 use Rattle.map_parts.specs.Splitting.{FitMap}
 
@@ -90,7 +90,7 @@ pub record CanUnmergeIsland (keeper : Face) (row : ParcelRow) (place : ℕ) (pat
   pub loose : AreLoose (next table) path
   pub along : AreAlong table path (sides_of points)
   pub moved_are : AreOfRings map table moved (Parcel row.number) (rings_apart is)
-  pub went : HaveGone map row.number (strings_of path) row place gone
+  pub went : StoodThere map (strings_of path) row place gone
   pub room : HaveRoomBack row gone rows stars
   pub inner_room : HasRoomAt held (face_place (Parcel row.number)) (length (items_at held (face_place keeper)) + 1)
   pub outer_room : HasRoomAt held (face_place keeper) 1
