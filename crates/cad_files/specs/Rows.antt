@@ -38,7 +38,7 @@ pub record HasOneMore (old new : Rows) : Type 0 where
 pub record IsPut {E : Type 0} (result : Result Unit E) (old new put : Rows) : Type 0 where
   -- the rows with it
   pub ok : OnOk result (new ≡ put)
-  -- there was no memory
+  -- where there is no memory they stay as they were
   pub err : OnErr result (new ≡ old)
   -- it is one row more
   pub more : OnOk result (HasOneMore old new)
