@@ -4,6 +4,7 @@ use Rattle.std.proofs.lemmas.Bool.Decides.{Decides-eqb}
 use Rattle.std.specs.Bool.{beq}
 use Rattle.std.specs.Map.{lookup}
 use Rattle.std.specs.Option.{option_map_or}
+use Rattle.indexmap.specs.IndexMap.{IndexMap, Updates}
 use Rattle.cad_rows.specs.declared.names.Face.{Face}
 use Rattle.cad_rows.specs.declared.names.Face.TheVariants.{Outside}
 use Rattle.half_table.specs.declared.half.Half.{Half}
@@ -50,14 +51,27 @@ pub written : (old new : HalfRows) (h : Half) (to : Links) (e : Ends) → lookup
     → strings new ≡ strings old → ChangesLinks h to old new
 written old new h to e there put same = record { strings = same; links = changed-put old new h to e there put }
 
-module _ (old new : HalfRows) (h : Half) (l to : Links) (there : links_of old h ≡ Some l) (put : (g : Half) → links_of new g ≡ changed_at h to (links_of old) g) where
+-- the links of a half, and others in their place
+abbrev pub Writes : HalfRows → HalfRows → Half → Links → Links → Type 0
+Writes old new h l to = (links_of old h ≡ Some l) × ChangesLinks h to old new
+
+-- of a half whose ends were written anew in a table of rows
+module _ {S : Type 0} (rows after : IndexMap ℕ Ends S) (h : Half) (e put : Ends) (there : lookup (nat_eq h.string) rows.entries ≡ Some e)
+    (updated : Updates nat_eq rows after h.string (Some put)) (same : strings after.entries ≡ strings rows.entries) where
+  pub rewritten : (l to : Links) → l ≡ links_at h.forward e → put ≡ with_links_at h.forward to e → Writes rows.entries after.entries h l to
+  rewritten l to was is = (
+    ap (option_map (links_at h.forward)) there ∙ ap Some (sym was),
+    written rows.entries after.entries h to e there (λ q. updated.0 q ∙ ap (λ (e : Ends). cond (nat_eq h.string q) (Some e) (lookup (nat_eq q) rows.entries)) is) same,
+  )
+
+module _ {old new : HalfRows} {h : Half} {l to : Links} (w : Writes old new h l to) where
   -- what the change leaves
   left : {V : Type 0} (F : Option Links → V) (g : Half) → F (Some to) ≡ F (Some l) → F (links_of new g) ≡ F (links_of old g)
   left F g same =
       elim (cases_half g h) [
-        | inl e ↦ ap F (put g) ∙ ap (λ b. F (if b then Some to else links_of old g)) (subst (λ x. is_half g x ≡ true) e (is_half-self g)) ∙ same
-            ∙ ap F (sym there) ∙ ap (λ x. F (links_of old x)) (sym e)
-        | inr ne ↦ ap F (put g) ∙ ap (λ b. F (if b then Some to else links_of old g)) ne
+        | inl e ↦ ap F (w.1.links g) ∙ ap (λ b. F (if b then Some to else links_of old g)) (subst (λ x. is_half g x ≡ true) e (is_half-self g)) ∙ same
+            ∙ ap F (sym w.0) ∙ ap (λ x. F (links_of old x)) (sym e)
+        | inr ne ↦ ap F (w.1.links g) ∙ ap (λ b. F (if b then Some to else links_of old g)) ne
       ]
 
   push : {V : Type 0} (F : Option Links → V) (b : Bool) (x : Option Links) → F (if b then Some to else x) ≡ (if b then F (Some to) else F x)
@@ -66,65 +80,29 @@ module _ (old new : HalfRows) (h : Half) (l to : Links) (there : links_of old h 
 
   -- what it changes
   made : {V : Type 0} (F : Option Links → V) (g : Half) → F (links_of new g) ≡ (if is_half g h then F (Some to) else F (links_of old g))
-  made F g = ap F (put g) ∙ push F (is_half g h) (links_of old g)
+  made F g = ap F (w.1.links g) ∙ push F (is_half g h) (links_of old g)
 
-module _ (old new : HalfRows) (h : Half) (l : Links) (held : links_of old h ≡ Some l) where
-  abbrev next_at : Half → Option Links → Half
-  next_at g o = option_map_or (λ l. l.next) o g
+abbrev next_at : Half → Option Links → Half
+next_at g o = option_map_or (λ l. l.next) o g
 
-  abbrev prev_at : Half → Option Links → Half
-  prev_at g o = option_map_or (λ l. l.prev) o g
+abbrev prev_at : Half → Option Links → Half
+prev_at g o = option_map_or (λ l. l.prev) o g
 
-  abbrev origin_at : Option Links → ℕ
-  origin_at o = option_map_or (λ l. l.origin) o 0
+abbrev origin_at : Option Links → ℕ
+origin_at o = option_map_or (λ l. l.origin) o 0
 
-  abbrev face_at : Option Links → Face
-  face_at o = option_map_or (λ l. l.face) o Outside
+abbrev face_at : Option Links → Face
+face_at o = option_map_or (λ l. l.face) o Outside
 
-  pub next-put : (to : Half) → ChangesLinks h (record l { next = to }) old new → ChangesNext h to old new
-  next-put to c =
-      let t : Links = record l { next = to } in
-      record {
-        strings = c.strings;
-        has = λ g. left old new h l t held c.links is_some g refl;
-        next = λ g. made old new h l t held c.links (next_at g) g;
-        prev = λ g. left old new h l t held c.links (prev_at g) g refl;
-        origin = λ g. left old new h l t held c.links origin_at g refl;
-        face = λ g. left old new h l t held c.links face_at g refl;
-      }
+module _ (old new : HalfRows) (h : Half) (l : Links) where
+  pub next-put : (to : Half) → Writes old new h l (record l { next = to }) → ChangesNext h to old new
+  next-put to w = record { strings = w.1.strings; has = λ g. left w is_some g refl; next = λ g. made w (next_at g) g; prev = λ g. left w (prev_at g) g refl; origin = λ g. left w origin_at g refl; face = λ g. left w face_at g refl }
 
-  pub prev-put : (to : Half) → ChangesLinks h (record l { prev = to }) old new → ChangesPrev h to old new
-  prev-put to c =
-      let t : Links = record l { prev = to } in
-      record {
-        strings = c.strings;
-        has = λ g. left old new h l t held c.links is_some g refl;
-        next = λ g. left old new h l t held c.links (next_at g) g refl;
-        prev = λ g. made old new h l t held c.links (prev_at g) g;
-        origin = λ g. left old new h l t held c.links origin_at g refl;
-        face = λ g. left old new h l t held c.links face_at g refl;
-      }
+  pub prev-put : (to : Half) → Writes old new h l (record l { prev = to }) → ChangesPrev h to old new
+  prev-put to w = record { strings = w.1.strings; has = λ g. left w is_some g refl; next = λ g. left w (next_at g) g refl; prev = λ g. made w (prev_at g) g; origin = λ g. left w origin_at g refl; face = λ g. left w face_at g refl }
 
-  pub face-put : (to : Face) → ChangesLinks h (record l { face = to }) old new → ChangesFace h to old new
-  face-put to c =
-      let t : Links = record l { face = to } in
-      record {
-        strings = c.strings;
-        has = λ g. left old new h l t held c.links is_some g refl;
-        next = λ g. left old new h l t held c.links (next_at g) g refl;
-        prev = λ g. left old new h l t held c.links (prev_at g) g refl;
-        origin = λ g. left old new h l t held c.links origin_at g refl;
-        face = λ g. made old new h l t held c.links face_at g;
-      }
+  pub face-put : (to : Face) → Writes old new h l (record l { face = to }) → ChangesFace h to old new
+  face-put to w = record { strings = w.1.strings; has = λ g. left w is_some g refl; next = λ g. left w (next_at g) g refl; prev = λ g. left w (prev_at g) g refl; origin = λ g. left w origin_at g refl; face = λ g. made w face_at g }
 
-  pub links-put : (before after : Half) (to : Face) → ChangesLinks h (record { origin = l.origin; next = after; prev = before; face = to }) old new → Relinks h before after to old new
-  links-put before after to c =
-      let t : Links = record { origin = l.origin; next = after; prev = before; face = to } in
-      record {
-        strings = c.strings;
-        has = λ g. left old new h l t held c.links is_some g refl;
-        next = λ g. made old new h l t held c.links (next_at g) g;
-        prev = λ g. made old new h l t held c.links (prev_at g) g;
-        origin = λ g. left old new h l t held c.links origin_at g refl;
-        face = λ g. made old new h l t held c.links face_at g;
-      }
+  pub links-put : (before after : Half) (to : Face) → Writes old new h l (record { origin = l.origin; next = after; prev = before; face = to }) → Relinks h before after to old new
+  links-put before after to w = record { strings = w.1.strings; has = λ g. left w is_some g refl; next = λ g. made w (next_at g) g; prev = λ g. made w (prev_at g) g; origin = λ g. left w origin_at g refl; face = λ g. made w face_at g }

@@ -50,19 +50,20 @@ module _ (old new : HalfRows) (s : ℕ) (m : Half → Half) (k : Bool) (linked :
     (m_string : (g : Half) → (m g).string ≡ g.string) (m_twice : (g : Half) → m (m g) ≡ g)
     (next_stays : (g : Half) → nat_eq g.string s ≡ true → nat_eq (next old g).string s ≡ true)
     (prev_stays : (g : Half) → nat_eq g.string s ≡ true → nat_eq (prev old g).string s ≡ true) where
-  away_next : (g : Half) → nat_eq g.string s ≡ false → nat_eq (next old g).string s ≡ false
-  away_next g e = by (nat_eq (next old g).string s) refl
+  -- a step of a half that isn't the string's leads to another that isn't
+  away : (f back : Half → Half) → ((h : Half) → back (f h) ≡ h) → ((g : Half) → nat_eq g.string s ≡ true → nat_eq (back g).string s ≡ true)
+      → (g : Half) → nat_eq g.string s ≡ false → nat_eq (f g).string s ≡ false
+  away f back undone stays g e = by (nat_eq (f g).string s) refl
     where
-      by : (b : Bool) → nat_eq (next old g).string s ≡ b → nat_eq (next old g).string s ≡ false
+      by : (b : Bool) → nat_eq (f g).string s ≡ b → nat_eq (f g).string s ≡ false
       by false p = p
-      by true p = absurd (true≢false (sym (sym (ap (λ (h : Half). nat_eq h.string s) (linked.prev_next g)) ∙ prev_stays (next old g) p) ∙ e))
+      by true p = absurd (true≢false (sym (sym (ap (λ (h : Half). nat_eq h.string s) (undone g)) ∙ stays (f g) p) ∙ e))
+
+  away_next : (g : Half) → nat_eq g.string s ≡ false → nat_eq (next old g).string s ≡ false
+  away_next = away (next old) (prev old) linked.prev_next prev_stays
 
   away_prev : (g : Half) → nat_eq g.string s ≡ false → nat_eq (prev old g).string s ≡ false
-  away_prev g e = by (nat_eq (prev old g).string s) refl
-    where
-      by : (b : Bool) → nat_eq (prev old g).string s ≡ b → nat_eq (prev old g).string s ≡ false
-      by false p = p
-      by true p = absurd (true≢false (sym (sym (ap (λ (h : Half). nat_eq h.string s) (linked.next_prev g)) ∙ next_stays (prev old g) p) ∙ e))
+  away_prev = away (prev old) (next old) linked.next_prev next_stays
 
   pub patched-linked : IsLinked new
   patched-linked = record { distinct = unique; prev_next = λ h. pn h (nat_eq h.string s) refl; next_prev = λ h. np h (nat_eq h.string s) refl; inside = λ h. ins h (nat_eq h.string s) refl }

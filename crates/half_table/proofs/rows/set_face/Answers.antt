@@ -1,18 +1,9 @@
-use Rattle.std.proofs.Common.{rules, ◌≡◌, ◌∙◌, sym, ap, Some, nat_eq, cond, option_map}
-use Rattle.std.specs.Map.{lookup}
-use Rattle.indexmap.specs.IndexMap.{Updates}
-use Rattle.half_table.specs.Rows.{links_at, links_of, strings}
-use Rattle.half_table.specs.declared.links.Ends.{Ends}
-use Rattle.half_table.proofs.Changed.{written, face-put}
+use Rattle.std.proofs.Common.{rules}
+use Rattle.half_table.proofs.Changed.{rewritten, face-put}
 use Rattle.half_table.proofs.rows.set_face.Goals as goal
 
 pub returns-in-Some-clause-changes : goal.returns-in-Some-clause-changes
 returns-in-Some-clause-changes c =
-    let old = c.args.rows.now.entries in
-    let new = (c.get_mut.follows.lender c.with.result).entries in
-    let h = c.args.h.now in
-    let there : lookup (nat_eq h.string) old ≡ Some c.in-Some.ends.now = search rules in
-    let put : Updates nat_eq c.args.rows.now (c.get_mut.follows.lender c.with.result) h.string (Some c.with.result) = search rules in
-    let same : strings new ≡ strings old = search rules in
-    let held : links_of old h ≡ Some c.at-links.result = ap (option_map (links_at h.forward)) there ∙ ap Some (sym c.at-links.ensures) in
-    face-put old new h c.at-links.result held c.args.to.now (written old new h _ c.in-Some.ends.now there (λ q. put.0 q ∙ ap (λ (e : Ends). cond (nat_eq h.string q) (Some e) (lookup (nat_eq q) old)) c.with.ensures) same)
+    let after = c.get_mut.follows.lender c.with.result in
+    face-put c.args.rows.now.entries after.entries c.args.h.now c.at-links.result c.args.to.now
+    (rewritten c.args.rows.now after c.args.h.now c.in-Some.ends.now c.with.result (search rules) (search rules) (search rules) _ _ c.at-links.ensures c.with.ensures)
