@@ -128,6 +128,10 @@ never k b (c ∷ bs) h all = sum_by-cons (one_of k) c bs ∙ (λ i. not_this (bo
     not_this true false et eu = simp (et, eu)
     not_this false u et eu = simp et
 
+-- a list that begins with a boundary has it more often than one that lacks it
+lacks : (z : Boundary) (zs others : List Boundary) → times z (z ∷ zs) ≡ times z others → times z others ≡ 0 → ⊥
+lacks z zs others same none = let m = sum_by-cons (one_of z) z zs in let i = itself z in omega (arith, same, none, m, i)
+
 in_order-one : (xs ys : List Boundary) → InOrder xs → InOrder ys → ((k : Boundary) → times k xs ≡ times k ys) → xs ≡ ys
 in_order-one [] [] ox oy same = refl
 in_order-one [] (y ∷ ys) ox oy same = let e = same y in let n = sum_by-cons (one_of y) y ys in let i = itself y in absurd (omega (arith, e, n, i))
@@ -139,18 +143,8 @@ in_order-one (x ∷ xs) (y ∷ ys) ox oy same = by (λ tails. in_order-one xs ys
         let e = same_boundary x y et eu in
         let rest = again (λ k. let s = same k in let a = sum_by-cons (one_of k) x xs in let b = sum_by-cons (one_of k) y ys in let c = ap (one_of k) e in omega (arith, s, a, b, c)) in
         λ i. e i ∷ rest i
-    by again false u et eu =
-        let s = same y in
-        let n = never y x (x ∷ xs) et (itself_first x, ox.0) in
-        let m = sum_by-cons (one_of y) y ys in
-        let i = itself y in
-        absurd (omega (arith, s, n, m, i))
-    by again true false et eu =
-        let s = same x in
-        let n = never x y (y ∷ ys) eu (itself_first y, oy.0) in
-        let m = sum_by-cons (one_of x) x xs in
-        let i = itself x in
-        absurd (omega (arith, s, n, m, i))
+    by again false u et eu = absurd (lacks y ys (x ∷ xs) (sym (same y)) (never y x (x ∷ xs) et (itself_first x, ox.0)))
+    by again true false et eu = absurd (lacks x xs (y ∷ ys) (same x) (never x y (y ∷ ys) eu (itself_first y, oy.0)))
 
 -- boundaries in order, which are the canonical forms of these, are these in canonical order
 pub canonical_order-is : (bs ys : List Boundary) → IsPermutation (map canonical_form bs) ys → InOrder ys → ys ≡ canonical_order bs

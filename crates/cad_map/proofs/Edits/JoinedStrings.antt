@@ -138,21 +138,22 @@ module _ (m : Map) (valid : IsValid m) (p : ℕ) (s t : StringRow) (at : IsPermu
       ] in
       elim (one-of r there end) [ inl e ↦ inl (other ∙ ap (λ (q : StringRow). far_end q p) e) | inr e ↦ inr (other ∙ ap (λ (q : StringRow). far_end q p) e) ]
 
+  -- a side of a string leads between its ends
+  ends-of : (r : StringRow) (x y : ℕ) → (◌≡◌ {A = Side} (x, y) (r.from, r.to)) ⊎ (◌≡◌ {A = Side} (x, y) (r.to, r.from)) → ((r.from ≡ x) × (r.to ≡ y)) ⊎ ((r.from ≡ y) × (r.to ≡ x))
+  ends-of r x y is = elim is [
+    | inl e ↦ inl (ap (λ (v : Side). v.0) (sym e), ap (λ (v : Side). v.1) (sym e))
+    | inr e ↦ inr (ap (λ (v : Side). v.1) (sym e), ap (λ (v : Side). v.0) (sym e))
+  ]
+
   far-to : (x : ℕ) → Contains (all_sides m) (x, p) → (x ≡ a) ⊎ (x ≡ b)
   far-to x h =
       let k = of_string m valid (x, p) h in
-      far k.string k.there x (elim k.is [
-        | inl e ↦ inl (ap (λ (v : Side). v.0) (sym e), ap (λ (v : Side). v.1) (sym e))
-        | inr e ↦ inr (ap (λ (v : Side). v.1) (sym e), ap (λ (v : Side). v.0) (sym e))
-      ])
+      far k.string k.there x (ends-of k.string x p k.is)
 
   far-from : (x : ℕ) → Contains (all_sides m) (p, x) → (x ≡ a) ⊎ (x ≡ b)
   far-from x h =
       let k = of_string m valid (p, x) h in
-      far k.string k.there x (elim k.is [
-        | inl e ↦ inr (ap (λ (v : Side). v.0) (sym e), ap (λ (v : Side). v.1) (sym e))
-        | inr e ↦ inl (ap (λ (v : Side). v.1) (sym e), ap (λ (v : Side). v.0) (sym e))
-      ])
+      far k.string k.there x (elim (ends-of k.string p x k.is) [ inl e ↦ inr e | inr e ↦ inl e ])
 
   -- ---- The corners at the point
 

@@ -14,9 +14,9 @@ use Rattle.cad_rows.specs.declared.rows.SourceRow.{SourceRow}
 use Rattle.cad_rings.specs.Cycle.{Side, opposite}
 use Rattle.cad_map.specs.Map.{Map, point_of, parcel_of, string_of, has_point, side_of, string_sides, all_sides, left_face, right_face}
 use Rattle.cad_map.specs.Table.{row_with}
-use Rattle.cad_map.specs.Valid.{AreSources, IsSound}
+use Rattle.cad_map.specs.Valid.{AreSources, HasSoundRows, IsSound}
 use Rattle.cad_map.specs.Refusals.{sources_at}
-use Rattle.cad_map.specs.Changes.{with_string, change_point, change_parcel, change_string, change_sources}
+use Rattle.cad_map.specs.Changes.{with_point, with_parcel, with_string, change_point, change_parcel, change_string, change_sources}
 use Rattle.cad_map.proofs.Edits.Allowed.{IsAllowed, not-when, there-attached, position-in_range}
 use Rattle.cad_map.proofs.Lists.EachElement.{All-filter, All-with_row, found-number, map-with_row-same}
 use Rattle.cad_map.proofs.Edits.KeptRows.{AreSources-attach, All-found, kept-point_row, kept-parcel_row, kept-string_row, length-filter}
@@ -25,57 +25,45 @@ use Rattle.cad_map.proofs.Lists.TakenOut.{EachPair-filter}
 
 -- ---- A row as a change leaves it
 
+-- a map in which a row that is there was changed
+kept-changed : {R : Type 0} (m : Map) (put : R → Map) (o : Option R) → IsSound m → ((r : R) → o ≡ Some r → IsSound (put r)) → IsSound (unwrap_or (option_map put o) m)
+kept-changed m put None sound new = sound
+kept-changed m put (Some r) sound new = new r refl
+
+-- and one with other points and parcels, whose rows are sound
+with_rows : (m : Map) (points : List PointRow) (parcels : List ParcelRow) → IsSound m → HasSoundRows (record m { points = points; parcels = parcels }) → IsSound (record m { points = points; parcels = parcels })
+with_rows m points parcels sound rows = record { v1 = rows; v2 = sound.v2; v5 = record { three = sound.v5.three; once = sound.v5.once; two_faces = sound.v5.two_faces } }
+
 kept-changed_point : (m : Map) (p : ℕ) (change : PointRow → PointRow) → IsSound m → ((r : PointRow) → point_of m p ≡ Some r → OnTheMap (change r).position × AreSources m.sources (change r).sources)
     → IsSound (change_point p change m)
-kept-changed_point m p change sound sources = by (point_of m p) refl
-  where
-    by : (o : Option PointRow) → point_of m p ≡ o → IsSound (change_point p change m)
-    by None is = rw is sound
-    by (Some r) is =
-        let new = sources r is in
-        rw is (record {
-          v1 = kept-point_row m (change r) sound.v1 new.0 new.1;
-          v2 = sound.v2;
-          v5 = record { three = sound.v5.three; once = sound.v5.once; two_faces = sound.v5.two_faces };
-        })
+kept-changed_point m p change sound sources = kept-changed m (λ r. with_point m (change r)) (point_of m p) sound
+    (λ r is. with_rows m _ m.parcels sound (kept-point_row m (change r) sound.v1 (sources r is).0 (sources r is).1))
 
 kept-changed_parcel : (m : Map) (p : ℕ) (change : ParcelRow → ParcelRow) → IsSound m → ((r : ParcelRow) → parcel_of m p ≡ Some r → IsLabel (change r).label × AreSources m.sources (change r).sources)
     → IsSound (change_parcel p change m)
-kept-changed_parcel m p change sound sources = by (parcel_of m p) refl
-  where
-    by : (o : Option ParcelRow) → parcel_of m p ≡ o → IsSound (change_parcel p change m)
-    by None is = rw is sound
-    by (Some r) is =
-        let new = sources r is in
-        rw is (record {
-          v1 = kept-parcel_row m (change r) sound.v1 new.0 new.1;
-          v2 = sound.v2;
-          v5 = record { three = sound.v5.three; once = sound.v5.once; two_faces = sound.v5.two_faces };
-        })
+kept-changed_parcel m p change sound sources = kept-changed m (λ r. with_parcel m (change r)) (parcel_of m p) sound
+    (λ r is. with_rows m m.points _ sound (kept-parcel_row m (change r) sound.v1 (sources r is).0 (sources r is).1))
 
 kept-changed_string : (m : Map) (s : ℕ) (change : List ℕ → List ℕ) → IsSound m → ((r : StringRow) → string_of m s ≡ Some r → AreSources m.sources (change r.sources))
     → IsSound (change_string s (λ r. record r { sources = change r.sources }) m)
-kept-changed_string m s change sound sources = by (string_of m s) refl
-  where
-    by : (o : Option StringRow) → string_of m s ≡ o → IsSound (change_string s (λ r. record r { sources = change r.sources }) m)
-    by None is = rw is sound
-    by (Some r) is =
-        let v = sound.v1 in
-        let number : StringRow → ℕ = λ q. q.number in
-        let new_row : StringRow = record r { sources = change r.sources } in
-        let found : row_with number r.number m.strings ≡ Some r = ap (λ (k : ℕ). row_with number k m.strings) (found-number number s m.strings r is) ∙ is in
-        let same : string_sides (with_string m new_row) ≡ string_sides m =
-        sides-from_ends _ ∙ ap (λ (sides : List Side). flat_map (λ (s : Side). s ∷ opposite s ∷ []) sides) (map-with_row-same number side_of new_row r m.strings v.strings.distinct found refl) ∙ sym (sides-from_ends m.strings) in
-        rw is (record {
-          v1 = kept-string_row m new_row v (All-found number (λ (q : StringRow). IsTrue (has_point m q.from) × IsTrue (has_point m q.to)) s m.strings r v.ends is) (sources r is);
-          v2 = All-with_row number (λ (q : StringRow). q.from ≢ q.to) new_row m.strings sound.v2 (All-found number (λ (q : StringRow). q.from ≢ q.to) s m.strings r sound.v2 is);
-          v5 = record {
-            three = sound.v5.three;
-            once = subst (λ (sides : List Side). IsPermutation sides (all_sides m)) (sym same) sound.v5.once;
-            two_faces = All-with_row number (λ (q : StringRow). left_face m q ≢ right_face m q) new_row m.strings sound.v5.two_faces
-                (All-found number (λ (q : StringRow). left_face m q ≢ right_face m q) s m.strings r sound.v5.two_faces is);
-          };
-        })
+kept-changed_string m s change sound sources =
+    kept-changed m (λ r. with_string m (record r { sources = change r.sources })) (string_of m s) sound (λ r is.
+    let v = sound.v1 in
+    let number : StringRow → ℕ = λ q. q.number in
+    let new_row : StringRow = record r { sources = change r.sources } in
+    let found : row_with number r.number m.strings ≡ Some r = ap (λ (k : ℕ). row_with number k m.strings) (found-number number s m.strings r is) ∙ is in
+    let same : string_sides (with_string m new_row) ≡ string_sides m =
+    sides-from_ends _ ∙ ap (λ (sides : List Side). flat_map (λ (s : Side). s ∷ opposite s ∷ []) sides) (map-with_row-same number side_of new_row r m.strings v.strings.distinct found refl) ∙ sym (sides-from_ends m.strings) in
+    record {
+      v1 = kept-string_row m new_row v (All-found number (λ (q : StringRow). IsTrue (has_point m q.from) × IsTrue (has_point m q.to)) s m.strings r v.ends is) (sources r is);
+      v2 = All-with_row number (λ (q : StringRow). q.from ≢ q.to) new_row m.strings sound.v2 (All-found number (λ (q : StringRow). q.from ≢ q.to) s m.strings r sound.v2 is);
+      v5 = record {
+        three = sound.v5.three;
+        once = subst (λ (sides : List Side). IsPermutation sides (all_sides m)) (sym same) sound.v5.once;
+        two_faces = All-with_row number (λ (q : StringRow). left_face m q ≢ right_face m q) new_row m.strings sound.v5.two_faces
+            (All-found number (λ (q : StringRow). left_face m q ≢ right_face m q) s m.strings r sound.v5.two_faces is);
+      };
+    })
 
 -- ---- The sources of an item
 

@@ -123,6 +123,12 @@ sides-among front b back =
 
 -- ---- The two rings of a cut
 
+-- a ring of a chain's two ends and of two lists of points, of which one has a point, has three points or more
+long-enough : (xs ys : List ℕ) (n : ℕ) → n ≡ length xs + length ys + 2 → (xs ≡ [] → ys ≡ [] → ⊥) → 3 ≤ n
+long-enough [] [] n is some = absurd (some refl refl)
+long-enough (x ∷ xs) ys n is some = omega arith
+long-enough [] (y ∷ ys) n is some = omega arith
+
 module _ (i j : ℕ) (inner : List ℕ) (ring : Ring) (two : AreTwoPlaces i j ring) where
   abbrev a : ℕ
   a = slice_index ring i
@@ -172,39 +178,19 @@ module _ (i j : ℕ) (inner : List ℕ) (ring : Ring) (two : AreTwoPlaces i j ri
 
   -- three points or more are left of the chain, where it has inner points or the ring has no side from its end to its start
   pub left-long : (inner ≡ [] → Contains (sides_of ring) (z, a) → ⊥) → 3 ≤ length (left_ring i j inner ring)
-  left-long new = by inner (cut i j inner ring two).ys refl refl
-    where
-      by : (xs ys : List ℕ) → inner ≡ xs → (cut i j inner ring two).ys ≡ ys → 3 ≤ length (left_ring i j inner ring)
-      by (x ∷ xs) ys is rest =
-          let k = cut i j inner ring two in
-          let e = ap length k.left in
-          let d = length-append inner (z ∷ k.ys) in
-          let l = ap length is in
-          omega (arith, e, d, l)
-      by [] (y ∷ ys) is rest =
-          let k = cut i j inner ring two in
-          let e = ap length k.left in
-          let d = length-append inner (z ∷ k.ys) in
-          let l = ap length rest in
-          omega (arith, e, d, l)
-      by [] [] is rest = absurd (new is (in_second (z, a) (subst (λ (l : List ℕ). Contains (sides_along z l a) (z, a)) (sym rest) (Contains-first (z, a) []))))
+  left-long new =
+      let k = cut i j inner ring two in
+      let e = ap length k.left in
+      let d = length-append inner (z ∷ k.ys) in
+      long-enough inner k.ys _ (omega (arith, e, d))
+      (λ none rest. new none (in_second (z, a) (subst (λ (l : List ℕ). Contains (sides_along z l a) (z, a)) (sym rest) (Contains-first (z, a) []))))
 
   -- and so many right of it, where the ring has no side from its start to its end
   pub right-long : (inner ≡ [] → Contains (sides_of ring) (a, z) → ⊥) → 3 ≤ length (right_ring i j inner ring)
-  right-long new = by inner (cut i j inner ring two).xs refl refl
-    where
-      by : (ys xs : List ℕ) → inner ≡ ys → (cut i j inner ring two).xs ≡ xs → 3 ≤ length (right_ring i j inner ring)
-      by (y ∷ ys) xs is rest =
-          let k = cut i j inner ring two in
-          let e = ap length k.right in
-          let d = length-append (reverse inner) (a ∷ k.xs) in
-          let r = length-reverse inner in
-          let l = ap length is in
-          omega (arith, e, d, r, l)
-      by [] (x ∷ xs) is rest =
-          let k = cut i j inner ring two in
-          let e = ap length k.right in
-          let d = length-append (reverse inner) (a ∷ k.xs) in
-          let l = ap length rest in
-          omega (arith, e, d, l)
-      by [] [] is rest = absurd (new is (in_first (a, z) (subst (λ (l : List ℕ). Contains (sides_along a l z) (a, z)) (sym rest) (Contains-first (a, z) []))))
+  right-long new =
+      let k = cut i j inner ring two in
+      let e = ap length k.right in
+      let d = length-append (reverse inner) (a ∷ k.xs) in
+      let r = length-reverse inner in
+      long-enough inner k.xs _ (omega (arith, e, d, r))
+      (λ none rest. new none (in_first (a, z) (subst (λ (l : List ℕ). Contains (sides_along a l z) (a, z)) (sym rest) (Contains-first (a, z) []))))

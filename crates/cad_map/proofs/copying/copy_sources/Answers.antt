@@ -6,13 +6,10 @@ use Rattle.cad_map.proofs.copying.copy_sources.Goals as goal
 
 pub put_source-requires : goal.put_source-requires
 put_source-requires g c =
-    let m = g.M.MapView.map c.args.view.now in
-    let at = rw c.unwrap-row.ensures at c.source_at.ensures in
-    rw (c.loop-place.invariant, c.in_ok-copy.ensures) (row_with-earlier (λ (r : SourceRow). r.number) m.sources c.loop-place.place _ c.requires.valid.sound.v1.sources.distinct (sym at))
+    rw (c.loop-place.invariant, c.in_ok-copy.ensures)
+    (row_with-earlier (λ (r : SourceRow). r.number) (g.M.MapView.map c.args.view.now).sources c.loop-place.place _ c.requires.valid.sound.v1.sources.distinct (sym (rw c.unwrap-row.ensures at c.source_at.ensures)))
 
 pub loop-place-preserved : goal.loop-place-preserved
 loop-place-preserved g c =
-    let m = g.M.MapView.map c.args.view.now in
-    let at = rw c.unwrap-row.ensures at c.source_at.ensures in
-    let more = take-more m.sources c.loop-place.place _ (sym at) in
+    let more = take-more (g.M.MapView.map c.args.view.now).sources c.loop-place.place _ (sym (rw c.unwrap-row.ensures at c.source_at.ensures)) in
     c.in_ok-put_source.ensures.ok ∙ rw (c.loop-place.invariant, c.in_ok-copy.ensures) (λ i. record c.args.made.now { sources = more i })

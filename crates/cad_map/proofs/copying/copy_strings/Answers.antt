@@ -6,13 +6,10 @@ use Rattle.cad_map.proofs.copying.copy_strings.Goals as goal
 
 pub put_string-requires : goal.put_string-requires
 put_string-requires g c =
-    let m = g.M.MapView.map c.args.view.now in
-    let at = rw c.unwrap-row.ensures at c.string_at.ensures in
-    rw (c.loop-place.invariant, c.in_ok-copy.ensures) (row_with-earlier (λ (r : StringRow). r.number) m.strings c.loop-place.place _ c.requires.valid.sound.v1.strings.distinct (sym at))
+    rw (c.loop-place.invariant, c.in_ok-copy.ensures)
+    (row_with-earlier (λ (r : StringRow). r.number) (g.M.MapView.map c.args.view.now).strings c.loop-place.place _ c.requires.valid.sound.v1.strings.distinct (sym (rw c.unwrap-row.ensures at c.string_at.ensures)))
 
 pub loop-place-preserved : goal.loop-place-preserved
 loop-place-preserved g c =
-    let m = g.M.MapView.map c.args.view.now in
-    let at = rw c.unwrap-row.ensures at c.string_at.ensures in
-    let more = take-more m.strings c.loop-place.place _ (sym at) in
+    let more = take-more (g.M.MapView.map c.args.view.now).strings c.loop-place.place _ (sym (rw c.unwrap-row.ensures at c.string_at.ensures)) in
     c.in_ok-put_string.ensures.ok ∙ rw (c.loop-place.invariant, c.in_ok-copy.ensures) (λ i. record c.args.made.now { strings = more i })

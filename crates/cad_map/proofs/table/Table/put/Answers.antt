@@ -8,8 +8,7 @@ use Rattle.cad_map.proofs.table.Table.put.Goals as goal
 
 pub invariant_of-self-2 : goal.invariant_of-self-2
 invariant_of-self-2 g c =
-    let e = c.in_ok-insert.ensures.entries in
-    (rw (e, c.number.ensures) (AreNumbered-insert_entry g.R.Numbered.number_of c.args.row c.self.inside.rows.entries c.self.invariant.0), c.insert.ensures.unique)
+    (rw (c.in_ok-insert.ensures.entries, c.number.ensures) (AreNumbered-insert_entry g.R.Numbered.number_of c.args.row c.self.inside.rows.entries c.self.invariant.0), c.insert.ensures.unique)
 
 pub returns-clause-ok : goal.returns-clause-ok
 returns-clause-ok g c =

@@ -1,19 +1,15 @@
 use Rattle.std.proofs.Common.{◌∙◌, ap}
-use Rattle.std.specs.Prelude.{is_some, true, ◌≡◌}
 use Rattle.cad_map.proofs.Lists.Entries.{AreNumbered-insert_entry, values_of-insert_entry}
-use Rattle.cad_map.specs.Table.{row_with, with_row}
+use Rattle.cad_map.specs.Table.{with_row}
 use Rattle.std.specs.Map.{values_of}
 use Rattle.cad_map.proofs.table.Table.set.Goals as goal
 
 pub invariant_of-self-2 : goal.invariant_of-self-2
 invariant_of-self-2 g c =
-    let e = c.in_ok-insert.ensures.entries in
-    (rw (e, c.number.ensures) (AreNumbered-insert_entry g.R.Numbered.number_of c.args.row c.self.inside.rows.entries c.self.invariant.0), c.insert.ensures.unique)
+    (rw (c.in_ok-insert.ensures.entries, c.number.ensures) (AreNumbered-insert_entry g.R.Numbered.number_of c.args.row c.self.inside.rows.entries c.self.invariant.0), c.insert.ensures.unique)
 
 pub returns-clause-ok : goal.returns-clause-ok
 returns-clause-ok g c =
-    let number = g.R.Numbered.number_of in
-    let there : is_some (row_with number (number c.args.row) (values_of c.self.inside.rows.entries)) ≡ true = rw c.self.view_is c.requires in
     ap values_of (rw c.number.ensures at c.in_ok-insert.ensures.entries)
-    ∙ values_of-insert_entry number c.args.row c.self.inside.rows.entries c.self.invariant.0 c.self.invariant.1 there
-    ∙ ap (with_row number c.args.row) c.self.view_is
+    ∙ values_of-insert_entry g.R.Numbered.number_of c.args.row c.self.inside.rows.entries c.self.invariant.0 c.self.invariant.1 (rw c.self.view_is c.requires)
+    ∙ ap (with_row g.R.Numbered.number_of c.args.row) c.self.view_is
