@@ -161,29 +161,28 @@ away : (b : Block) (h : IsBlock b) (old new : HeldEntries) (cell : ℕ)
 away b h old new cell none same =
     record { other = λ c. let f = cell-found b h cell c in none f.0 f.1 f.2; items = same }
 
+-- a cell is of the block, and as each of them is, or away from it
+cases : (b : Block) (h : IsBlock b) (old new : HeldEntries) (P : ℕ → Type 0)
+    → ((k : ℕ) → k < cell_count b → P (cell_at b k))
+    → ((cell : ℕ) → ((k : ℕ) → k < cell_count b → ¬ (cell_at b k ≡ cell))
+    → entries_at new cell ≡ entries_at old cell)
+    → (cell : ℕ) → P cell ⊎ IsAway b old new cell
+cases b h old new P there others cell = elim (some_below (cell_at b) cell (cell_count b)) [
+  | inl found ↦ inl (subst P found.2 (there found.0 found.1))
+  | inr none ↦ inr (away b h old new cell none (others cell none))
+]
+
 put_cases : (b : Block) (h : IsBlock b) (e : Entry) (old new : HeldEntries)
     → IsPutIn old b e (cell_count b) new → (cell : ℕ)
     → IsIn b e old new cell ⊎ IsAway b old new cell
-put_cases b h e old new put cell = elim (some_below (cell_at b) cell (cell_count b)) [
-  | inl found ↦ inl
-      (subst (IsIn b e old new) found.2 (record {
-        of_block = cell-of b h found.0 found.1;
-        items = put.there found.0 found.1;
-      }))
-  | inr none ↦ inr (away b h old new cell none (put.others cell none))
-]
+put_cases b h e old new put = cases b h old new (IsIn b e old new)
+    (λ k low. record { of_block = cell-of b h k low; items = put.there k low }) put.others
 
 take_cases : (b : Block) (h : IsBlock b) (e : Entry) (old new : HeldEntries)
     → IsTakenOut old b e (cell_count b) new → (cell : ℕ)
     → IsOut b e old new cell ⊎ IsAway b old new cell
-take_cases b h e old new out cell = elim (some_below (cell_at b) cell (cell_count b)) [
-  | inl found ↦ inl
-      (subst (IsOut b e old new) found.2 (record {
-        of_block = cell-of b h found.0 found.1;
-        items = out.there found.0 found.1;
-      }))
-  | inr none ↦ inr (away b h old new cell none (out.others cell none))
-]
+take_cases b h e old new out = cases b h old new (IsOut b e old new)
+    (λ k low. record { of_block = cell-of b h k low; items = out.there k low }) out.others
 
 -- after a put into each cell of its box
 module _ (side : ℕ) (e : Entry) (h : IsBlock (block_at side e)) (old new : HeldEntries)

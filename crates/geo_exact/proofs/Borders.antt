@@ -34,18 +34,19 @@ at_last z d (zero_ p u) = simp (u.more, u.less) (either (int_lt d (pos 0)))
     either true = refl
     either false = refl
 
-pub in_sector-first_border : (v n p : Position) → in_sector v n p n ≡ false
-in_sector-first_border v n p =
-    let nx = n.x -ℤ v.x in let ny = n.y -ℤ v.y in let px = p.x -ℤ v.x in let py = p.y -ℤ v.y in
-    let z = orientation v n p in
-    let self : orientation v n n ≡ pos 0 = cross_self nx ny in
-    let back : orientation v p n ≡ neg_ℤ z = cross_back nx ny px py in
-    (λ i. by_signs z (self i) z (back i) (self i) (dot v n p) (dot v n n)) ∙ at_first z (dot v n p) (dot v n n) (length_not_negative nx ny) (sign z)
+module _ (v n p : Position) where
+  -- the two directions the other way round
+  back : orientation v p n ≡ neg_ℤ (orientation v n p)
+  back = cross_back (n.x -ℤ v.x) (n.y -ℤ v.y) (p.x -ℤ v.x) (p.y -ℤ v.y)
 
-pub in_sector-last_border : (v n p : Position) → in_sector v n p p ≡ false
-in_sector-last_border v n p =
-    let nx = n.x -ℤ v.x in let ny = n.y -ℤ v.y in let px = p.x -ℤ v.x in let py = p.y -ℤ v.y in
-    let z = orientation v n p in
-    let self : orientation v p p ≡ pos 0 = cross_self px py in
-    let back : orientation v p n ≡ neg_ℤ z = cross_back nx ny px py in
-    (λ i. by_signs z z (self i) (self i) (back i) (dot v n p) (dot v n p)) ∙ at_last z (dot v n p) (sign z)
+  pub in_sector-first_border : in_sector v n p n ≡ false
+  in_sector-first_border =
+      let z = orientation v n p in
+      let self : orientation v n n ≡ pos 0 = cross_self (n.x -ℤ v.x) (n.y -ℤ v.y) in
+      (λ i. by_signs z (self i) z (back i) (self i) (dot v n p) (dot v n n)) ∙ at_first z (dot v n p) (dot v n n) (length_not_negative (n.x -ℤ v.x) (n.y -ℤ v.y)) (sign z)
+
+  pub in_sector-last_border : in_sector v n p p ≡ false
+  in_sector-last_border =
+      let z = orientation v n p in
+      let self : orientation v p p ≡ pos 0 = cross_self (p.x -ℤ v.x) (p.y -ℤ v.y) in
+      (λ i. by_signs z z (self i) (self i) (back i) (dot v n p) (dot v n p)) ∙ at_last z (dot v n p) (sign z)
