@@ -1,12 +1,12 @@
 -- Tests of the strings of a point, as a view tells them one after another.
-use Rattle.std.proofs.Common.{◌≡◌, ◌+◌, ◌<◌, ◌≤◌, ℕ, sym, ap, ◌∙◌, Bool, true, ◌&&◌, List, [], ◌∷◌, length, take, slice_get, Some}
+use Rattle.std.proofs.Common.{◌≡◌, ◌+◌, ◌<◌, ◌≤◌, ℕ, sym, ap, ◌∙◌, Bool, true, ◌&&◌, List, [], ◌∷◌, length, take, slice_get, Bor, Option, Some, option_copied}
 use Rattle.std.specs.Prelude.{IsPermutation}
 use Rattle.std.specs.List.{Contains, list_all}
 use Rattle.std.proofs.lemmas.List.Folds.{list_all-append}
 use Rattle.std.proofs.lemmas.List.Sorted.{Contains-permutation, IsPermutation-sym}
 use Rattle.cad_rows.specs.declared.rows.StringRow.{StringRow}
 use Rattle.cad_map.specs.Map.{Map, is_end, strings_at}
-use Rattle.cad_map.proofs.CallerLemmas.{all-told, Contains-at, filter-Contains, Contains-filter, list_all-at, take-more}
+use Rattle.cad_map.proofs.CallerLemmas.{all-told, lent-is, Contains-at, filter-Contains, Contains-filter, list_all-at, take-more}
 
 -- Those so far have passed, and once a string was told they are the point's.
 pub record HavePassed (m : Map) (p : ℕ) (test : StringRow → Bool) (strings : List StringRow) (place : ℕ) : Type 0 where
@@ -19,6 +19,10 @@ module _ (m : Map) (p : ℕ) (test : StringRow → Bool) (strings : List StringR
   told-there s at each =
       filter-Contains (λ s. is_end s p) m.strings s
       (Contains-permutation strings (strings_at m p) s (IsPermutation-sym (strings_at m p) strings each) (Contains-at strings place s at))
+
+  -- and so is one that it lends
+  pub lent-there : (o : Option (Bor StringRow)) (r : Bor StringRow) → option_copied o ≡ slice_get strings place → o ≡ Some r → IsPermutation (strings_at m p) strings → Contains m.strings r.now × (is_end r.now p ≡ true)
+  lent-there o r is at each = told-there r.now (lent-is o r strings place is at) each
 
   -- one more
   pub passed-more : HavePassed m p test strings place → (s : StringRow) → slice_get strings place ≡ Some s → IsPermutation (strings_at m p) strings → test s ≡ true

@@ -76,8 +76,8 @@ struct Sector {
 
 /// Whether a string doesn't lie in the sector of a corner. `at`: the corner's point.
 fn is_clear_of<M: MapView>(map: &M, at: PointNo, sector: &Sector, string: &StringRow) -> bool
-    requires from_in { IsTrue (has_point (M.map map.now) string.now.from) }
-    requires to_in { IsTrue (has_point (M.map map.now) string.now.to) }
+    requires { IsTrue (has_point (M.map map.now) string.now.from)
+        × IsTrue (has_point (M.map map.now) string.now.to) }
     ensures { result ≡ is_clear_of_sector (M.map map.now) at sector.now.at sector.now.after
         sector.now.before string.now }
 {

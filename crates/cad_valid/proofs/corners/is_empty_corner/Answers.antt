@@ -10,7 +10,7 @@ use Rattle.cad_map.specs.Valid.{is_empty_corner}
 use Rattle.cad_map.proofs.CallerLemmas.{All-at_each, lent-some, lent-is}
 use Rattle.cad_valid.specs.Corners.{is_clear_of, is_clear_of_sector}
 use Rattle.cad_valid.proofs.NearCorners.{clear-far, empty-is}
-use Rattle.cad_valid.proofs.StarTests.{passed-all, passed-more, told-there}
+use Rattle.cad_valid.proofs.StarTests.{passed-all, passed-more, lent-there}
 use Rattle.cad_valid.proofs.corners.is_empty_corner.Goals as goal
 
 -- positions that were looked up once serve each string
@@ -30,21 +30,12 @@ loop-place-init g c = record {
   each = λ more. absurd (omega (arith, more));
 }
 
-pub is_clear_of-requires-clause-from_in : goal.is_clear_of-requires-clause-from_in
-is_clear_of-requires-clause-from_in g c =
+pub is_clear_of-requires : goal.is_clear_of-requires
+is_clear_of-requires g c =
     let m = g.M.MapView.map c.args.map.now in
     let strings = g.M.MapView.view_strings c.args.map.now c.args.at in
-    let told = lent-is c.string_with.result c.unwrap-string.result strings c.loop-place.place c.string_with.ensures.string c.unwrap-string.ensures in
-    let there = told-there m c.args.at (λ s. true) strings c.loop-place.place c.unwrap-string.result.now told c.string_with.ensures.each in
-    (All-at_each (λ s. IsTrue (has_point m s.from) × IsTrue (has_point m s.to)) m.strings c.unwrap-string.result.now c.requires.sound.ends there.0).0
-
-pub is_clear_of-requires-clause-to_in : goal.is_clear_of-requires-clause-to_in
-is_clear_of-requires-clause-to_in g c =
-    let m = g.M.MapView.map c.args.map.now in
-    let strings = g.M.MapView.view_strings c.args.map.now c.args.at in
-    let told = lent-is c.string_with.result c.unwrap-string.result strings c.loop-place.place c.string_with.ensures.string c.unwrap-string.ensures in
-    let there = told-there m c.args.at (λ s. true) strings c.loop-place.place c.unwrap-string.result.now told c.string_with.ensures.each in
-    (All-at_each (λ s. IsTrue (has_point m s.from) × IsTrue (has_point m s.to)) m.strings c.unwrap-string.result.now c.requires.sound.ends there.0).1
+    let there = lent-there m c.args.at (λ s. true) strings c.loop-place.place c.string_with.result c.unwrap-string.result c.string_with.ensures.string c.unwrap-string.ensures c.string_with.ensures.each in
+    All-at_each (λ s. IsTrue (has_point m s.from) × IsTrue (has_point m s.to)) m.strings c.unwrap-string.result.now c.requires.sound.ends there.0
 
 pub returns-then-not-is_clear_of : goal.returns-then-not-is_clear_of
 returns-then-not-is_clear_of g c =
@@ -52,8 +43,7 @@ returns-then-not-is_clear_of g c =
     let met = corner c.args.before c.args.at c.args.after in
     let strings = g.M.MapView.view_strings c.args.map.now c.args.at in
     let row = c.unwrap-string.result.now in
-    let told = lent-is c.string_with.result c.unwrap-string.result strings c.loop-place.place c.string_with.ensures.string c.unwrap-string.ensures in
-    let there = told-there m c.args.at (is_clear_of m met) strings c.loop-place.place row told c.string_with.ensures.each in
+    let there = lent-there m c.args.at (is_clear_of m met) strings c.loop-place.place c.string_with.result c.unwrap-string.result c.string_with.ensures.string c.unwrap-string.ensures c.string_with.ensures.each in
     let is : c.is_clear_of.result ≡ is_clear_of m met row = c.is_clear_of.ensures ∙ clear-is m met _ _ _ row c.position.ensures c.position-2.ensures c.position-3.ensures in
     let fails = sym is ∙ c.if-not-is_clear_of.true in
     by (is_empty_corner m met) refl (λ empty. true≢false (sym ((empty-is m met).0 empty row there.0) ∙ fails))

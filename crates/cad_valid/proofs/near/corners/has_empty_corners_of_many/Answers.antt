@@ -4,7 +4,7 @@ use Rattle.cad_map.specs.Map.{strings_at, far_end}
 use Rattle.cad_valid.specs.Corners.{is_empty_after}
 use Rattle.cad_map.proofs.CallerLemmas.{lent-some, lent-is}
 use Rattle.cad_valid.proofs.NearCorners.{corners-by_strings}
-use Rattle.cad_valid.proofs.StarTests.{passed-all, passed-more, told-there}
+use Rattle.cad_valid.proofs.StarTests.{passed-all, passed-more, lent-there}
 use Rattle.cad_valid.proofs.near.corners.has_empty_corners_of_many.Goals as goal
 
 pub unwrap-requires : goal.unwrap-requires
@@ -25,8 +25,7 @@ returns-then-not-is_empty_after g c =
     let p = c.args.point in
     let strings = g.M.MapView.view_strings c.args.map.now p in
     let row = c.unwrap.result.now in
-    let told = lent-is c.string_with.result c.unwrap.result strings c.loop-place.place c.string_with.ensures.string c.unwrap.ensures in
-    let at = told-there m p (λ s. is_empty_after m (far_end s p, p)) strings c.loop-place.place row told c.string_with.ensures.each in
+    let at = lent-there m p (λ s. is_empty_after m (far_end s p, p)) strings c.loop-place.place c.string_with.result c.unwrap.result c.string_with.ensures.string c.unwrap.ensures c.string_with.ensures.each in
     let fails = ap (λ (n : ℕ). is_empty_after m (n, p)) (sym c.far_end-from.ensures) ∙ sym c.is_empty_after.ensures ∙ c.if-not-is_empty_after.true in
     ((λ no. absurd (true≢false (sym no))), (λ empty. absurd (true≢false (sym ((corners-by_strings m c.requires p).1 empty row at.0 at.1) ∙ fails))))
 
