@@ -17,7 +17,7 @@ use Rattle.cad_map.specs.Asked.{GivesInRange}
 use Rattle.cad_map.specs.Boundaries.{is_face}
 use Rattle.cad_map.specs.Costs.{has_boundary, sides_missing, sides_changed}
 use Rattle.cad_map.specs.Effects.{after}
-use Rattle.cad_map.specs.Map.{Map, has_face, has_point}
+use Rattle.cad_map.specs.Map.{Map, has_face, has_point, parcel_of}
 use Rattle.cad_map.specs.Refusals.{first_refusal}
 use Rattle.cad_map.specs.Valid.{IsValid, HasSoundRows}
 use Rattle.cad_map.proofs.CallerLemmas.{allowed, free-split, can-divide, can-enclose, list_any-none, All-at_each, Contains-first, Contains-later, is_face-same, kept, list_any-found}
@@ -112,6 +112,12 @@ point-missing : (p : ℕ) (m new : Map) → HasSoundRows new → has_point new p
 point-missing p m new v1 none =
     sides-missing (λ b. passes p b.ring) m new (no-point new v1 p none)
 
+-- the sides of a parcel that comes are missing before
+new-parcel : (m new : Map) (parcel : ℕ) → HasSoundRows m → parcel_of m parcel ≡ None
+    → sides_of_face (Parcel parcel) new ≤ sides_missing new m
+new-parcel m new parcel v1 none =
+    face-missing (Parcel parcel) new m v1 (ap (λ (o : Option ParcelRow). is_some o) none)
+
 -- ---- Each edit
 
 -- the row of an ended parcel is gone
@@ -146,8 +152,7 @@ sides-counted m (Join p new) v given none =
 sides-counted m (Divide face chain strings parcel label source) v given none =
     let e = Divide face chain strings parcel label source in
     let can = can-divide m face chain strings parcel label source given (allowed m e none) in
-    let few = face-missing (Parcel parcel) (after m e) m v.sound.v1
-    (ap (λ (o : Option ParcelRow). is_some o) can.rows.parcel_new) in
+    let few = new-parcel m (after m e) parcel v.sound.v1 can.rows.parcel_new in
     omega (arith, few)
 sides-counted m (Merge k e) v given none =
     let gone =
@@ -162,6 +167,5 @@ sides-counted m (Rename p label) v given none = omega arith
 sides-counted m (Enclose face points strings parcel label source) v given none =
     let e = Enclose face points strings parcel label source in
     let can = can-enclose m face points strings parcel label source given (allowed m e none) in
-    let few = face-missing (Parcel parcel) (after m e) m v.sound.v1
-    (ap (λ (o : Option ParcelRow). is_some o) can.rows.parcel_new) in
+    let few = new-parcel m (after m e) parcel v.sound.v1 can.rows.parcel_new in
     omega (arith, few)

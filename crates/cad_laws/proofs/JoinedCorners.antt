@@ -91,6 +91,20 @@ module _ (m : Map) (valid : IsValid m) (p : ℕ) (s t : StringRow)
       All-at_each (λ r. length (corners_at p r.ring) ≤ 1) m.boundaries r
       (maps.at-most-one m valid p s t at) there
 
+  -- a side of a ring or a new one at its corner stands in the ring without the point, or is an old one at the corner
+  side-left : (r : Boundary) → Contains m.boundaries r → (v : Side)
+      → Contains (map (new_side p) (corners_at p r.ring) ++ sides_of r.ring) v
+      → Contains (flat_map (old_sides p) (corners_at p r.ring)) v ⊎ Contains (sides_of (without p r.ring)) v
+  side-left r there v has =
+      let C = corners_at p r.ring in
+      let moved =
+      sides-without p r.ring
+      (All-at_each (λ b. 2 ≤ length b.ring) m.boundaries r (two-sides m valid) there)
+      (few-at r there) in
+      Contains-append_cases (flat_map (old_sides p) C) (sides_of (without p r.ring)) v
+      (Contains-permutation (map (new_side p) C ++ sides_of r.ring)
+      (flat_map (old_sides p) C ++ sides_of (without p r.ring)) v moved has)
+
   through : (r : Boundary) → Contains m.boundaries r
       → times_through p r.ring ≡ length (corners_at p r.ring)
   through r there =
@@ -320,18 +334,10 @@ module _ (m : Map) (valid : IsValid m) (p : ℕ) (s t : StringRow)
         let it = beside f (w, p) m.boundaries (has_side-Contains (w, p) _ has) in
         let same : it.boundary ≡ r =
         one-ring (w, p) it.boundary r it.there k.ring it.has own-sides.0 in
-        let C = corners_at p r.ring in
-        let moved =
-        sides-without p r.ring
-        (All-at_each (λ b. 2 ≤ length b.ring) m.boundaries r (two-sides m valid) k.ring)
-        (few-at r k.ring) in
         let new =
-        Contains-permutation (map (new_side p) C ++ sides_of r.ring)
-        (flat_map (old_sides p) C ++ sides_of (without p r.ring)) (w, n) moved
-        (Contains-append_left (map (new_side p) C) (sides_of r.ring) (w, n)
-        (Contains-map (new_side p) C d among)) in
-        elim (Contains-append_cases (flat_map (old_sides p) C) (sides_of (without p r.ring))
-        (w, n) new) [
+        Contains-append_left (map (new_side p) (corners_at p r.ring)) (sides_of r.ring) (w, n)
+        (Contains-map (new_side p) (corners_at p r.ring) d among) in
+        elim (side-left r k.ring (w, n) new) [
           | inl gone ↦ absurd (at-an_end r (w, n) gone w_away n_away)
           | inr there ↦
               subst (λ (g : Face). HasSide made g (w, n))
@@ -346,16 +352,9 @@ module _ (m : Map) (valid : IsValid m) (p : ℕ) (s t : StringRow)
   side-stays f v has zero one =
       let it = beside f v m.boundaries (has_side-Contains v _ has) in
       let r = it.boundary in
-      let C = corners_at p r.ring in
-      let moved =
-      sides-without p r.ring
-      (All-at_each (λ b. 2 ≤ length b.ring) m.boundaries r (two-sides m valid) it.there)
-      (few-at r it.there) in
       let new =
-      Contains-permutation (map (new_side p) C ++ sides_of r.ring)
-      (flat_map (old_sides p) C ++ sides_of (without p r.ring)) v moved
-      (Contains-append_right (map (new_side p) C) (sides_of r.ring) v it.has) in
-      elim (Contains-append_cases (flat_map (old_sides p) C) (sides_of (without p r.ring)) v new) [
+      Contains-append_right (map (new_side p) (corners_at p r.ring)) (sides_of r.ring) v it.has in
+      elim (side-left r it.there v new) [
         | inl gone ↦ absurd (at-an_end r v gone zero one)
         | inr there ↦
             subst (λ (g : Face). HasSide made g v) (sym it.face)

@@ -196,19 +196,22 @@ module _ (m : Map) (valid : IsValid m) (face : Face) (chain strings : List ℕ) 
       (IsPermutation-sym (sides_of L ++ sides_of R) (both ++ sides_of b.ring) hands)
       (Contains-append_right both (sides_of b.ring) s h))
 
+  -- the sides of the chain lie between its two places in the ring
+  sides-across : sides_along (slice_index b.ring i) inner (slice_index b.ring j) ≡ sides_of_chain chain
+  sides-across =
+      sym (sides_of_chain-is (slice_index b.ring i) inner (slice_index b.ring j))
+      ∙ ap sides_of_chain (maps.across m valid face chain strings parcel label source can b ring)
+
   chain-left : (s : Side) → Contains (sides_of_chain chain) s → Contains (sides_of L) s
   chain-left s h =
       let k = cut i j inner b.ring
       (maps.two m valid face chain strings parcel label source can b ring) in
       let A = slice_index b.ring i in
       let Z = slice_index b.ring j in
-      let across = maps.across m valid face chain strings parcel label source can b ring in
-      let sides : sides_along A inner Z ≡ sides_of_chain chain =
-      sym (sides_of_chain-is A inner Z) ∙ ap sides_of_chain across in
       subst (λ (l : List Side). Contains l s)
       (sym (ap sides_of k.left ∙ sides_along-append A inner Z k.ys A))
       (Contains-append_left (sides_along A inner Z) (sides_along Z k.ys A) s
-      (subst (λ (l : List Side). Contains l s) (sym sides) h))
+      (subst (λ (l : List Side). Contains l s) (sym sides-across) h))
 
   chain-right : (s : Side) → Contains (sides_of_chain chain) s
       → Contains (sides_of R) (opposite s)
@@ -217,9 +220,6 @@ module _ (m : Map) (valid : IsValid m) (face : Face) (chain strings : List ℕ) 
       (maps.two m valid face chain strings parcel label source can b ring) in
       let A = slice_index b.ring i in
       let Z = slice_index b.ring j in
-      let across = maps.across m valid face chain strings parcel label source can b ring in
-      let sides : sides_along A inner Z ≡ sides_of_chain chain =
-      sym (sides_of_chain-is A inner Z) ∙ ap sides_of_chain across in
       let turned = map opposite (sides_along A inner Z) in
       subst (λ (l : List Side). Contains l (opposite s))
       (sym (ap sides_of k.right ∙ sides_along-append Z (reverse inner) A k.xs Z))
@@ -227,7 +227,7 @@ module _ (m : Map) (valid : IsValid m) (face : Face) (chain strings : List ℕ) 
       (subst (λ (l : List Side). Contains l (opposite s)) (sym (sides_along-reverse A inner Z))
       (Contains-permutation turned (reverse turned) (opposite s) (IsPermutation-reverse turned)
       (Contains-map opposite (sides_along A inner Z) s
-      (subst (λ (l : List Side). Contains l s) (sym sides) h)))))
+      (subst (λ (l : List Side). Contains l s) (sym sides-across) h)))))
 
   were-parted : IsPermutation m.boundaries (b ∷ others_of)
   were-parted =

@@ -1,11 +1,11 @@
 -- Rows that are put back, or changed and changed back, are those that were there.
-use Rattle.std.proofs.Common.{◌≡◌, ◌≢◌, ℕ, zero, suc, List, [], ◌∷◌, ◌++◌, Bool, true, false, not, cond, map, filter, true≢false, nat_eq, ◌==◌, refl, sym, ap, ◌∙◌, subst, Option, Some, None, is_some, slice_get, insert, length, ◌≤◌, arith}
-use Rattle.std.specs.Prelude.{unwrap_or, option_map, if◌then◌else◌}
+use Rattle.std.proofs.Common.{◌≡◌, ◌≢◌, ℕ, zero, suc, List, [], ◌∷◌, ◌++◌, Bool, true, false, not, map, filter, true≢false, nat_eq, ◌==◌, refl, sym, ap, ◌∙◌, subst, Some, None, is_some, slice_get, insert, length, ◌≤◌, arith}
+use Rattle.std.specs.Prelude.{if◌then◌else◌}
 use Rattle.std.specs.List.{AllByRecursion, list_any}
 use Rattle.std.proofs.lemmas.Bool.{eqb-true, eq-eqb, false_from_ne_true}
 use Rattle.cad_map.specs.Table.{row_with, without_row, with_row}
 use Rattle.cad_map.specs.Valid.{EachPair}
-use Rattle.cad_map.proofs.CallerLemmas.{others-from_none, found-number}
+use Rattle.cad_map.proofs.CallerLemmas.{others-from_none}
 
 -- ---- A number in a list of different numbers
 

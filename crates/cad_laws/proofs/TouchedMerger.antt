@@ -102,10 +102,7 @@ module _ (m : Map) (k e : ℕ) (valid : IsValid m) (can : CanMerge m k e) where
   it-found = found m valid K E can.shared_chain shared_chain-in
 
   on-points : KeepsPoints m made named valid.sound.v1 Any
-  on-points = record {
-    position = λ q known ok. refl;
-    points = λ q known. inr (known, tt);
-  }
+  on-points = record { position = λ q known ok. refl; points = λ q known. inr (known, tt) }
 
   on-strings : KeepsStrings m made named valid.sound.v1 Any
   on-strings = record {

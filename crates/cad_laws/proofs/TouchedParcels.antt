@@ -72,10 +72,7 @@ module _ (m : Map) (valid : IsValid m) (face : Face) (parcel : ℕ) (label : Lis
   Any q = Unit {0}
 
   on-points : KeepsPoints m made named valid.sound.v1 Any
-  on-points = record {
-    position = λ q known ok. refl;
-    points = λ q known. inr (known, tt);
-  }
+  on-points = record { position = λ q known ok. refl; points = λ q known. inr (known, tt) }
 
   on-strings : KeepsStrings m made named valid.sound.v1 Any
   on-strings = record {
