@@ -83,16 +83,15 @@ moved-on m p x y t = position-in_range x y (allowed m (Move p x y) t.allowed).ra
 
 -- ---- Two strings by their numbers
 
-pub lower-second : (p : ℕ) (f g s t : StringRow) → by_number (f ∷ g ∷ []) ≡ s ∷ t ∷ [] → nat_lt g.number f.number ≡ true → ◌≡◌ {A = ℕ × ℕ} (far_end g p, far_end f p) (far_end s p, far_end t p)
-lower-second p f g s t are low =
-    let e : g ∷ f ∷ [] ≡ s ∷ t ∷ [] = rw low at are in
-    let a : g ≡ s = cc in
-    let b : f ≡ t = cc in
-    λ i. (far_end (a i) p, far_end (b i) p)
-
-pub lower-first : (p : ℕ) (f g s t : StringRow) → by_number (f ∷ g ∷ []) ≡ s ∷ t ∷ [] → nat_lt g.number f.number ≡ false → ◌≡◌ {A = ℕ × ℕ} (far_end f p, far_end g p) (far_end s p, far_end t p)
-lower-first p f g s t are low =
-    let e : f ∷ g ∷ [] ≡ s ∷ t ∷ [] = rw low at are in
+-- two strings that are the same as two others have the same far ends
+same-far : (p : ℕ) (f g s t : StringRow) → f ∷ g ∷ [] ≡ s ∷ t ∷ [] → ◌≡◌ {A = ℕ × ℕ} (far_end f p, far_end g p) (far_end s p, far_end t p)
+same-far p f g s t are =
     let a : f ≡ s = cc in
     let b : g ≡ t = cc in
     λ i. (far_end (a i) p, far_end (b i) p)
+
+pub lower-second : (p : ℕ) (f g s t : StringRow) → by_number (f ∷ g ∷ []) ≡ s ∷ t ∷ [] → nat_lt g.number f.number ≡ true → ◌≡◌ {A = ℕ × ℕ} (far_end g p, far_end f p) (far_end s p, far_end t p)
+lower-second p f g s t are low = same-far p g f s t (rw low at are)
+
+pub lower-first : (p : ℕ) (f g s t : StringRow) → by_number (f ∷ g ∷ []) ≡ s ∷ t ∷ [] → nat_lt g.number f.number ≡ false → ◌≡◌ {A = ℕ × ℕ} (far_end f p, far_end g p) (far_end s p, far_end t p)
+lower-first p f g s t are low = same-far p f g s t (rw low at are)

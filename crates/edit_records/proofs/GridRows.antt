@@ -11,10 +11,14 @@ use Rattle.cad_map.specs.Map.{Map, position_of}
 use Rattle.cad_map.specs.Valid.{EachPair}
 use Rattle.cad_map.proofs.CallerLemmas.{All-at_each, Contains-map, map-Contains, others-from_none, row_with-earlier, take-more}
 use Rattle.cell_grid.specs.declared.entry.Entry.{Entry}
-use Rattle.cell_grid.specs.Kept.{Kept, IsHeld, HoldsNone, HoldsOneMore}
+use Rattle.cell_grid.specs.Kept.{Kept, IsHeld, HoldsNone, HoldsSame, HoldsOneMore}
 use Rattle.cell_grid.specs.Grid.{Grid, HoldsString, HoldsPoint}
 use Rattle.cad_valid.specs.Near.{HoldsMap}
 use Rattle.edit_records.specs.Gridded.{HoldsJust, IsGridOf, string_entry, point_entry, string_entries, point_entries}
+
+-- what stayed in two changes stayed
+pub same-still : (old between new : Kept) → HoldsSame old between → HoldsSame between new → HoldsSame old new
+same-still old between new first second = λ e. ((λ h. (first e).0 ((second e).0 h)), (λ h. (second e).1 ((first e).1 h)))
 
 none-in : {X : Type 0} (x : X) → ¬ Contains [] x
 none-in x h = let low = h.1 in omega arith

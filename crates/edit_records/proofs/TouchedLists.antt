@@ -23,7 +23,7 @@ use Rattle.cad_map.specs.Merger.{ChainInRings, shared_chains, shared_sides}
 use Rattle.cad_map.specs.Touched.{Touched, IsTouched, StringStands, neighbours}
 use Rattle.cad_map.specs.Valid.{IsValid}
 use Rattle.cad_map.specs.Views.{HasFaces, HasNoFaces, HasSide, IsNoSide}
-use Rattle.cad_map.proofs.CallerLemmas.{All-follows, Contains-cases, Contains-first, Contains-later, Contains-filter, Contains-flat_map, Contains-map, filter-Contains, map-Contains, faces-told, some-faces, find-Contains, of_string, one_ring, Contains-has_side, has_side-Contains, Contains-in_part, list_any-Contains, beside, IsPermutation-canonical_order, is_face-refl, along-passed, IsFound, found}
+use Rattle.cad_map.proofs.CallerLemmas.{All-follows, Contains-cases, Contains-first, Contains-later, Contains-filter, Contains-flat_map, Contains-map, filter-Contains, map-Contains, faces-told, some-faces, find-Contains, of_string, one_ring, Contains-has_side, has_side-Contains, Contains-in_part, list_any-Contains, beside, IsPermutation-canonical_order, is_face-refl, along-passed, row-found, IsFound, found}
 use Rattle.cad_laws.specs.Faces.{IsMergedIn}
 use Rattle.cad_laws.specs.Touching.{touching, touched_by, touched_by_split, faces_where, goes_along, passes, points_of_shared_chain}
 use Rattle.cad_laws.specs.Tried.{IsTried}
@@ -127,6 +127,16 @@ module _ (m : Map) (valid : IsValid m) where
         (λ other. same_Some right b.face (sym faces.1 ∙ one_ring m valid (opposite (side_of s)) b among
             (subst (Contains {X = Side} (sides_of b.ring)) (λ i. (sym (to-is s p other end) i, far-to s p other i)) out))),
       )
+
+  -- a string at a point is found by its number
+  pub found-at : (p : ℕ) (s : StringRow) → Contains (strings_at m p) s → string_of m s.number ≡ Some s
+  found-at p s there = row-found m.strings s valid.sound.v1.strings.distinct (filter-Contains (λ t. is_end t p) m.strings s there).0
+
+  -- and which of its faces has the ring that leaves the point along it
+  pub out-of-point : (p : ℕ) (s : StringRow) → Contains (strings_at m p) s → (faces : Face × Face) (b : Boundary) → HasFaces m s.number faces.0 faces.1
+      → Contains m.boundaries b → Contains {X = Side} (sides_of b.ring) (p, far_end s p) → ((nat_eq s.from p ≡ true) → faces.0 ≡ b.face) × ((nat_eq s.from p ≡ false) → faces.1 ≡ b.face)
+  out-of-point p s there faces b told among out =
+      face-out s.number faces.0 faces.1 s p b told (found-at p s there) (filter-Contains (λ t. is_end t p) m.strings s there).1 among out
 
   -- the faces of the rings that go along a string are those on its sides
   pub face-along : (n : ℕ) (left right : Face) (s : StringRow) (b : Boundary) → HasFaces m n left right → string_of m n ≡ Some s → Contains m.boundaries b → IsTrue (goes_along s b.ring)

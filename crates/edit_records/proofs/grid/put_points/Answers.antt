@@ -1,7 +1,7 @@
 use Rattle.std.proofs.Common.{◌≤◌, length, sym, refl, rules}
 use Rattle.cad_rows.specs.declared.rows.PointRow.{PointRow}
 use Rattle.edit_records.specs.Gridded.{point_entry}
-use Rattle.edit_records.proofs.GridRows.{just-none, just-all, just-more, not-yet}
+use Rattle.edit_records.proofs.GridRows.{just-none, just-all, just-more, not-yet, same-still}
 use Rattle.edit_records.proofs.grid.put_points.Goals as goal
 
 pub loop-place-init : goal.loop-place-init
@@ -24,10 +24,7 @@ loop-place-preserved c =
     record {
       points = just-more (λ (p : PointRow). p.number) point_entry m.points (λ p. refl) c.requires.sound.points.distinct c.loop-place.place c.unwrap-row.result.now (sym at)
           c.loop-place.grid.points c.loop-place.invariant.points c.put_point.new.self.points c.in_ok-put_point.ensures.put;
-      strings = λ e. (
-        (λ h. (c.loop-place.invariant.strings e).0 ((c.put_point.ensures.strings e).0 h)),
-        (λ h. (c.put_point.ensures.strings e).1 ((c.loop-place.invariant.strings e).1 h)),
-      );
+      strings = same-still c.args.grid.now.strings c.loop-place.grid.strings c.put_point.new.self.strings c.loop-place.invariant.strings c.put_point.ensures.strings;
     }
 
 pub returns-clause-points : goal.returns-clause-points

@@ -1,7 +1,7 @@
 use Rattle.std.proofs.Common.{◌≤◌, length, sym, refl, rules}
 use Rattle.cad_rows.specs.declared.rows.StringRow.{StringRow}
 use Rattle.edit_records.specs.Gridded.{string_entry}
-use Rattle.edit_records.proofs.GridRows.{just-none, just-all, just-more, not-yet}
+use Rattle.edit_records.proofs.GridRows.{just-none, just-all, just-more, not-yet, same-still}
 use Rattle.edit_records.proofs.grid.put_strings.Goals as goal
 
 pub loop-place-init : goal.loop-place-init
@@ -24,10 +24,7 @@ loop-place-preserved c =
     record {
       strings = just-more (λ (s : StringRow). s.number) (string_entry m) m.strings (λ s. refl) c.requires.sound.strings.distinct c.loop-place.place c.unwrap-row.result.now (sym at)
           c.loop-place.grid.strings c.loop-place.invariant.strings c.put_string.new.self.strings (rw (c.position-in-loop-place.ensures, c.position.ensures) at c.in_ok-put_string.ensures.put);
-      points = λ e. (
-        (λ h. (c.loop-place.invariant.points e).0 ((c.put_string.ensures.points e).0 h)),
-        (λ h. (c.put_string.ensures.points e).1 ((c.loop-place.invariant.points e).1 h)),
-      );
+      points = same-still c.args.grid.now.points c.loop-place.grid.points c.put_string.new.self.points c.loop-place.invariant.points c.put_string.ensures.points;
     }
 
 pub returns-clause-strings : goal.returns-clause-strings
