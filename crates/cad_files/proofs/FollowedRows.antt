@@ -3,27 +3,8 @@ use Rattle.std.proofs.Common.{◌≡◌, refl, [], ◌∷◌}
 use Rattle.cad_map.proofs.CallerLemmas.{square, island}
 use Rattle.cad_files.specs.Follower.{followers}
 
--- inside the square
-inside : followers square (1, 2) ≡ 3 ∷ []
+-- inside the square and outside it, round the island in the parcel that it lies in and in the island's own, and at a
+-- point that no string leads on from
+worked : (followers square (1, 2) ≡ 3 ∷ []) × (followers square (2, 1) ≡ 4 ∷ []) × (followers island (6, 8) ≡ 7 ∷ []) × (followers island (7, 8) ≡ 6 ∷ []) × (followers square (1, 9) ≡ [])
 unfolding followers
-inside = refl
-
--- and outside it
-outside : followers square (2, 1) ≡ 4 ∷ []
-unfolding followers
-outside = refl
-
--- round the island, in the parcel that it lies in
-round_island : followers island (6, 8) ≡ 7 ∷ []
-unfolding followers
-round_island = refl
-
--- and in the island's parcel
-in_island : followers island (7, 8) ≡ 6 ∷ []
-unfolding followers
-in_island = refl
-
--- no string leads on from a point that has none
-no_string : followers square (1, 9) ≡ []
-unfolding followers
-no_string = refl
+worked = (refl, refl, refl, refl, refl)

@@ -152,29 +152,23 @@ module _ (sides : List PlanSide) (small : AllByRecursion (λ s. (s.from < 2 ^ 32
   abbrev meets : PlanSide → PlanSide → Bool
   meets s f = is_side (plan_side_of s) (plan_side_of f) || ((f.to == s.to) && (f.after == s.after))
 
+  -- a side that meets an earlier one, where none before it does, is the first that does
+  first-met : (k : ℕ) (first second : PlanSide) → Contains (take k sides) first → slice_get sides k ≡ Some second → meets second first ≡ true → NoneMet sides k → IsFirstMet sides k
+  first-met k first second among there met before = record { side = second; there = there; met = list_any-Contains (meets second) (take k sides) first among met; before = before }
+
   met-as_side : (k : ℕ) → Repeats as_side k → (NoneMet sides k) → IsFirstMet sides k
-  met-as_side k r before =
+  met-as_side k r =
       let t = twin-from (λ s. (s.from, s.to)) sides small_ends k r in
-      record {
-        side = t.second;
-        there = t.there;
-        met = list_any-Contains (meets t.second) (take k sides) t.first t.among
-            (ap (λ (v : Side). is_side v (plan_side_of t.first) || ((t.first.to == t.second.to) && (t.first.after == t.second.after))) (sym t.same)
-            ∙ ap (λ (b : Bool). b || ((t.first.to == t.second.to) && (t.first.after == t.second.after))) (is_side-refl (plan_side_of t.first)));
-        before = before;
-      }
+      first-met k t.first t.second t.among t.there
+      (ap (λ (v : Side). is_side v (plan_side_of t.first) || ((t.first.to == t.second.to) && (t.first.after == t.second.after))) (sym t.same)
+      ∙ ap (λ (b : Bool). b || ((t.first.to == t.second.to) && (t.first.after == t.second.after))) (is_side-refl (plan_side_of t.first)))
 
   met-by_follower : (k : ℕ) → Repeats by_follower k → (NoneMet sides k) → IsFirstMet sides k
-  met-by_follower k r before =
+  met-by_follower k r =
       let t = twin-from (λ s. (s.to, s.after)) sides small_afters k r in
-      record {
-        side = t.second;
-        there = t.there;
-        met = list_any-Contains (meets t.second) (take k sides) t.first t.among
-            (or-last (is_side (plan_side_of t.second) (plan_side_of t.first)) _
-            (and-both (t.first.to == t.second.to) (t.first.after == t.second.after) (eq-eqb t.first.to t.second.to (ap (λ (v : Side). v.0) t.same)) (eq-eqb t.first.after t.second.after (ap (λ (v : Side). v.1) t.same))));
-        before = before;
-      }
+      first-met k t.first t.second t.among t.there
+      (or-last (is_side (plan_side_of t.second) (plan_side_of t.first)) _
+      (and-both (t.first.to == t.second.to) (t.first.after == t.second.after) (eq-eqb t.first.to t.second.to (ap (λ (v : Side). v.0) t.same)) (eq-eqb t.first.after t.second.after (ap (λ (v : Side). v.1) t.same))))
 
   none-met : (n : ℕ) → Differ as_side n → Differ by_follower n → NoneMet sides n
   none-met n apart others k s below at = list_any-none (meets s) (take k sides) (λ f among.

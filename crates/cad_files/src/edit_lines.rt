@@ -65,22 +65,14 @@ fn read_attachment(r: &Fields<'_>) -> Option<Attachment>
 fn read_new_parcel(alloc: Global, r: &Fields<'_>) -> Result<Option<NewParcel>, Memory>
     ensures { IfOk result (λ parcel. parcel ≡ new_parcel_of r.now) }
 {
-    let Some(face) = face(r.a) else {
+    let (Some(face), Some(parcel), Some(source)) = (face(r.a), row_number(r.d), row_number(r.f))
+    else {
         return Ok(None);
     };
-    let Some(points) = number_list(alloc, r.b)? else {
-        return Ok(None);
-    };
-    let Some(strings) = number_list(alloc, r.c)? else {
-        return Ok(None);
-    };
-    let Some(parcel) = row_number(r.d) else {
+    let (Some(points), Some(strings)) = (number_list(alloc, r.b)?, number_list(alloc, r.c)?) else {
         return Ok(None);
     };
     let Some(label) = text(alloc, r.e)? else {
-        return Ok(None);
-    };
-    let Some(source) = row_number(r.f) else {
         return Ok(None);
     };
     Ok(Some(NewParcel {

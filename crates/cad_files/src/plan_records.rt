@@ -113,13 +113,11 @@ fn parcel_record(alloc: Global, r: &Fields<'_>) -> Result<Option<PlanRecord>, Me
     if !are_blank(&[r.d, r.e, r.f]) {
         return Ok(None);
     }
-    let Some(number) = row_number(r.a) else {
-        return Ok(None);
-    };
-    let Some(label) = text(alloc, r.b)? else {
-        return Ok(None);
-    };
-    let Some(sources) = distinct_sources(alloc, r.c)? else {
+    let (Some(number), Some(label), Some(sources)) = (
+        row_number(r.a),
+        text(alloc, r.b)?,
+        distinct_sources(alloc, r.c)?,
+    ) else {
         return Ok(None);
     };
     Ok(Some(PlanRecord::Parcel(ParcelRecord {
