@@ -30,6 +30,7 @@ impl PlainMap {
 }
 
 // Puts the sources of the view into a map without sources.
+#[tactic(auto, using(crate::proofs::Lists::Entries::put_in_turn))]
 fn copy_sources<M: MapView>(made: &mut PlainMap, view: &M) -> Result<(), Memory>
     requires valid { IsValid (M.map view.now) }
     requires none { made.old.sources ≡ [] }
@@ -43,6 +44,7 @@ fn copy_sources<M: MapView>(made: &mut PlainMap, view: &M) -> Result<(), Memory>
 }
 
 // Puts the points of the view into a map without points.
+#[tactic(auto, using(crate::proofs::Lists::Entries::put_in_turn))]
 fn copy_points<M: MapView>(made: &mut PlainMap, view: &M) -> Result<(), Memory>
     requires valid { IsValid (M.map view.now) }
     requires none { made.old.points ≡ [] }
@@ -56,6 +58,7 @@ fn copy_points<M: MapView>(made: &mut PlainMap, view: &M) -> Result<(), Memory>
 }
 
 // Puts the parcels of the view into a map without parcels.
+#[tactic(auto, using(crate::proofs::Lists::Entries::put_in_turn))]
 fn copy_parcels<M: MapView>(made: &mut PlainMap, view: &M) -> Result<(), Memory>
     requires valid { IsValid (M.map view.now) }
     requires none { made.old.parcels ≡ [] }
@@ -69,6 +72,7 @@ fn copy_parcels<M: MapView>(made: &mut PlainMap, view: &M) -> Result<(), Memory>
 }
 
 // Puts the strings of the view into a map without strings.
+#[tactic(auto, using(crate::proofs::Lists::Entries::put_in_turn))]
 fn copy_strings<M: MapView>(made: &mut PlainMap, view: &M) -> Result<(), Memory>
     requires valid { IsValid (M.map view.now) }
     requires none { made.old.strings ≡ [] }

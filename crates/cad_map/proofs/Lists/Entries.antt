@@ -126,3 +126,6 @@ pub take-more : {X : Type 0} (xs : List X) (i : ℕ) (x : X) → slice_get xs i 
 take-more [] i x at = cc
 take-more (y ∷ xs) zero x at = let same : y ≡ x = cc in ap (λ (z : _). z ∷ []) (sym same)
 take-more (y ∷ xs) (suc i) x at = rw (add-one (suc i)) (ap (λ (zs : List _). y ∷ zs) (take-more xs i x at ∙ ap (λ (n : ℕ). take n xs) (add-one i)))
+
+-- that a list is put up to a place, and with the element there up to the next
+pub ruleset put_in_turn = (take-more)
