@@ -111,3 +111,6 @@ row-of m p some = by (point_of m p) refl
 
 pub other-position : (a b : Position) → ¬ (a ≡ b) → not (is_same_position a b) ≡ true
 other-position a b ne = ap not (false_from_ne_true (is_same_position a b) (λ t. ne (same_position a b t)))
+
+-- what is told of a row that a number finds, and where it finds none
+pub ruleset rows_found = (of_point, of_no_point, of_string, of_no_string)

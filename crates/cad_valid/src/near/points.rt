@@ -22,6 +22,7 @@ pub(crate) fn are_alone<M: MapView>(map: &M, grid: &CellGrid, points: &[PointNo]
 }
 
 /// Whether no other point of the map lies where the one with this number does.
+#[tactic(auto, using(crate::proofs::RowsByNumber::rows_found))]
 fn is_alone_if_there<M: MapView>(map: &M, grid: &CellGrid, point: PointNo) -> bool
     requires sound { HasSoundRows (M.map map.now) }
     requires held { HoldsMap grid.now (M.map map.now) }
@@ -44,6 +45,7 @@ fn is_alone<M: MapView>(map: &M, grid: &CellGrid, point: &PointRow) -> bool
 }
 
 /// Whether the point with a number is this one, or lies elsewhere.
+#[tactic(auto, using(crate::proofs::RowsByNumber::rows_found))]
 fn is_apart_if_there<M: MapView>(map: &M, point: &PointRow, other: PointNo) -> bool
     requires { HasSoundRows (M.map map.now) }
     ensures { IsTrue result ↔ OfPoint (M.map map.now) (IsApart point.now) other }

@@ -27,6 +27,7 @@ pub(crate) fn are_uncrossed<M: MapView>(map: &M, grid: &CellGrid, strings: &[Str
 }
 
 /// Whether nothing crosses the string with a number.
+#[tactic(auto, using(crate::proofs::RowsByNumber::rows_found))]
 fn is_uncrossed_if_there<M: MapView>(map: &M, grid: &CellGrid, string: StringNo) -> bool
     requires rows { HasPlacedRows (M.map map.now) }
     requires held { HoldsMap grid.now (M.map map.now) }
@@ -62,6 +63,7 @@ fn meets_at_ends<M: MapView>(map: &M, grid: &CellGrid, string: &StringRow, here:
 }
 
 /// Whether the string with a number is this one, or meets it only at a shared end.
+#[tactic(auto, using(crate::proofs::RowsByNumber::rows_found))]
 fn meets_if_there<M: MapView>(map: &M, string: &StringRow, here: &Placed, other: StringNo) -> bool
     requires rows { HasPlacedRows (M.map map.now) }
     requires placed { HasTwoPoints (M.map map.now) string.now }
@@ -101,6 +103,7 @@ fn bears_ends<M: MapView>(map: &M, grid: &CellGrid, string: &StringRow, here: &P
 }
 
 /// Whether the point with a number doesn't lie on this string, or is one of its ends.
+#[tactic(auto, using(crate::proofs::RowsByNumber::rows_found))]
 fn bears_if_there<M: MapView>(map: &M, string: &StringRow, here: &Placed, point: PointNo) -> bool
     requires rows { HasPlacedRows (M.map map.now) }
     requires here { here.now ≡ placed_string_of (M.map map.now) string.now }
@@ -126,6 +129,7 @@ pub(crate) fn lie_at_ends<M: MapView>(map: &M, grid: &CellGrid, points: &[PointN
 }
 
 /// Whether the point with a number lies on strings only as their end.
+#[tactic(auto, using(crate::proofs::RowsByNumber::rows_found))]
 fn lies_at_ends_if_there<M: MapView>(map: &M, grid: &CellGrid, point: PointNo) -> bool
     requires rows { HasPlacedRows (M.map map.now) }
     requires held { HoldsMap grid.now (M.map map.now) }
@@ -148,6 +152,7 @@ fn lies_at_ends<M: MapView>(map: &M, grid: &CellGrid, point: &PointRow) -> bool
 }
 
 /// Whether a point doesn't lie on the string with a number, or is one of its ends.
+#[tactic(auto, using(crate::proofs::RowsByNumber::rows_found))]
 fn lies_if_there<M: MapView>(map: &M, point: &PointRow, string: StringNo) -> bool
     requires { HasPlacedRows (M.map map.now) }
     ensures { IsTrue result

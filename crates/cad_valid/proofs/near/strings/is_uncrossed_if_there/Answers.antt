@@ -1,6 +1,6 @@
 use Rattle.std.proofs.Common.{sym}
 use Rattle.cad_valid.specs.Near.{IsUncrossed}
-use Rattle.cad_valid.proofs.RowsByNumber.{of_string, of_no_string, string-placed}
+use Rattle.cad_valid.proofs.RowsByNumber.{of_string, string-placed}
 use Rattle.cad_valid.proofs.near.strings.is_uncrossed_if_there.Goals as goal
 
 pub is_uncrossed-requires-clause-placed : goal.is_uncrossed-requires-clause-placed
@@ -11,8 +11,3 @@ pub returns-in-Some : goal.returns-in-Some
 returns-in-Some g c =
     let m = g.M.MapView.map c.args.map.now in
     of_string m c.requires.rows.v1 (IsUncrossed m) c.args.string c.in-Some.row.now (sym c.in-Some.ensures) c.is_uncrossed.result c.is_uncrossed.ensures
-
-pub returns-in-None : goal.returns-in-None
-returns-in-None g c =
-    let m = g.M.MapView.map c.args.map.now in
-    of_no_string m c.requires.rows.v1 (IsUncrossed m) c.args.string (sym c.in-None.ensures)

@@ -1,7 +1,7 @@
 use Rattle.std.proofs.Common.{sym}
 use Rattle.cad_map.specs.Valid.{LiesOnlyAsEnd}
 use Rattle.cad_valid.proofs.PlacedStrings.{lies-by}
-use Rattle.cad_valid.proofs.RowsByNumber.{of_string, of_no_string, string-placed}
+use Rattle.cad_valid.proofs.RowsByNumber.{of_string, string-placed}
 use Rattle.cad_valid.proofs.near.strings.lies_if_there.Goals as goal
 
 pub placed_string-requires : goal.placed_string-requires
@@ -13,8 +13,3 @@ returns-in-Some g c =
     let m = g.M.MapView.map c.args.map.now in
     let lies = lies-by m c.args.point.now c.in-Some.row.now c.lies_only_as_end.result _ _ c.placed_point.ensures c.placed_string.ensures c.lies_only_as_end.ensures in
     of_string m c.requires.v1 (LiesOnlyAsEnd m c.args.point.now) c.args.string c.in-Some.row.now (sym c.in-Some.ensures) c.lies_only_as_end.result lies
-
-pub returns-in-None : goal.returns-in-None
-returns-in-None g c =
-    let m = g.M.MapView.map c.args.map.now in
-    of_no_string m c.requires.v1 (LiesOnlyAsEnd m c.args.point.now) c.args.string (sym c.in-None.ensures)

@@ -1,6 +1,6 @@
 use Rattle.std.proofs.Common.{sym}
 use Rattle.cad_valid.specs.Near.{MeetsIfOther}
-use Rattle.cad_valid.proofs.RowsByNumber.{of_string, of_no_string, string-placed}
+use Rattle.cad_valid.proofs.RowsByNumber.{of_string, string-placed}
 use Rattle.cad_valid.proofs.near.strings.meets_if_there.Goals as goal
 
 pub meets_if_other-requires-clause-other_placed : goal.meets_if_other-requires-clause-other_placed
@@ -11,8 +11,3 @@ pub returns-in-Some : goal.returns-in-Some
 returns-in-Some g c =
     let m = g.M.MapView.map c.args.map.now in
     of_string m c.requires.rows.v1 (MeetsIfOther m c.args.string.now) c.args.other c.in-Some.row.now (sym c.in-Some.ensures) c.meets_if_other.result c.meets_if_other.ensures
-
-pub returns-in-None : goal.returns-in-None
-returns-in-None g c =
-    let m = g.M.MapView.map c.args.map.now in
-    of_no_string m c.requires.rows.v1 (MeetsIfOther m c.args.string.now) c.args.other (sym c.in-None.ensures)
