@@ -94,6 +94,10 @@ star-seen m p =
     All-filter (IsPlacedSpoke m) (λ e. e.at == p) (spokes_of m)
     (All-follows (IsSpoke m) (IsPlacedSpoke m) (λ e is. is.position) (spokes_of m) (IsSpoke-all m))
 
+-- the spoke that alone may follow, seen from the side's own ends, leads to the one follower
+pub told-sole : (m : Map) (from at : ℕ) (w : Spoke) → IsOnly (arrival_of m from at) (star at (spokes_of m)) (star at (spokes_of m)) w → followers m (from, at) ≡ w.far ∷ []
+told-sole m from at w only = only-follower m (from, at) (star at (spokes_of m)) (far-star m at) (star-seen m at) w only
+
 module _ (m : Map) (from at : ℕ) (back here : Position) (ends : List Spoke) (is_back : back ≡ position_of m from) (is_here : here ≡ position_of m at) (are : ends ≡ star at (spokes_of m)) where
   abbrev seen_from : Arrival
   seen_from = record { from = from; back = back; at = here }

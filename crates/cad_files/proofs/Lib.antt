@@ -41,3 +41,4 @@ pub mod NextSides
 pub mod PoolFacts
 pub mod RepeatFacts
 pub mod CallerLemmas
+pub mod TurnFacts

@@ -17,3 +17,4 @@ pub mod Pool
 pub mod Arrival
 pub mod Corners
 pub mod Reports
+pub mod Turns

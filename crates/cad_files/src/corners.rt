@@ -5,6 +5,7 @@ ghost use Rattle.cad_files.specs.Follower.{labelled_sides};
 ghost use Rattle.cad_files.specs.Building.{bad_corner};
 ghost use Rattle.cad_files.specs.Cycles.{AreLinked};
 ghost use Rattle.cad_files.specs.Arrival.{AreStarsOf};
+ghost use Rattle.cad_files.specs.Turns.{AreTurnsOf};
 ghost use Rattle.cad_files.specs.Corners.{labelled, HasFollower, AreLinkedIn, IsSpokeOf, IsStop};
 ghost use Rattle.cad_files.specs.declared.faults.PlanFault.TheVariants as faults;
 
@@ -13,8 +14,10 @@ use crate::followers::follower;
 use crate::repeats::first_met;
 use crate::rows::PlanString;
 use crate::sides::PlanSide;
+use crate::turns::{Turn, turns_of};
 use cad_map::{PlainMap, Spoke, Stars};
 use cad_rows::{Face, Memory, PointNo, StringNo};
+use key_lists::KeyLists;
 use std::alloc::Global;
 
 // The place of the side along a spoke away from its point.
@@ -61,10 +64,12 @@ fn plan_side(
 fn follow_each(
     plain: &PlainMap,
     stars: &Stars,
+    turns: &KeyLists<Turn>,
     strings: &[PlanString],
     passed: &mut Vec<PlanSide>,
 ) -> Result<Option<PointNo>, Memory>
     requires stars { AreStarsOf plain.now stars.now }
+    requires turns { AreTurnsOf plain.now turns.now }
     requires rows { plain.now.strings ≡ map (λ s. s.row) strings.now }
     requires none { passed.old.items ≡ [] }
     ensures each { OnOk result (AllByRecursion (HasFollower plain.now) passed.new.items) }
@@ -77,13 +82,13 @@ fn follow_each(
     for i in 0..strings.len() {
         let string = &strings[i];
         let row = &string.row;
-        let Some(left) = follower(plain, stars, row.from, row.to) else {
+        let Some(left) = follower(plain, stars, turns, row.from, row.to) else {
             return Ok(Some(row.to));
         };
         let next = place_along(strings, &left);
         let ends = (row.from, row.to);
         passed.push(plan_side(row.number, ends, string.left, left.far, next))?;
-        let Some(right) = follower(plain, stars, row.to, row.from) else {
+        let Some(right) = follower(plain, stars, turns, row.to, row.from) else {
             return Ok(Some(row.from));
         };
         let next = place_along(strings, &right);
@@ -96,7 +101,7 @@ fn follow_each(
 /// Both sides of each of these strings, each with the one that follows it, up to one that stands among earlier ones,
 /// hasn't just one follower, or has that of an earlier side to the same point.
 ///
-/// Takes n log n steps for n strings, and at a point of d strings d squared.
+/// Takes n log n steps for n strings; but where two of the d strings of a point lead into one direction, d squared there.
 pub(crate) fn follow_sides(
     alloc: Global,
     plain: &PlainMap,
@@ -112,8 +117,9 @@ pub(crate) fn follow_sides(
     ensures err { IfErr result (λ fault. fault ≢ faults.Memory
         → option_map (λ n. faults.Corner n) (bad_corner plain.now strings.now) ≡ Some fault) }
 {
+    let turns = turns_of(alloc, plain, stars)?;
     let mut passed = Vec::new(alloc);
-    let stop = follow_each(plain, stars, strings, &mut passed)?;
+    let stop = follow_each(plain, stars, &turns, strings, &mut passed)?;
     if let Some(place) = first_met(alloc, passed.as_slice())? {
         return Err(PlanFault::Corner(passed[place].to));
     }

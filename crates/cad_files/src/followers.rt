@@ -5,10 +5,13 @@ ghost use Rattle.cad_map.specs.Map.{position_of};
 ghost use Rattle.cad_map.specs.Stars.{star, spokes_of};
 ghost use Rattle.cad_files.specs.Follower.{followers};
 ghost use Rattle.cad_files.specs.Arrival.{AreStarsOf, leaves_open as leaves_open_in, may_follow_there as may_follow_among, is_barred as is_barred_in, is_other as is_other_than, IsOnly, HasNone, HasTwo, IsPlacedSpoke};
+ghost use Rattle.cad_files.specs.Turns.{AreTurnsOf};
 
+use crate::turns::{MANY_STRINGS, Turn, turn_after};
 use cad_map::{PlainMap, Spoke, Stars, position};
 use cad_rows::PointNo;
 use geo_exact::{Pt, in_sector};
+use key_lists::KeyLists;
 
 // A side at its end: the point that it comes from, the position of that, and the position of its end.
 #[derive(Drop)]
@@ -99,11 +102,14 @@ fn last_met(ends: &[Spoke], side: &Arrival) -> Option<Spoke>
 
 // ---- Followers
 
-// The position of a point. Mostly one of these spokes leads there, and tells it.
+// The position of a point. Mostly one of these spokes leads there, and tells it, where they are few.
 fn position_beyond(plain: &PlainMap, ends: &[Spoke], point: PointNo) -> Pt
     requires { AllByRecursion (IsPlacedSpoke plain.now) ends.now }
     ensures { result ≡ position_of plain.now point }
 {
+    if ends.len() >= MANY_STRINGS {
+        return position(plain, point);
+    }
     for end in ends {
         if end.far == point {
             return end.position;
@@ -156,14 +162,24 @@ fn searched_follower(ends: &[Spoke], side: &Arrival) -> Option<Spoke>
 /// no other string on the way round from there, counterclockwise, to where the side comes from. Where no strings cross
 /// that is the next half-edge of a doubly connected edge list, as in de Berg et al., Computational Geometry, chapter 2.
 ///
-/// Three looks at each string of the end tell it. Where they don't, as where two strings lead into one direction, each
-/// is compared with each.
-pub(crate) fn follower(plain: &PlainMap, stars: &Stars, from: PointNo, to: PointNo) -> Option<Spoke>
-    requires { AreStarsOf plain.now stars.now }
+/// Where many strings end the order of their directions tells it. Else, or where that doesn't, three looks at each do;
+/// and where they don't, as where two strings lead into one direction, each is compared with each.
+pub(crate) fn follower(
+    plain: &PlainMap,
+    stars: &Stars,
+    turns: &KeyLists<Turn>,
+    from: PointNo,
+    to: PointNo,
+) -> Option<Spoke>
+    requires stars { AreStarsOf plain.now stars.now }
+    requires turns { AreTurnsOf plain.now turns.now }
     ensures among { IfSome result (λ w. Contains (star to (spokes_of plain.now)) w) }
     ensures some { IfSome result (λ w. followers plain.now (from, to) ≡ w.far ∷ []) }
     ensures none { IfNone result ((length (followers plain.now (from, to)) == 1) ≡ false) }
 {
+    if let Some(spoke) = turn_after(turns, from, to) {
+        return Some(spoke);
+    }
     let ends = stars.ends(to);
     let side = Arrival {
         from,

@@ -28,6 +28,7 @@ mod rows;
 mod side_pool;
 mod sides;
 mod sink;
+mod turns;
 mod writing;
 
 pub use answers::{answer_text, syntax_text};

@@ -17,7 +17,8 @@ use std::alloc::Global;
 /// in de Berg et al., Computational Geometry, chapter 2.
 ///
 /// A fault is the first in the rows, or the first rule that their map breaks. Up to that rule it takes n log n steps for n
-/// strings, and at a point of d strings d squared. The map's tables find numbers by the given hash.
+/// strings; but where two of the d strings of a point lead into one direction, d squared there. The map's tables find
+/// numbers by the given hash.
 pub fn build(alloc: Global, hash: NumberHash, rows: &PlanRows) -> Result<PlainMap, PlanFault>
     ensures ok { IfOk result (IsBuilt rows.now) }
     ensures err { IfErr result (λ fault. fault ≢ faults.Memory → IsBuildFault rows.now fault) }

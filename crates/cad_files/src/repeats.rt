@@ -8,8 +8,8 @@ use cad_rows::{Memory, PointNo};
 use std::alloc::Global;
 use sweep::first_repeated;
 
-// Two points as one number.
-fn key(first: PointNo, second: PointNo) -> u64
+/// Two points as one number.
+pub(crate) fn key(first: PointNo, second: PointNo) -> u64
     ensures value { result ≡ key_of (first, second) }
     ensures small { (first < 2 ^ 32) × (second < 2 ^ 32) }
 {

@@ -6,3 +6,4 @@ pub mod SameDirection
 pub mod StringEnds
 pub mod StarFacts
 pub mod StringsTold
+pub mod InTurn

@@ -22,3 +22,4 @@ pub mod SharedChains
 pub mod Costs
 pub mod Touched
 pub mod Stars
+pub mod Turn

@@ -16,6 +16,7 @@ mod stars;
 mod store;
 mod sums;
 mod table;
+mod turn;
 mod walk;
 
 pub use boundary::Boundary;
@@ -32,4 +33,5 @@ pub use stars::{Spoke, Stars};
 pub use store::{Counts, MapStore, MapView};
 pub use sums::sum_of;
 pub use table::{Numbered, Table};
+pub use turn::sort_in_turn;
 pub use walk::Walk;

@@ -8,7 +8,7 @@ use Rattle.geo_exact.specs.Sector.{in_sector}
 use Rattle.geo_exact.proofs.Directions.Sign.{above, zero_, below}
 use Rattle.geo_exact.proofs.Directions.{by_signs, Sign, sign, cross, cross_back, length_not_negative}
 
-cross_self : (x y : ℤ) → cross x y x y ≡ pos 0
+pub cross_self : (x y : ℤ) → cross x y x y ≡ pos 0
 cross_self x y = omega (arith, ints)
 
 not_less : (z : ℤ) → pos 0 ≤ℤ z → int_lt z (pos 0) ≡ false

@@ -78,7 +78,7 @@ row_of m p known = by (point_of m p) refl known
         let found = find-Contains (λ (r : PointRow). r.number == p) m.points row is in
         record { row = row; there = found.0; number = eqb-true row.number p found.1; position = ap (λ (o : Option PointRow). unwrap_or (option_map (λ r. r.position) o) origin) is }
 
-same_position : (a b : Position) → a ≡ b → is_same_position a b ≡ true
+pub same_position : (a b : Position) → a ≡ b → is_same_position a b ≡ true
 same_position a b e = rw (sym e) (and_from (int_eq a.x a.x) (int_eq a.y a.y) (int_eq_equiv.refl a.x) (int_eq_equiv.refl a.y))
 
 not-true : (b : Bool) → not b ≡ true → b ≡ true → ⊥

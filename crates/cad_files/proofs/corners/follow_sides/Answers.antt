@@ -18,13 +18,13 @@ returns-in-Some-stop-clause-err c = λ nm.
     let stop = rw c.in-Some-stop.is at c.in_ok-stop.ensures.stop in
     ap (option_map (λ n. faults.Corner n)) (stop-corner c.args.plain.now c.args.strings.now passed c.in_ok-stop.ensures.each c.in-Some-stop.end stop none)
 
-pub returns-in-None-clause-linked : goal.returns-in-None-clause-linked
-returns-in-None-clause-linked c =
+pub returns-clause-linked : goal.returns-clause-linked
+returns-clause-linked c =
     let all = rw c.in-None.is at c.in_ok-stop.ensures.all in
     are-linked c.args.strings.now c.follow_each.new.passed.items all c.in_ok-stop.ensures.linked
 
-pub returns-in-None-clause-free : goal.returns-in-None-clause-free
-returns-in-None-clause-free c =
+pub returns-clause-free : goal.returns-clause-free
+returns-clause-free c =
     let passed = c.follow_each.new.passed.items in
     let none : NoneMet passed (length passed) = rw (c.in_default.is, c.as_slice.ensures.value) at c.in_ok-place.ensures.none in
     let all = rw c.in-None.is at c.in_ok-stop.ensures.all in
