@@ -132,6 +132,9 @@ module _ (m : Map) (sound : HasSoundRows m) where
     (λ gone. refl),
   )
 
+  -- a string and a point that the map doesn't have at all are stale
+  pub ruleset rows_gone = (string-gone, point-gone)
+
   -- what isn't seen to pass does so where it isn't there
   pub string-passes : (test : Lying → Bool) (h : HeldString) (b : Bool) → test (held_string h) ≡ false → IsTrue b ↔ (¬ HasStringThere m h) → IsTrue b ↔ OfHeldString m test h
   unfolding OfHeldString

@@ -1,5 +1,5 @@
 -- Tests of the strings of a point, as a view tells them one after another.
-use Rattle.std.proofs.Common.{◌≡◌, ◌+◌, ◌<◌, ◌≤◌, ℕ, sym, ap, ◌∙◌, Bool, true, ◌&&◌, List, [], ◌∷◌, length, take, slice_get, Bor, Option, Some, option_copied}
+use Rattle.std.proofs.Common.{◌≡◌, ◌+◌, ◌<◌, ◌≤◌, ℕ, refl, arith, sym, ap, ◌∙◌, Bool, true, ◌&&◌, List, [], ◌∷◌, length, take, slice_get, Bor, Option, Some, option_copied}
 use Rattle.std.specs.Prelude.{IsPermutation}
 use Rattle.std.specs.List.{Contains, list_all}
 use Rattle.std.proofs.lemmas.List.Folds.{list_all-append}
@@ -24,6 +24,10 @@ module _ (m : Map) (p : ℕ) (test : StringRow → Bool) (strings : List StringR
   pub lent-there : (o : Option (Bor StringRow)) (r : Bor StringRow) → option_copied o ≡ slice_get strings place → o ≡ Some r → IsPermutation (strings_at m p) strings → Contains m.strings r.now × (is_end r.now p ≡ true)
   lent-there o r is at each = told-there r.now (lent-is o r strings place is at) each
 
+  -- before the first, none has to have passed
+  pub none-passed : HavePassed m p test strings 0
+  none-passed = record { passed = refl; each = λ more. absurd (omega (arith, more)) }
+
   -- one more
   pub passed-more : HavePassed m p test strings place → (s : StringRow) → slice_get strings place ≡ Some s → IsPermutation (strings_at m p) strings → test s ≡ true
       → HavePassed m p test strings (place + 1)
@@ -39,3 +43,6 @@ module _ (m : Map) (p : ℕ) (test : StringRow → Bool) (strings : List StringR
   passed-all so_far past s there end =
       list_all-at test (take place strings) s so_far.passed
       (Contains-permutation (strings_at m p) (take place strings) s (all-told m p strings place past so_far.each) (Contains-filter (λ s. is_end s p) m.strings s there end))
+
+-- before the first string is told
+pub ruleset star_begun = (none-passed)

@@ -45,6 +45,7 @@ pub(crate) fn is_empty_after<M: MapView>(map: &M, from: PointNo, to: PointNo) ->
 }
 
 /// Whether no string lies in the sector of the corner at a point of a ring, between the points before and after it.
+#[tactic(auto, using(crate::proofs::StarTests::star_begun))]
 fn is_empty_corner<M: MapView>(map: &M, before: PointNo, at: PointNo, after: PointNo) -> bool
     requires sound { HasSoundRows (M.map map.now) }
     requires before_in { IsTrue (has_point (M.map map.now) before) }

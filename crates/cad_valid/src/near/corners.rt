@@ -101,6 +101,7 @@ fn has_empty_corners<M: MapView>(map: &M, point: PointNo) -> bool
 
 /// Whether the corners at a point of many strings are empty. Each is met by the side before it, which
 /// is a side of one of the point's strings.
+#[tactic(auto, using(crate::proofs::StarTests::star_begun))]
 fn has_empty_corners_of_many<M: MapView>(map: &M, point: PointNo) -> bool
     requires { HasWholeRings (M.map map.now) }
     ensures { IsTrue result ↔ HasEmptyCornersAt (M.map map.now) point }

@@ -163,6 +163,7 @@ fn lie_alike(f: &Lying, g: &Lying) -> bool
 }
 
 /// Whether the map doesn't have a string where it is held.
+#[tactic(auto, using(crate::proofs::SightOfMap::rows_gone))]
 fn is_stale<M: MapView>(map: &M, held: &HeldString) -> bool
     requires { HasSoundRows (M.map map.now) }
     ensures { IsTrue result ↔ (¬ HasStringThere (M.map map.now) held.now) }
@@ -174,6 +175,7 @@ fn is_stale<M: MapView>(map: &M, held: &HeldString) -> bool
 }
 
 /// Whether the map doesn't have a point where it is held.
+#[tactic(auto, using(crate::proofs::SightOfMap::rows_gone))]
 fn is_stale_point<M: MapView>(map: &M, held: &HeldPoint) -> bool
     requires { HasSoundRows (M.map map.now) }
     ensures { IsTrue result ↔ (¬ HasPointThere (M.map map.now) held.now) }

@@ -24,12 +24,6 @@ unwrap-string-requires g c =
     let same = length_permutation (strings_at (g.M.MapView.map c.args.map.now) c.args.at) strings c.string_with.ensures.each in
     lent-some c.string_with.result strings c.loop-place.place c.string_with.ensures.string (omega (arith, same, c.degree-place-end.ensures, c.loop-place-test.true))
 
-pub loop-place-init : goal.loop-place-init
-loop-place-init g c = record {
-  passed = refl;
-  each = λ more. absurd (omega (arith, more));
-}
-
 pub is_clear_of-requires : goal.is_clear_of-requires
 is_clear_of-requires g c =
     let m = g.M.MapView.map c.args.map.now in

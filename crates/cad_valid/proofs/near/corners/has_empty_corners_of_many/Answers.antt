@@ -13,12 +13,6 @@ unwrap-requires g c =
     let same = length_permutation (strings_at (g.M.MapView.map c.args.map.now) c.args.point) strings c.string_with.ensures.each in
     lent-some c.string_with.result strings c.loop-place.place c.string_with.ensures.string (omega (arith, same, c.degree-place-end.ensures, c.loop-place-test.true))
 
-pub loop-place-init : goal.loop-place-init
-loop-place-init g c = record {
-  passed = refl;
-  each = λ more. absurd (omega (arith, more));
-}
-
 pub returns-then-not-is_empty_after : goal.returns-then-not-is_empty_after
 returns-then-not-is_empty_after g c =
     let m = g.M.MapView.map c.args.map.now in
