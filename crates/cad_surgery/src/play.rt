@@ -69,7 +69,8 @@ fn try_rows<T: Tally>(
     if !is_placed(&change) {
         return Ok(change);
     }
-    if let Some(rule) = first_broken_near(draft, draft.grid(), touched) {
+    let alloc = draft.rows.points.allocator();
+    if let Some(rule) = first_broken_near(alloc, draft, draft.grid(), touched) {
         let _ = draft.unmake_rows(&change);
         return Err(Refusal::Breaks(rule));
     }

@@ -10,6 +10,8 @@ mod PlacedStrings
 mod Whole
 mod InsideBox
 mod Sweeping
+mod PlacedRings
+mod FaceShapes
 mod RingsInMap
 mod OutlineCounts
 mod Passed

@@ -1,9 +1,8 @@
 -- Rings of one face in the plane: those whose boxes don't overlap are apart, and the others are all that need a look.
-use Rattle.std.proofs.Common.{◌≡◌, ◌≢◌, ℕ, zero, suc, ◌+◌, ◌<◌, refl, sym, ap, subst, ◌∙◌, List, [], ◌∷◌, ◌++◌, length, map, filter, take, get_or, Bool, true, false, not, true≢false, inl, inr, ℤ, pos, ◌<ℤ◌, ◌≤ℤ◌, arith}
+use Rattle.std.proofs.Common.{◌≡◌, ◌≢◌, ℕ, zero, suc, ◌<◌, refl, sym, ap, subst, ◌∙◌, List, [], ◌∷◌, ◌++◌, length, get_or, Bool, true, false, not, true≢false, inl, inr, ℤ, pos, arith}
 use Rattle.std.proofs.lemmas.Bool.{cases_order, OnTrue_at, OnFalse_at}
 use Rattle.std.proofs.lemmas.Int.{ints}
-use Rattle.std.proofs.lemmas.List.{map-append, get_or-map, length-map, take_more, append-nil}
-use Rattle.std.proofs.lemmas.List.Elements.{filter-append}
+use Rattle.std.proofs.lemmas.List.{get_or-map, length-map}
 use Rattle.std.proofs.lemmas.Option.{slice_get-get_or}
 use Rattle.std.specs.Prelude.{◌&&◌, int_lt}
 use Rattle.std.specs.Bool.{OnTrue, OnFalse}
@@ -11,11 +10,9 @@ use Rattle.std.specs.List.{list_all}
 use Rattle.geo_exact.specs.Position.{Position}
 use Rattle.geo_exact.specs.Inside.{is_inside}
 use Rattle.geo_exact.specs.Measure.{doubled_area}
-use Rattle.cad_rings.specs.Cycle.{Ring, anchor_of}
-use Rattle.cad_map.specs.Map.{Map, position_of, sum_of_ring, is_positive, is_negative}
-use Rattle.cad_map.specs.Valid.{each_pair, are_holes_inside, are_holes_apart, has_sound_holes}
-use Rattle.cad_map.proofs.CallerLemmas.{list_all-same}
-use Rattle.std.proofs.lemmas.List.Folds.{list_all-map}
+use Rattle.cad_rings.specs.Cycle.{Ring}
+use Rattle.cad_map.specs.Map.{Map, sum_of_ring, is_positive, is_negative}
+use Rattle.cad_map.specs.Valid.{each_pair, has_sound_holes}
 use Rattle.sweep.specs.declared.extent.Extent.{Extent}
 use Rattle.sweep.specs.Extents.{Overlap, AllThatOverlapPass, SomePairFails}
 use Rattle.cad_valid.specs.Extents.{IsWithin}
@@ -169,41 +166,10 @@ module _ (shapes : List Shape) (extents : List Extent) (are : AreShapes shapes) 
   apart-answered true passed failed = sym (all-apart (OnTrue_at refl passed))
   apart-answered false passed failed = sym (some-not_apart (OnFalse_at refl failed))
 
--- ---- Rings picked of a run
-
-module _ {X Y : Type 0} (picked : X → Bool) (f : X → Y) (xs : List X) (place : ℕ) (x : X) (within : place < length xs) (is : x ≡ get_or xs place x) where
-  so_far : filter picked (take (place + 1) xs) ≡ filter picked (take place xs) ++ filter picked (x ∷ [])
-  so_far = ap (filter picked) (take_more xs place x within ∙ ap (λ (y : X). take place xs ++ y ∷ []) (sym is)) ∙ filter-append picked (take place xs) (x ∷ [])
-
-  pub picked-next : (old new : List Y) → old ≡ map f (filter picked (take place xs)) → picked x ≡ true → new ≡ old ++ f x ∷ [] → new ≡ map f (filter picked (take (place + 1) xs))
-  picked-next old new before passes more =
-      let one : filter picked (x ∷ []) ≡ x ∷ [] = rw passes refl in
-      more ∙ ap (λ (l : List Y). l ++ f x ∷ []) before ∙ sym (ap (map f) (so_far ∙ ap (λ (l : List X). filter picked (take place xs) ++ l) one) ∙ map-append f (filter picked (take place xs)) (x ∷ []))
-
-  pub passed-over : (old : List Y) → old ≡ map f (filter picked (take place xs)) → picked x ≡ false → old ≡ map f (filter picked (take (place + 1) xs))
-  passed-over old before fails =
-      let none : filter picked (x ∷ []) ≡ [] = rw fails refl in
-      before ∙ sym (ap (map f) (so_far ∙ ap (λ (l : List X). filter picked (take place xs) ++ l) none ∙ append-nil (filter picked (take place xs))))
-
--- ---- Signs of doubled areas
-
-pub record HasSigns (z : ℤ) (positive negative : Bool) : Type 0 where
-  pub more : int_lt (pos 0) z ≡ positive
-  pub less : int_lt z (pos 0) ≡ negative
-
-pub signs-above : (z : ℤ) → pos 0 <ℤ z → HasSigns z true false
-signs-above z h = record { more = grind (arith, ints); less = grind (arith, ints) }
-
-pub signs-below : (z : ℤ) → z <ℤ pos 0 → HasSigns z false true
-signs-below z h = record { more = grind (arith, ints); less = grind (arith, ints) }
-
-pub signs-none : (z : ℤ) → z ≤ℤ pos 0 → pos 0 ≤ℤ z → HasSigns z false false
-signs-none z h k = record { more = grind (arith, ints); less = grind (arith, ints) }
+-- ---- A ring alone
 
 not_both : (z : ℤ) → int_lt z (pos 0) ≡ true → int_lt (pos 0) z ≡ true → ⊥
 not_both z h k = grind (arith, ints)
-
--- ---- A ring alone
 
 -- is no hole of another, and has none
 pub sound-alone : (m : Map) (rings : List Ring) → length rings < 2 → has_sound_holes m rings ≡ true
@@ -215,24 +181,3 @@ sound-alone m (r ∷ []) few = by (is_negative m r) (is_positive m r) refl refl
     by true false hs ht = simp (hs, ht)
     by true true hs ht = absurd (not_both (sum_of_ring doubled_area m r) hs ht)
 sound-alone m (r ∷ s ∷ rings) few = absurd (omega arith)
-
--- ---- The rules of a face, of its rings in the plane
-
-pairs-map : {X Y : Type 0} (f : X → Y) (test : Y → Y → Bool) (xs : List X) → each_pair test (map f xs) ≡ each_pair (λ x y. test (f x) (f y)) xs
-pairs-map f test [] = refl
-pairs-map f test (x ∷ xs) = λ i. list_all-map (test (f x)) f xs i && pairs-map f test xs i
-
-module _ (m : Map) (rings : List Ring) where
-  abbrev shapes_where : (Ring → Bool) → List Shape
-  shapes_where picked = map (shape_of (position_of m)) (filter picked rings)
-
-  pub inside-by_shapes : (holes outlines : List Shape) → holes ≡ shapes_where (is_negative m) → outlines ≡ shapes_where (is_positive m)
-      → list_all (λ hole. list_all (λ outline. is_inside outline.sides hole.anchor) outlines) holes ≡ are_holes_inside m rings
-  inside-by_shapes holes outlines are_holes are_outlines =
-      (λ i. list_all (λ (hole : Shape). list_all (λ (outline : Shape). is_inside outline.sides hole.anchor) (are_outlines i)) (are_holes i))
-      ∙ list_all-map (λ (hole : Shape). list_all (λ (outline : Shape). is_inside outline.sides hole.anchor) (shapes_where (is_positive m))) (shape_of (position_of m)) (filter (is_negative m) rings)
-      ∙ list_all-same _ _ (filter (is_negative m) rings)
-      (λ hole _. list_all-map (λ (outline : Shape). is_inside outline.sides (position_of m (anchor_of hole))) (shape_of (position_of m)) (filter (is_positive m) rings))
-
-  pub apart-by_shapes : (holes : List Shape) → holes ≡ shapes_where (is_negative m) → each_pair are_shapes_apart holes ≡ are_holes_apart m rings
-  apart-by_shapes holes are_holes = ap (each_pair are_shapes_apart) are_holes ∙ pairs-map (shape_of (position_of m)) are_shapes_apart (filter (is_negative m) rings)

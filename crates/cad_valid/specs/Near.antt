@@ -11,6 +11,7 @@ use Rattle.cad_map.specs.Valid.{IsValid, MeetAtEnds, LiesOnlyAsEnd, is_empty_cor
 use Rattle.cad_map.specs.Touched.{Touched, IsTouched}
 use Rattle.cell_grid.specs.Grid.{Grid, HoldsString, HoldsPoint}
 use Rattle.cad_valid.specs.declared.near.Touched.{Touched as Lists}
+use Rattle.cad_valid.specs.declared.near.faces.FaceRules.{FaceRules}
 use Rattle.cad_valid.specs.Corners.{is_empty_after}
 
 -- the grid holds the map's strings and points at their positions
@@ -109,3 +110,10 @@ HasOutlines m f = IsTrue (has_outlines (outlines_wanted f) m (rings_of m f))
 -- its holes are in place
 abbrev pub HasSoundHoles : Map → Face → Type 0
 HasSoundHoles m f = IsTrue (has_sound_holes m (rings_of m f))
+
+-- what its rings tell of both rules
+abbrev pub rules_of : Map → Face → FaceRules
+rules_of m f = record {
+  outlines = has_outlines (outlines_wanted f) m (rings_of m f);
+  holes = has_sound_holes m (rings_of m f);
+}

@@ -1,24 +1,20 @@
-//! Whether the holes of each face lie in its outline and apart, asked of a plain map: only holes
-//! whose boxes overlap are compared, and no ring is walked.
-ghost use Rattle.std.specs.Prelude.{◌≡◌, filter, map as map_of, length, IfOk};
-ghost use Rattle.std.specs.List.{AllByRecursion, list_all};
-ghost use Rattle.geo_exact.specs.Inside.{is_inside};
-ghost use Rattle.cad_map.specs.Map.{rings_of, position_of, is_positive, is_negative};
-ghost use Rattle.cad_map.specs.Valid.{each_pair};
+//! Whether the holes of each face lie in its outline and apart, asked of a plain map: the rings of a
+//! face stand together there, and no ring is walked.
+ghost use Rattle.std.specs.Prelude.{◌≡◌, map as map_of, IfOk};
+ghost use Rattle.std.specs.List.{AllByRecursion};
+ghost use Rattle.cad_map.specs.Map.{rings_of, position_of};
 ghost use Rattle.cad_map.specs.Valid.{has_sound_holes as has_sound_holes_of};
 ghost use Rattle.cad_map.specs.Valid.{has_holes_in_place as has_holes_in_place_of};
 ghost use Rattle.cad_map.specs.Rings.{HasWholeRings};
-ghost use Rattle.sweep.specs.Extents.{HasExtents};
 ghost use Rattle.cad_valid.specs.Rings.{IsRingOf};
-ghost use Rattle.cad_valid.specs.Shapes.{AreShapes, AreEnclosed, shape_of};
-ghost use Rattle.cad_valid.specs.Shapes.{are_shapes_apart as are_apart_of, are_apart_at};
+ghost use Rattle.cad_valid.specs.Shapes.{shape_of, told_apart};
 
-use crate::shapes::{Enclosing, PlacedRing, are_apart};
-use cad_map::{Boundary, MapView, PlainMap, sum_round};
+use crate::face_shapes::FaceShapes;
+use crate::shapes::PlacedRing;
+use cad_map::{Boundary, MapView, PlainMap};
+use cad_rings::Ring;
 use cad_rows::{Face, Memory};
-use geo_exact::{DoubledArea, Pt};
 use std::alloc::Global;
-use sweep::{Extent, PairTest, all_that_overlap_pass, row_height};
 
 /// Whether the anchor of each negative ring is inside the positive ring of its face, and in no
 /// other negative one.
@@ -51,95 +47,27 @@ fn has_sound_holes(alloc: Global, map: &PlainMap, face: Face) -> Result<bool, Me
     if run.len() < 2 {
         return Ok(true);
     }
-    let (outlines, holes) = outlines_and_holes(alloc, map, run)?;
-    Ok(
-        are_inside(holes.as_slice(), outlines.as_slice())
-            && are_each_apart(alloc, holes.as_slice())?,
-    )
+    let shapes = shapes_of(alloc, map, run)?;
+    shapes.has_sound_holes(alloc)
 }
 
-/// The positive rings among these, and the negative ones.
-fn outlines_and_holes(
-    alloc: Global,
-    map: &PlainMap,
-    run: &[Boundary],
-) -> Result<(Vec<PlacedRing>, Vec<PlacedRing>), Memory>
+/// These rings as they lie.
+fn shapes_of(alloc: Global, map: &PlainMap, run: &[Boundary]) -> Result<FaceShapes, Memory>
     requires { AllByRecursion (IsRingOf map.now) (map_of (λ b. b.ring) run.now) }
-    ensures outlines { IfOk result (λ both. both.0.items ≡ map_of (shape_of (position_of map.now))
-        (filter (is_positive map.now) (map_of (λ b. b.ring) run.now))) }
-    ensures holes { IfOk result (λ both. both.1.items ≡ map_of (shape_of (position_of map.now))
-        (filter (is_negative map.now) (map_of (λ b. b.ring) run.now))) }
+    ensures { IfOk result (λ shapes. shapes
+        ≡ told_apart (map_of (shape_of (position_of map.now)) (map_of (λ b. b.ring) run.now))) }
 {
-    let mut outlines = Vec::new(alloc);
-    let mut holes = Vec::new(alloc);
+    let mut shapes = FaceShapes::none(alloc);
     for boundary in run {
-        let area = sum_round(map, &boundary.ring, &DoubledArea);
-        if area > 0 {
-            outlines.push(PlacedRing::of(alloc, map, &boundary.ring)?)?;
-        } else if area < 0 {
-            holes.push(PlacedRing::of(alloc, map, &boundary.ring)?)?;
-        }
+        shapes.add(placed_ring(alloc, map, &boundary.ring)?)?;
     }
-    Ok((outlines, holes))
+    Ok(shapes)
 }
 
-/// Whether the anchor of each of these holes is inside each of these outlines.
-fn are_inside(holes: &[PlacedRing], outlines: &[PlacedRing]) -> bool
-    ensures { result ≡ list_all (λ hole.
-        list_all (λ outline. is_inside outline.sides hole.anchor) outlines.now) holes.now }
+/// The ring of a map, each of its points looked up.
+fn placed_ring(alloc: Global, map: &PlainMap, ring: &Ring) -> Result<PlacedRing, Memory>
+    requires { IsRingOf map.now ring.now }
+    ensures { IfOk result (λ placed. placed ≡ shape_of (position_of map.now) ring.now) }
 {
-    for hole in holes {
-        if !is_inside_each(outlines, hole.anchor()) {
-            return false;
-        }
-    }
-    true
-}
-
-/// Whether a position is inside each of these outlines.
-fn is_inside_each(outlines: &[PlacedRing], at: Pt) -> bool
-    ensures { result ≡ list_all (λ outline. is_inside outline.sides at) outlines.now }
-{
-    outlines.iter().all(|outline| outline.has_inside(at))
-}
-
-/// Whether of each two of these holes neither has the other's anchor inside. Those whose boxes are
-/// apart don't.
-fn are_each_apart(alloc: Global, holes: &[PlacedRing]) -> Result<bool, Memory>
-    requires { AreShapes holes.now }
-    ensures { IfOk result (λ b. b ≡ each_pair are_apart_of holes.now) }
-{
-    let extents = extents_of(alloc, holes)?;
-    let height = row_height(extents.as_slice());
-    let test = AreApartAt { holes };
-    Ok(all_that_overlap_pass(alloc, &test, extents.as_slice(), height)?)
-}
-
-/// The boxes of these rings.
-fn extents_of(alloc: Global, rings: &[PlacedRing]) -> Result<Vec<Extent>, Memory>
-    ensures boxes { IfOk result (λ extents. HasExtents extents.items) }
-    ensures around { IfOk result (λ extents. AreEnclosed extents.items rings.now) }
-{
-    let mut extents = Vec::new(alloc);
-    for ring in rings {
-        extents.push(ring.extent())?;
-    }
-    Ok(extents)
-}
-
-/// Whether of the holes at two places neither has the other's anchor inside.
-#[derive(Clone, Copy)]
-struct AreApartAt<'a> {
-    holes: &'a [PlacedRing],
-}
-
-impl PairTest for AreApartAt<'_> {
-    ghost passes = { λ t i j. are_apart_at t.holes.now i j };
-
-    fn pass(&self, first: usize, second: usize) -> bool {
-        match (self.holes.get(first), self.holes.get(second)) {
-            (Some(a), Some(b)) => are_apart(a, b),
-            _ => true,
-        }
-    }
+    PlacedRing::of(alloc, map, ring.points()[0], ring.sides())
 }

@@ -5,6 +5,7 @@ mod boxes;
 mod corners;
 mod crossings;
 mod extents;
+mod face_shapes;
 mod holes;
 mod holes_swept;
 mod near;

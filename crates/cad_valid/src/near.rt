@@ -20,7 +20,7 @@ mod sight;
 mod strings;
 
 use crate::near::corners::{are_empty_at, are_empty_at_ends};
-use crate::near::faces::{have_outlines, have_sound_holes};
+use crate::near::faces::{FaceRules, rules_of_faces};
 use crate::near::points::are_alone;
 use crate::near::seen::{Seen, seen_of};
 use crate::near::sight::{sees_points_apart, sees_points_clear, sees_strings_clear};
@@ -28,6 +28,7 @@ use crate::near::strings::{are_uncrossed, lie_at_ends};
 use cad_map::MapView;
 use cad_rows::{Face, PointNo, Rule, StringNo};
 use cell_grid::CellGrid;
+use std::alloc::Global;
 
 /// What an edit touched. More may be named than was.
 ///
@@ -43,12 +44,21 @@ pub struct Touched {
 
 /// The first rule that a map breaks, as [`first_broken`](crate::first_broken) tells it, of a map
 /// that an edit made of a valid one. It looks at what the edit touched, and at what the grid holds
-/// near it. Takes no memory.
+/// near it.
+///
+/// A touched face of many rings is looked at whole: its rings are walked once and laid out in memory,
+/// 32 bytes a side, with a box for each hole and at most three spans a box. Where there is no memory
+/// it does without and answers the same, by walks round each two of the rings. All else takes none.
 ///
 /// The grid holds the map's strings and points at their positions. It may hold others as well: a
 /// candidate is tested where the map has it, and one that the map doesn't have is passed over.
 #[tactic(auto, using(crate::proofs::Whole::whole, crate::proofs::Whole::placed))]
-pub fn first_broken_near<M: MapView>(map: &M, grid: &CellGrid, touched: &Touched) -> Option<Rule>
+pub fn first_broken_near<M: MapView>(
+    alloc: Global,
+    map: &M,
+    grid: &CellGrid,
+    touched: &Touched,
+) -> Option<Rule>
     requires tested { CanBeTested (M.map map.now) }
     requires held { HoldsMap grid.now (M.map map.now) }
     requires touched { ComesFromValid (touched_of touched.now) (M.map map.now) }
@@ -65,10 +75,11 @@ pub fn first_broken_near<M: MapView>(map: &M, grid: &CellGrid, touched: &Touched
     if !has_empty_corners(map, touched) {
         return Some(Rule::V6);
     }
-    if !has_one_outline_each(map, touched) {
+    let rules = rules_near(alloc, map, touched);
+    if !rules.outlines {
         return Some(Rule::V7);
     }
-    if !has_holes_in_place(map, touched) {
+    if !rules.holes {
         return Some(Rule::V8);
     }
     None
@@ -149,21 +160,13 @@ fn has_empty_corners<M: MapView>(map: &M, touched: &Touched) -> bool
         && are_empty_at_ends(map, touched.strings.as_slice(), touched.points.as_slice())
 }
 
-/// Whether each parcel has one outline and the outside none. A face that wasn't touched has its own
-/// from before.
-fn has_one_outline_each<M: MapView>(map: &M, touched: &Touched) -> bool
+/// Whether each parcel has one outline and the outside none, and whether the holes of each face are in
+/// place. A face that wasn't touched has its own from before, and in their places.
+fn rules_near<M: MapView>(alloc: Global, map: &M, touched: &Touched) -> FaceRules
     requires whole { HasWholeRings (M.map map.now) }
     requires touched { ComesFromValid (touched_of touched.now) (M.map map.now) }
-    ensures { IsTrue result ↔ Keeps (M.map map.now) V7 }
+    ensures outlines { IsTrue result.outlines ↔ Keeps (M.map map.now) V7 }
+    ensures holes { IsTrue result.holes ↔ Keeps (M.map map.now) V8 }
 {
-    have_outlines(map, touched.faces.as_slice())
-}
-
-/// Whether the holes of each face are in place. Those of a face that wasn't touched were before.
-fn has_holes_in_place<M: MapView>(map: &M, touched: &Touched) -> bool
-    requires whole { HasWholeRings (M.map map.now) }
-    requires touched { ComesFromValid (touched_of touched.now) (M.map map.now) }
-    ensures { IsTrue result ↔ Keeps (M.map map.now) V8 }
-{
-    have_sound_holes(map, touched.faces.as_slice())
+    rules_of_faces(alloc, map, touched.faces.as_slice())
 }

@@ -1,16 +1,18 @@
 //! Rings in the plane, and whether two of them lie apart.
-ghost use Rattle.std.specs.Prelude.{◌≡◌, IfOk};
+ghost use Rattle.std.specs.Prelude.{◌≡◌, ◌≤◌, ◌*◌, length, List, IfOk};
+ghost use Rattle.std.specs.Iterator.{IsFinite, Drains};
 ghost use Rattle.geo_exact.specs.Inside.{is_inside};
+ghost use Rattle.cad_rows.specs.Limits.{string_limit};
+ghost use Rattle.cad_rings.specs.Cycle.{Side};
 ghost use Rattle.cad_map.specs.Map.{position_of};
 ghost use Rattle.sweep.specs.Extents.{IsExtent};
-ghost use Rattle.cad_valid.specs.Rings.{IsRingOf};
-ghost use Rattle.cad_valid.specs.Shapes.{Shape, shape_of, are_shapes_apart as are_apart_of, Encloses};
+ghost use Rattle.cad_valid.specs.Shapes.{Shape, shape_along, area_of};
+ghost use Rattle.cad_valid.specs.Shapes.{are_shapes_apart as are_apart_of, Encloses};
 
 use crate::extents::{extent_at, grown};
-use cad_map::{PlainMap, position};
-use cad_rings::Ring;
-use cad_rows::Memory;
-use geo_exact::{Pt, crosses};
+use cad_map::{MapView, position};
+use cad_rows::{Memory, PointNo};
+use geo_exact::{DoubledArea, Pt, SideMeasure, crosses};
 use std::alloc::Global;
 use std::marker::Model;
 use sweep::Extent;
@@ -59,17 +61,43 @@ impl Model for PlacedRing {
 }
 
 impl PlacedRing {
-    /// The ring of a map, each of its points looked up.
-    pub(crate) fn of(alloc: Global, map: &PlainMap, ring: &Ring) -> Result<PlacedRing, Memory>
-        requires { IsRingOf map.now ring.now }
-        ensures { IfOk result (λ placed. placed ≡ shape_of (position_of map.now) ring.now) }
+    /// The ring of these sides, each of its points where a map has it. `first` is one of the points.
+    pub(crate) fn of<M: MapView, I: Iterator<Item = (PointNo, PointNo)> + Drop>(
+        alloc: Global,
+        map: &M,
+        first: PointNo,
+        sides: I,
+    ) -> Result<PlacedRing, Memory>
+        requires can { I.can_next sides }
+        requires ends { IsFinite (I.remaining sides) }
+        ensures { IfOk result (λ placed. (given : List Side) × Drains I.next_gives sides given
+            × (placed ≡ shape_along (position_of (M.map map.now)) first given)) }
     {
-        let mut sides = Vec::new(alloc);
-        for (from, to) in ring.sides() {
-            sides.push((position(map, from), position(map, to)))?;
+        let mut placed = Vec::new(alloc);
+        let mut least = first;
+        for (from, to) in sides {
+            placed.push((position(map, from), position(map, to)))?;
+            if from.get() < least.get() {
+                least = from;
+            }
         }
-        let anchor = position(map, ring.anchor());
-        Ok(PlacedRing { sides, anchor })
+        let anchor = position(map, least);
+        Ok(PlacedRing {
+            sides: placed,
+            anchor,
+        })
+    }
+
+    /// Its doubled area, in doubled square millimetres.
+    pub(crate) fn doubled_area(&self) -> i128
+        requires { length self.now.sides ≤ 2 * string_limit }
+        ensures { result ≡ area_of self.now }
+    {
+        let mut sum = 0;
+        for (from, to) in &self.sides {
+            sum += DoubledArea.of(*from, *to);
+        }
+        sum
     }
 
     /// The box of the ring.

@@ -92,3 +92,47 @@ pub(crate) fn long_lot(alloc: Global, half: u32) -> Result<String, Fail>
     text.push_str("open,,,,,,\n")?;
     Ok(text)
 }
+
+/// Appends the records of an island in parcel 1: a triangle with its tip in the east, the first one taller than the others.
+fn append_island(alloc: Global, text: &mut String, place: u32) -> Result<(), AllocError>
+    requires { place ≤ 1000 }
+{
+    let (a, west) = (10 + 3 * place, 1000 * place + 1000);
+    let (low, high) = if place == 0 {
+        (500, 1700)
+    } else {
+        (1000, 1400)
+    };
+    let (b, c, parcel) = (a + 1, a + 2, place + 2);
+    append_point(alloc, text, a, west, low)?;
+    append_point(alloc, text, b, west + 300, 1200)?;
+    append_point(alloc, text, c, west, high)?;
+    let records = format!(in alloc;
+        "parcel,{parcel},I,,,,\nstring,{a},{a},{b},{parcel},1,\nstring,{b},{b},{c},{parcel},1,\n\
+         string,{c},{c},{a},{parcel},1,\n"
+    )?;
+    text.push_str(records.as_str())
+}
+
+/// The plan of a lot with so many islands in a row, a metre from one to the next.
+pub(crate) fn with_islands(alloc: Global, count: u32) -> Result<String, Fail>
+    requires { count ≤ 1000 }
+{
+    let mut text = String::new(alloc);
+    for (number, x, y) in [
+        (1, 0, 0),
+        (2, 1000 * count + 1000, 0),
+        (3, 1000 * count + 1000, 3000),
+        (4, 0, 3000),
+    ] {
+        append_point(alloc, &mut text, number, x, y)?;
+    }
+    for (number, to) in [(1, 2), (2, 3), (3, 4), (4, 1)] {
+        append_string(alloc, &mut text, number, to, 1)?;
+    }
+    for place in 0..count {
+        append_island(alloc, &mut text, place)?;
+    }
+    let records = text.as_str();
+    Ok(format!(in alloc; "plan,2,,,,,\nparcel,1,A,,,,\n{records}open,,,,,,\n")?)
+}

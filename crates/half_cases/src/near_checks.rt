@@ -7,7 +7,7 @@ ghost use Rattle.cad_laws.specs.Tried.{IsTried};
 ghost use Rattle.cad_valid.specs.Near.{HoldsMap, ComesFromValid, touched_of};
 
 use crate::counted::Counted;
-use crate::far::{far_plan, with_records};
+use crate::far::{far_plan, with_islands, with_records};
 use crate::plans::{ISLAND, Plan, SQUARE, SQUARE_RECORDS, edit_of, map_of, text_of};
 use crate::plans_after::{DIVIDED, DIVIDED_ISLAND, JOINED};
 use crate::plans_enclosed::{FREE_CORNERS, WITH_FRAME};
@@ -61,13 +61,13 @@ struct Told {
 }
 
 /// What the near check tells.
-fn told_near(made: &PlainMap, grid: &CellGrid, touched: &Touched) -> Told
+fn told_near(alloc: Global, made: &PlainMap, grid: &CellGrid, touched: &Touched) -> Told
     requires tested { CanBeTested made.now }
     requires held { HoldsMap grid.now made.now }
     requires touched { ComesFromValid (touched_of touched.now) made.now }
 {
     let view = Counted::new(made);
-    let rule = first_broken_near(&view, grid, touched);
+    let rule = first_broken_near(alloc, &view, grid, touched);
     let (calls, by_place) = view.counted();
     Told {
         rule,
@@ -103,7 +103,7 @@ fn told_after(
 {
     let grid = grid_of(alloc, made)?;
     let touched = touched_by(alloc, before, edit)?;
-    Ok(told_near(made, &grid, &touched))
+    Ok(told_near(alloc, made, &grid, &touched))
 }
 
 /// How often the near check asks of the map that an edit makes. Fails where it tells another rule than the whole one, or
@@ -262,5 +262,41 @@ fn islands_and_mergers_are_checked_no_longer_on_a_larger_map(rt: HostRuntime) ->
     ] {
         check_far(&rt, plan, edit)?;
     }
+    Ok(())
+}
+
+/// The rule that the near check tells of the map that an edit makes of a lot with twelve islands.
+/// Fails where the whole check tells another.
+fn rule_among_islands<R: Abort + AllocGlobal>(rt: &R, edit: &str) -> Result<Option<Rule>, Fail> {
+    let plan = with_islands(rt.alloc(), 12)?;
+    let map = map_of(rt.alloc(), plan.as_str())?;
+    let edit = edit_of(rt.alloc(), edit)?;
+    check_edit(rt, &map, &edit)?;
+    Ok(told_of_edit(rt.alloc(), &map, &edit)?.rule)
+}
+
+#[test]
+fn faces_of_many_rings_are_told_as_others(rt: HostRuntime) -> Result<(), Fail> {
+    for (edit, rule) in [
+        ("move,11,1400,1200,,,", None),
+        // The tall island's tip goes past the next island, which is in it then.
+        ("move,11,2900,1200,,,", Some(Rule::V8)),
+        // The lot is folded away from its islands.
+        ("move,3,100,100,,,", Some(Rule::V8)),
+        // The tall island's tip goes past its base.
+        ("move,11,900,1200,,,", Some(Rule::V7)),
+    ] {
+        assert!(rt; rule_among_islands(&rt, edit)? == rule);
+    }
+    Ok(())
+}
+
+#[test]
+fn many_rings_are_walked_once_each(rt: HostRuntime) -> Result<(), Fail> {
+    let few = with_islands(rt.alloc(), 12)?;
+    let many = with_islands(rt.alloc(), 24)?;
+    let calls = near_calls(&rt, few.as_str(), "move,11,1400,1200,,,")?;
+    let more = near_calls(&rt, many.as_str(), "move,11,1400,1200,,,")?;
+    assert!(rt; calls < more && more < calls.saturating_mul(3));
     Ok(())
 }

@@ -100,7 +100,8 @@ pub(crate) fn divide_within_rules<T: Tally>(
     ) else {
         return Err(Refusal::Memory);
     };
-    if let Some(rule) = first_broken_near(draft, draft.grid(), touched) {
+    let alloc = draft.rows.points.allocator();
+    if let Some(rule) = first_broken_near(alloc, draft, draft.grid(), touched) {
         undivide(
             &mut draft.rows,
             &mut draft.table,

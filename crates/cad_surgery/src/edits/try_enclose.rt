@@ -94,7 +94,8 @@ fn enclose_within_rules<T: Tally>(
     ) else {
         return Err(Refusal::Memory);
     };
-    if let Some(rule) = first_broken_near(draft, draft.grid(), touched) {
+    let alloc = draft.rows.points.allocator();
+    if let Some(rule) = first_broken_near(alloc, draft, draft.grid(), touched) {
         open(
             &mut draft.rows,
             &mut draft.table,

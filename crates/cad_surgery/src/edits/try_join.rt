@@ -73,7 +73,8 @@ fn join_within_rules<T: Tally>(
     ) else {
         return Err(Refusal::Memory);
     };
-    if let Some(rule) = first_broken_near(draft, draft.grid(), touched) {
+    let alloc = draft.rows.points.allocator();
+    if let Some(rule) = first_broken_near(alloc, draft, draft.grid(), touched) {
         unjoin(
             &mut draft.rows,
             &mut draft.table,

@@ -1,29 +1,142 @@
 //! Whether touched faces have their outlines, and their holes in place.
-ghost use Rattle.std.specs.Prelude.{◌≡◌, ◌↔◌, IsTrue};
+ghost use Rattle.std.specs.Prelude.{◌≡◌, ◌↔◌, ◌<◌, ◌≤◌, ◌*◌, IsTrue, length, map as map_of, IfOk};
 ghost use Rattle.std.specs.List.{AllByRecursion};
-ghost use Rattle.cad_map.specs.Rings.{HasWholeRings};
-ghost use Rattle.cad_valid.specs.Near.{OfFace, HasOutlines, HasSoundHoles, outlines_wanted as outlines_wanted_of};
+ghost use Rattle.cad_rows.specs.Limits.{string_limit};
+ghost use Rattle.cad_map.specs.Boundaries.{canonical_order};
+ghost use Rattle.cad_map.specs.Map.{rings_at, position_of};
+ghost use Rattle.cad_map.specs.Rings.{HasWholeRings, ring_at};
+ghost use Rattle.cad_valid.specs.Near.{OfFace, HasOutlines, HasSoundHoles};
+ghost use Rattle.cad_valid.specs.Near.{outlines_wanted as outlines_wanted_of, rules_of};
+ghost use Rattle.cad_valid.specs.Shapes.{shape_of, told_apart};
 
+use crate::face_shapes::FaceShapes;
 use crate::holes::has_sound_holes;
 use crate::outlines::has_outlines;
-use cad_map::{MapView, has_face};
-use cad_rows::Face;
+use crate::shapes::PlacedRing;
+use cad_map::{MapView, Walk, has_face, ring_count};
+use cad_rows::{Face, Memory};
+use std::alloc::Global;
 
-/// Whether each of these faces has its outlines.
-pub(crate) fn have_outlines<M: MapView>(map: &M, faces: &[Face]) -> bool
-    requires { HasWholeRings (M.map map.now) }
-    ensures { IsTrue result
-        ↔ AllByRecursion (OfFace (M.map map.now) (HasOutlines (M.map map.now))) faces.now }
-{
-    faces.iter().all(|face| has_outlines_if_there(map, face))
+/// Up to so many rings of a face are walked each time that something is asked of one, which takes no
+/// memory.
+const FEW_RINGS: usize = 4;
+
+/// What the rings of a face tell, or those of several.
+#[derive(Clone, Copy, Debug)]
+pub(crate) struct FaceRules {
+    /// Whether each face has its outlines.
+    pub(crate) outlines: bool,
+    /// Whether the holes of each are in place.
+    pub(crate) holes: bool,
 }
 
-/// Whether a face has its outlines, if the map has it.
-fn has_outlines_if_there<M: MapView>(map: &M, face: &Face) -> bool
+/// What the rings of these faces tell. One that the map doesn't have breaks no rule.
+pub(crate) fn rules_of_faces<M: MapView>(alloc: Global, map: &M, faces: &[Face]) -> FaceRules
     requires { HasWholeRings (M.map map.now) }
-    ensures { IsTrue result ↔ OfFace (M.map map.now) (HasOutlines (M.map map.now)) face.now }
+    ensures outlines { IsTrue result.outlines
+        ↔ AllByRecursion (OfFace (M.map map.now) (HasOutlines (M.map map.now))) faces.now }
+    ensures holes { IsTrue result.holes
+        ↔ AllByRecursion (OfFace (M.map map.now) (HasSoundHoles (M.map map.now))) faces.now }
 {
-    has_outlines(map, face, outlines_wanted(face)) || !has_face(map, face)
+    let mut outlines = true;
+    let mut holes = true;
+    for face in faces {
+        let rules = rules_of_face_if_there(alloc, map, face);
+        outlines &= rules.outlines;
+        holes &= rules.holes;
+    }
+    FaceRules { outlines, holes }
+}
+
+/// What the rings of a face tell, if the map has it.
+fn rules_of_face_if_there<M: MapView>(alloc: Global, map: &M, face: &Face) -> FaceRules
+    requires { HasWholeRings (M.map map.now) }
+    ensures outlines { IsTrue result.outlines
+        ↔ OfFace (M.map map.now) (HasOutlines (M.map map.now)) face.now }
+    ensures holes { IsTrue result.holes
+        ↔ OfFace (M.map map.now) (HasSoundHoles (M.map map.now)) face.now }
+{
+    let rules = rules_of_face(alloc, map, face);
+    FaceRules {
+        outlines: rules.outlines || !has_face(map, face),
+        holes: rules.holes || !has_face(map, face),
+    }
+}
+
+/// What the rings of a face tell.
+///
+/// More than [`FEW_RINGS`] are walked once and laid out in memory, so that of holes only those are
+/// compared whose boxes overlap. Where there are no more, and where memory runs out, they are walked
+/// again for each question: that takes none, and a time that grows with the square of their number.
+fn rules_of_face<M: MapView>(alloc: Global, map: &M, face: &Face) -> FaceRules
+    requires { HasWholeRings (M.map map.now) }
+    ensures { result ≡ rules_of (M.map map.now) face.now }
+{
+    if map.ring_side(*face, FEW_RINGS).is_none() {
+        return rules_by_walks(map, face);
+    }
+    match rules_by_shapes(alloc, map, face) {
+        Ok(rules) => rules,
+        Err(_) => rules_by_walks(map, face),
+    }
+}
+
+/// What the rings of a face tell, each walked for each question. Takes no memory.
+fn rules_by_walks<M: MapView>(map: &M, face: &Face) -> FaceRules
+    requires { HasWholeRings (M.map map.now) }
+    ensures { result ≡ rules_of (M.map map.now) face.now }
+{
+    FaceRules {
+        outlines: has_outlines(map, face, outlines_wanted(face)),
+        holes: has_sound_holes(map, face),
+    }
+}
+
+/// What the rings of a face tell as they lie. Takes memory for their positions, 32 bytes a side, and
+/// for the boxes of holes.
+fn rules_by_shapes<M: MapView>(alloc: Global, map: &M, face: &Face) -> Result<FaceRules, Memory>
+    requires { HasWholeRings (M.map map.now) }
+    ensures { IfOk result (λ rules. rules ≡ rules_of (M.map map.now) face.now) }
+{
+    let shapes = shapes_of(alloc, map, face)?;
+    let holes = shapes.has_sound_holes(alloc)?;
+    Ok(FaceRules {
+        outlines: shapes.has_outlines(outlines_wanted(face)),
+        holes,
+    })
+}
+
+/// The rings of a face as they lie.
+fn shapes_of<M: MapView>(alloc: Global, map: &M, face: &Face) -> Result<FaceShapes, Memory>
+    requires { HasWholeRings (M.map map.now) }
+    ensures shapes { IfOk result (λ shapes. shapes ≡ told_apart
+        (map_of (shape_of (position_of (M.map map.now))) (rings_at face.now (M.rings map.now)))) }
+    // The rings are those of the map.
+    ensures canonical_order { canonical_order (M.rings map.now) ≡ (M.map map.now).boundaries }
+{
+    let mut shapes = FaceShapes::none(alloc);
+    for place in 0..ring_count(map, face) {
+        shapes.add(placed_ring(alloc, map, face, place)?)?;
+    }
+    Ok(shapes)
+}
+
+/// A ring of a face as it lies.
+fn placed_ring<M: MapView>(
+    alloc: Global,
+    map: &M,
+    face: &Face,
+    place: usize,
+) -> Result<PlacedRing, Memory>
+    requires whole { HasWholeRings (M.map map.now) }
+    requires there { place < length (rings_at face.now (M.rings map.now)) }
+    ensures placed { IfOk result (λ placed. placed ≡ shape_of (position_of (M.map map.now))
+        (ring_at (M.rings map.now) face.now place)) }
+    ensures few { IfOk result (λ placed. length placed.sides ≤ 2 * string_limit) }
+{
+    let walk = Walk::of_ring(map, face, place);
+    let (first, _) = walk.first_side();
+    PlacedRing::of(alloc, map, first, walk)
 }
 
 /// How many outlines a face has: the outside none, and a parcel one.
@@ -34,21 +147,4 @@ fn outlines_wanted(face: &Face) -> usize
         Face::Outside => 0,
         Face::Parcel(_) => 1,
     }
-}
-
-/// Whether the holes of each of these faces are in place.
-pub(crate) fn have_sound_holes<M: MapView>(map: &M, faces: &[Face]) -> bool
-    requires { HasWholeRings (M.map map.now) }
-    ensures { IsTrue result
-        ↔ AllByRecursion (OfFace (M.map map.now) (HasSoundHoles (M.map map.now))) faces.now }
-{
-    faces.iter().all(|face| has_sound_holes_if_there(map, face))
-}
-
-/// Whether the holes of a face are in place, if the map has it.
-fn has_sound_holes_if_there<M: MapView>(map: &M, face: &Face) -> bool
-    requires { HasWholeRings (M.map map.now) }
-    ensures { IsTrue result ↔ OfFace (M.map map.now) (HasSoundHoles (M.map map.now)) face.now }
-{
-    has_sound_holes(map, face) || !has_face(map, face)
 }

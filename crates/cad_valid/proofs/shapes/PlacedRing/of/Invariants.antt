@@ -1,15 +1,12 @@
-use Rattle.std.proofs.Common.{◌≡◌, ◌++◌}
-use Rattle.std.specs.Prelude.{IsTrue}
-use Rattle.std.specs.List.{AllByRecursion}
-use Rattle.cad_rings.specs.Cycle.{sides_of, placed}
-use Rattle.cad_rings.specs.SidesLeft.{sides_left}
-use Rattle.cad_map.specs.Map.{position_of, has_point}
+use Rattle.std.proofs.Common.{◌≡◌, min, fold, map}
+use Rattle.cad_rings.specs.Cycle.{placed}
+use Rattle.cad_map.specs.Map.{position_of}
 use Rattle.cad_valid.proofs.shapes.PlacedRing.of.Given as goal
 
--- the sides so far and those that are left are all
+-- the sides so far, and the least of their points
 abbrev pub invariant-loop-from : goal.invariant-loop-from
-invariant-loop-from l =
+invariant-loop-from g l =
     record {
-      all : l.sides.items ++ placed (position_of l.map) (sides_left l.from-iterator) ≡ placed (position_of l.map) (sides_of l.ring);
-      ends : AllByRecursion (λ s. IsTrue (has_point l.map s.0) × IsTrue (has_point l.map s.1)) (sides_left l.from-iterator);
+      sides : l.placed.items ≡ placed (position_of (g.M.MapView.map l.map)) l.yielded;
+      least : l.least ≡ fold min l.initial.least (map (λ s. s.0) l.yielded);
     }

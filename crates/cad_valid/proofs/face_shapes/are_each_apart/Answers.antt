@@ -4,7 +4,7 @@ use Rattle.sweep.specs.declared.extent.Extent.{Extent}
 use Rattle.sweep.specs.Extents.{AllThatOverlapPass, SomePairFails}
 use Rattle.cad_valid.specs.Shapes.{are_apart_at}
 use Rattle.cad_valid.proofs.Sweeping.{apart-answered}
-use Rattle.cad_valid.proofs.holes_swept.are_each_apart.Goals as goal
+use Rattle.cad_valid.proofs.face_shapes.are_each_apart.Goals as goal
 
 pub returns : goal.returns
 returns c =

@@ -2,7 +2,7 @@ use Rattle.std.proofs.Common.{◌≡◌, drop}
 use Rattle.std.specs.List.{list_all}
 use Rattle.geo_exact.specs.Inside.{is_inside}
 use Rattle.cad_valid.specs.Shapes.{Shape}
-use Rattle.cad_valid.proofs.holes_swept.are_inside.Given as goal
+use Rattle.cad_valid.proofs.face_shapes.are_inside.Given as goal
 
 -- the holes that are left decide
 abbrev pub invariant-loop-hole : goal.invariant-loop-hole

@@ -5,7 +5,7 @@ use Rattle.geo_exact.specs.Position.{Position}
 use Rattle.geo_exact.specs.Inside.{is_inside}
 use Rattle.cad_valid.specs.Shapes.{Shape}
 use Rattle.cad_valid.proofs.Tests.{all-stops, all-goes}
-use Rattle.cad_valid.proofs.holes_swept.are_inside.Goals as goal
+use Rattle.cad_valid.proofs.face_shapes.are_inside.Goals as goal
 
 pub returns-then-not-is_inside_each : goal.returns-then-not-is_inside_each
 returns-then-not-is_inside_each c =

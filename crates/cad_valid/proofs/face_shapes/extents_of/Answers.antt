@@ -5,7 +5,7 @@ use Rattle.sweep.specs.Extents.{HasExtents}
 use Rattle.sweep.proofs.Boxes.{HasExtents-push}
 use Rattle.cad_valid.specs.Shapes.{Shape, AreEnclosed}
 use Rattle.cad_valid.proofs.Sweeping.{AreEnclosed-push}
-use Rattle.cad_valid.proofs.holes_swept.extents_of.Goals as goal
+use Rattle.cad_valid.proofs.face_shapes.extents_of.Goals as goal
 
 pub loop-ring-preserved : goal.loop-ring-preserved
 loop-ring-preserved c =
