@@ -4,7 +4,7 @@ use Rattle.cad_rows.specs.declared.edits.Edit.TheVariants.{Join}
 use Rattle.cad_rows.specs.declared.rows.StringRow.{StringRow}
 use Rattle.cad_map.specs.Changes.{by_number, joined_sources}
 use Rattle.cad_map.specs.Effects.{after}
-use Rattle.cad_map.specs.Map.{Map, strings_at, far_end}
+use Rattle.cad_map.specs.Map.{Map, point_of, string_of, strings_at, far_end}
 use Rattle.cad_map.specs.Table.{without_row}
 use Rattle.half_table.specs.declared.half.Half.{Half}
 use Rattle.half_table.specs.Half.{forward_of}
@@ -20,6 +20,24 @@ use Rattle.map_parts.specs.declared.stars.Spoke.{Spoke}
 use Rattle.map_parts.specs.Parts.{HasHalves}
 use Rattle.map_parts.specs.Passing.{path_at}
 use Rattle.map_parts.specs.Splitting.{FitMap}
+
+-- A point and two strings went from the rows of a map, and these are their rows, with their places.
+pub record HaveJoined (m : Map) (point first second : ℕ) (joined : JoinedRows) : Type 0 where
+  -- the point's row stood at its place
+  pub point_at : slice_get m.points joined.point_place ≡ Some joined.point
+  pub point_found : point_of m point ≡ Some joined.point
+  -- so did the row of the first string
+  pub first_at : slice_get m.strings joined.first_place ≡ Some joined.first
+  pub first_found : string_of m first ≡ Some joined.first
+  -- and that of the second, when the first was out
+  pub second_at : slice_get (without_row (λ r. r.number) first m.strings) joined.second_place ≡ Some joined.second
+  pub second_found : string_of m second ≡ Some joined.second
+
+-- they can come back without memory
+pub record CanBePutBack (joined : JoinedRows) (rows : MapRows) : Type 0 where
+  pub point_slot : HasSlot rows.points joined.point.number
+  pub first_slot : HasSlot rows.strings joined.first.number
+  pub second_slot : HasSlot rows.strings joined.second.number
 
 -- The join at a point of the map is tried, and it has been looked that the far ends aren't joined:
 -- the new string is in the table, loose, and its number has a slot.

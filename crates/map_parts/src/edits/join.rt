@@ -9,7 +9,7 @@ ghost use Rattle.entry_list.specs.Slots.{HasSlot};
 ghost use Rattle.key_lists.specs.Held.{HasRoomAt};
 ghost use Rattle.cad_map.specs.Map.{point_of, string_of};
 ghost use Rattle.cad_map.specs.Table.{without_row};
-ghost use Rattle.map_parts.specs.Joined.{CanJoin, CanUnjoin, after_join};
+ghost use Rattle.map_parts.specs.Joined.{CanBePutBack, CanJoin, CanUnjoin, HaveJoined, after_join};
 ghost use Rattle.map_parts.specs.Parts.{HasHalves};
 ghost use Rattle.map_parts.specs.Passing.{path_at};
 ghost use Rattle.map_parts.specs.Rows.{map_in};
@@ -130,16 +130,8 @@ pub(crate) fn join<T: Tally>(
     requires { CanJoin point first second row rows.old table.old.rows kept.old stars.old }
     ensures fits { (can : CanJoin point first second row rows.old table.old.rows kept.old stars.old)
         → FitMap (after_join can) rows.new table.new.rows kept.new stars.new }
-    ensures point { slice_get (map_in rows.old).points result.point_place ≡ Some result.point }
-    ensures point_found { point_of (map_in rows.old) point ≡ Some result.point }
-    ensures first { slice_get (map_in rows.old).strings result.first_place ≡ Some result.first }
-    ensures first_found { string_of (map_in rows.old) first ≡ Some result.first }
-    ensures second { slice_get (without_row (λ r. r.number) first (map_in rows.old).strings)
-        result.second_place ≡ Some result.second }
-    ensures second_found { string_of (map_in rows.old) second ≡ Some result.second }
-    ensures point_slot { HasSlot rows.new.points result.point.number }
-    ensures first_slot { HasSlot rows.new.strings result.first.number }
-    ensures second_slot { HasSlot rows.new.strings result.second.number }
+    ensures taken { HaveJoined (map_in rows.old) point first second result }
+    ensures slots { CanBePutBack result rows.new }
     ensures room { HasRoomAt stars.new point 2 }
     ensures first_there { HasHalves table.new.rows result.first }
     ensures second_there { HasHalves table.new.rows result.second }

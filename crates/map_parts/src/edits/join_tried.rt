@@ -1,17 +1,14 @@
 //! A join with its room and its strings in the table: tried, and taken back or kept.
-ghost use Rattle.std.specs.Prelude.{◌≡◌, ◌+◌, ◌≤◌, ◌∷◌, [], ℕ, true, false, Some, length, slice_get, if◌then◌else◌, OnErr, IfOk, OnOk};
+ghost use Rattle.std.specs.Prelude.{◌≡◌, ◌+◌, ◌≤◌, ◌∷◌, [], ℕ, true, length, if◌then◌else◌, OnErr, IfOk, OnOk};
 ghost use Rattle.half_table.specs.declared.half.Half.{Half as HalfOf};
 ghost use Rattle.half_table.specs.Count.{ticked};
 ghost use Rattle.half_table.specs.Half.{twin, forward_of, backward_of};
 ghost use Rattle.half_table.specs.Rows.{next, has, cycle};
 ghost use Rattle.half_paths.specs.Loose.{AreLoose, is_of};
-ghost use Rattle.entry_list.specs.Slots.{HasSlot};
 ghost use Rattle.key_lists.specs.Held.{HasRoomAt};
 ghost use Rattle.cad_map.specs.Effects.{after};
-ghost use Rattle.cad_map.specs.Map.{point_of, string_of};
-ghost use Rattle.cad_map.specs.Table.{without_row};
 ghost use Rattle.cad_rows.specs.declared.edits.Edit.TheVariants.{Join};
-ghost use Rattle.map_parts.specs.Joined.{CanBeginJoin, CanBeginUnjoin};
+ghost use Rattle.map_parts.specs.Joined.{CanBePutBack, CanBeginJoin, CanBeginUnjoin, HaveJoined};
 ghost use Rattle.map_parts.specs.Parts.{HasHalves};
 ghost use Rattle.map_parts.specs.Passing.{path_at};
 ghost use Rattle.map_parts.specs.Rows.{map_in};
@@ -48,16 +45,8 @@ pub fn begin_join<T: Tally>(
     ensures err { (can : CanBeginJoin point first second row rows.old table.old.rows kept.old stars.old)
         → OnErr result (FitMap can.map rows.new table.new.rows kept.new stars.new) }
     ensures err_table { OnErr result (table.new ≡ table.old) }
-    ensures point { IfOk result (λ r. slice_get (map_in rows.old).points r.point_place ≡ Some r.point) }
-    ensures point_found { IfOk result (λ r. point_of (map_in rows.old) point ≡ Some r.point) }
-    ensures first { IfOk result (λ r. slice_get (map_in rows.old).strings r.first_place ≡ Some r.first) }
-    ensures first_found { IfOk result (λ r. string_of (map_in rows.old) first ≡ Some r.first) }
-    ensures second { IfOk result (λ r. slice_get (without_row (λ r. r.number) first
-        (map_in rows.old).strings) r.second_place ≡ Some r.second) }
-    ensures second_found { IfOk result (λ r. string_of (map_in rows.old) second ≡ Some r.second) }
-    ensures point_slot { IfOk result (λ r. HasSlot rows.new.points r.point.number) }
-    ensures first_slot { IfOk result (λ r. HasSlot rows.new.strings r.first.number) }
-    ensures second_slot { IfOk result (λ r. HasSlot rows.new.strings r.second.number) }
+    ensures taken { IfOk result (HaveJoined (map_in rows.old) point first second) }
+    ensures slots { IfOk result (λ r. CanBePutBack r rows.new) }
     ensures room { OnOk result (HasRoomAt stars.new point 2) }
     ensures first_there { IfOk result (λ r. HasHalves table.new.rows r.first) }
     ensures second_there { IfOk result (λ r. HasHalves table.new.rows r.second) }

@@ -89,3 +89,20 @@ returns-clause-room g c =
     let other = same_Some c.unwrap-second_row.result.now c.requires.other (other_at ∙ made.join-second c.args.point c.args.first c.args.second c.args.row c.args.rows.now c.args.table.now.rows c.args.kept.now c.args.stars.now c.requires) in
     made.join-room c.args.point c.args.first c.args.second c.args.row c.args.rows.now c.args.table.now.rows c.args.kept.now c.args.stars.now c.requires
     c.unwrap-first_row.result.now c.unwrap-second_row.result.now one other c.join_spokes.new.stars c.join_spokes.ensures.room
+
+pub returns-clause-taken : goal.returns-clause-taken
+returns-clause-taken g c = record {
+  point_at = c.join_rows.ensures.point;
+  point_found = c.join_rows.ensures.point_found;
+  first_at = c.join_rows.ensures.first;
+  first_found = c.join_rows.ensures.first_found;
+  second_at = c.join_rows.ensures.second;
+  second_found = c.join_rows.ensures.second_found;
+}
+
+pub returns-clause-slots : goal.returns-clause-slots
+returns-clause-slots g c = record {
+  point_slot = c.join_rows.ensures.point_slot;
+  first_slot = c.join_rows.ensures.first_slot;
+  second_slot = c.join_rows.ensures.second_slot;
+}

@@ -1,4 +1,6 @@
-use Rattle.std.proofs.Common.{◌+◌, ◌∙◌, sym, ap, length}
+use Rattle.std.proofs.Common.{◌+◌, ◌∙◌, sym, subst, ap, length}
+use Rattle.cad_map.specs.Map.{Map}
+use Rattle.map_parts.specs.Joined.{HaveJoined}
 use Rattle.half_paths.proofs.Along.{ticked-add}
 use Rattle.half_table.specs.Count.{ticked}
 use Rattle.half_table.specs.Half.{forward_of, backward_of}
@@ -38,3 +40,8 @@ returns-clause-work g c =
     c.args.row.number)) + 5 in
     c.join.ensures.work ∙ ap (ticked ring) c.in_ok-add_loose.ensures.work ∙ sym (ticked-add 1 ring
     c.args.table.now.work)
+
+pub returns-clause-taken : goal.returns-clause-taken
+returns-clause-taken g c =
+    subst (λ (m : Map). HaveJoined m c.args.point c.args.first c.args.second c.join.result)
+    c.make_room_for_string.ensures.rows c.join.ensures.taken
