@@ -9,7 +9,6 @@ use Rattle.cad_rows.specs.declared.names.Face.TheVariants.{Parcel}
 use Rattle.cad_rows.specs.declared.rows.StringRow.{StringRow}
 use Rattle.cad_rings.specs.Cycle.{Side, has_side, opposite, sides_of}
 use Rattle.cad_rings.specs.Surgery.{both_ways, corner, sides_of_chain}
-use Rattle.cell_grid.specs.Grid.{Grid}
 use Rattle.cad_map.specs.declared.boundary.Boundary.{Boundary}
 use Rattle.cad_map.specs.Asked.{GivesInRange}
 use Rattle.cad_map.specs.Chain.{start_of, next_of, end_of, last_but_one, leaving}
@@ -20,15 +19,14 @@ use Rattle.cad_map.specs.Rings.{HasWholeRings}
 use Rattle.cad_map.proofs.CallerLemmas.{CanDivide as IsAllowed, All-at_each, All-from_each, Contains-first, Contains-later, Contains-map, Contains-flat_map, allowed, can-divide, filter-Contains, found-number, map-Contains, ring-hole_placed, row-found, whole_valid}
 use Rattle.half_table.specs.declared.half.Half.{Half}
 use Rattle.half_table.specs.Half.{forward_of}
-use Rattle.half_table.specs.Rows.{HalfRows, Table, has}
-use Rattle.key_lists.specs.Held.{Held}
+use Rattle.half_table.specs.Rows.{HalfRows, has}
 use Rattle.cad_laws.specs.Faces.{left_of_chain, uncut}
 use Rattle.cad_laws.specs.Tried.{IsTried}
 use Rattle.cad_laws.proofs.CallerLemmas.{before-one, divided-faces, some-corner, whole-after}
+use Rattle.cad_surgery.specs.declared.draft.Draft.TheInside.{Inside}
 use Rattle.cad_surgery.specs.declared.edits.try_divide.Division.{Division}
-use Rattle.map_parts.specs.declared.map_rows.MapRows.{MapRows}
+use Rattle.cad_surgery.specs.declared.edits.try_divide.Cut.{Cut}
 use Rattle.edit_records.specs.declared.record.SmallRecord.{SmallRecord}
-use Rattle.map_parts.specs.declared.stars.Spoke.{Spoke}
 use Rattle.map_parts.specs.Chains.{IsChainOf}
 use Rattle.map_parts.specs.Dividing.{IsDividing, rings_beside}
 use Rattle.cad_surgery.specs.Divisions.{divided_by, strings_across, HasCrossing}
@@ -38,7 +36,7 @@ use Rattle.map_parts.specs.Parts.{Parts, FitTogether, HasHalves, map_of}
 use Rattle.edit_records.specs.Record.{edit_of, Holds, Belongs}
 use Rattle.cad_surgery.proofs.DividedBack.{by-record, first_side}
 use Rattle.cad_surgery.proofs.DraftFits.{draft-fits}
-use Rattle.cad_surgery.proofs.FitParts.{parts}
+use Rattle.cad_surgery.proofs.FitParts.{parts-in}
 use Rattle.map_parts.proofs.Dividing as divides
 use Rattle.map_parts.proofs.KeptShown.{bare}
 use Rattle.cad_surgery.proofs.NamedRings.{row-side, named-among, named-rings, named-once}
@@ -208,24 +206,23 @@ module _ (m : Map) (d : Division) (tried : IsTried m (divided_by d)) (rows : Hal
 
 -- ---- By its record, on a draft
 
-module _ (rows : MapRows) (table : Table) (held : Held Half) (stars : Held Spoke) (grid : Grid) (v : Parts)
-    (view : parts rows table held stars grid ≡ v) (fit : FitTogether (parts rows table held stars grid)) (r : SmallRecord) (d : Division) (start end : Half) (moved : List Half)
+module _ {T : Type 0} (inside : Inside T) {v : Parts} (view : parts-in inside ≡ v) (fit : FitTogether (parts-in inside)) (r : SmallRecord) (d : Division) (cut : Cut)
     (given : GivesInRange (edit_of r)) (same : edit_of r ≡ divided_by d)
-    (told : (b : Map) → Holds r b → HeldChain (after b (edit_of r)) (Parcel d.parcel) d.chain.now start end moved)
-    (after_it : Map) (it : Belongs r (map_of v) after_it) where
+    (told : (b : Map) → Holds r b → HeldChain (after b (edit_of r)) (Parcel d.parcel) d.chain.now cut.start cut.end cut.moved.now)
+    {after_it : Map} (it : Belongs r (map_of v) after_it) where
   pub again-tried : IsTried (map_of v) (divided_by d)
-  again-tried = (by-record r d start end moved given same told (map_of v) after_it it).tried
+  again-tried = (by-record r {d = d} cut given same told (map_of v) after_it it).tried
 
   pub again-many : length d.strings.now + 1 ≡ length d.chain.now
   again-many =
       (can-divide (map_of v) d.face d.chain.now d.strings.now d.parcel d.label.now d.source again-tried.given (allowed (map_of v) (divided_by d) again-tried.allowed)).as_many
 
-  pub again-crossing : HasCrossing (map_of v) v.table.rows d start end moved
+  pub again-crossing : HasCrossing (map_of v) v.table.rows d cut.start cut.end cut.moved.now
   again-crossing =
-      subst (λ (q : Parts). HasCrossing (map_of v) q.table.rows d start end moved) view
-      (crossing (map_of v) d again-tried table.rows
-      (draft-fits rows table held stars grid v view fit (whole_valid (map_of v) it.valid)).fits.ends start end moved
-      (subst (λ (e : Edit). HeldChain (after (map_of v) e) (Parcel d.parcel) d.chain.now start end moved) same (told (map_of v) it.holds)))
+      subst (λ (q : Parts). HasCrossing (map_of v) q.table.rows d cut.start cut.end cut.moved.now) view
+      (crossing (map_of v) d again-tried inside.table.rows
+      (draft-fits inside.rows inside.table inside.kept inside.stars inside.grid v view fit (whole_valid (map_of v) it.valid)).fits.ends cut.start cut.end cut.moved.now
+      (subst (λ (e : Edit). HeldChain (after (map_of v) e) (Parcel d.parcel) d.chain.now cut.start cut.end cut.moved.now) same (told (map_of v) it.holds)))
 
 -- the same division by the same lists
 pub same-lists : (face : Face) (parcel : ℕ) (label : List ℕ) (source : ℕ) (chain points strings along : List ℕ) → chain ≡ points → strings ≡ along

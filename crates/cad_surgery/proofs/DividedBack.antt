@@ -1,5 +1,5 @@
 -- A division that is taken back, with its strings out of the table.
-use Rattle.std.proofs.Common.{◌≡◌, ◌≤◌, ◌+◌, ◌*◌, ℕ, refl, sym, ap, subst, ◌∙◌, List, [], ◌∷◌, map, filter, length, Bool, true, false, if◌then◌else◌, arith}
+use Rattle.std.proofs.Common.{◌≡◌, ◌≤◌, ◌<◌, ◌+◌, ◌*◌, ℕ, refl, sym, ap, subst, ◌∙◌, List, [], ◌∷◌, map, filter, length, true, false, if◌then◌else◌, arith}
 use Rattle.std.specs.Prelude.{IsPermutation, Result, Ok, Err, OnOk}
 use Rattle.std.specs.List.{AllByRecursion, Contains}
 use Rattle.std.proofs.lemmas.List.{length-map}
@@ -16,21 +16,25 @@ use Rattle.cad_map.specs.Effects.{after}
 use Rattle.cad_map.specs.Map.{Map, has_string}
 use Rattle.cad_map.specs.Refusals.{first_refusal}
 use Rattle.cad_map.specs.Rings.{HasWholeRings}
-use Rattle.cad_map.proofs.CallerLemmas.{CanDivide as IsAllowed, All-follows, Contains-first, allowed, can-divide, whole_valid}
+use Rattle.cad_map.proofs.CallerLemmas.{CanDivide as IsAllowed, Contains-first, allowed, can-divide, whole_valid}
 use Rattle.half_table.specs.declared.half.Half.{Half}
 use Rattle.half_table.specs.Count.{greatest, ticked}
 use Rattle.half_table.specs.Half.{forward_of}
-use Rattle.half_table.specs.Rows.{Table, has, next, cycle}
-use Rattle.half_paths.specs.Path.{AreIn, AreDifferent, strings_of}
-use Rattle.half_paths.specs.Loose.{is_of, AreLoose, DropsStrings}
+use Rattle.half_table.specs.Rows.{Table, has, cycle}
+use Rattle.half_paths.specs.Path.{AreDifferent, strings_of}
+use Rattle.half_paths.specs.Loose.{is_of}
 use Rattle.key_lists.specs.Held.{Held}
 use Rattle.cad_laws.specs.Counts.{sides_of_face}
 use Rattle.cad_laws.specs.Local.{IsShown}
 use Rattle.cad_laws.proofs.CallerLemmas.{divided-faces, whole-after}
+use Rattle.cad_laws.specs.Tried.{IsTried}
+use Rattle.cad_surgery.specs.declared.draft.Draft.TheInside.{Inside}
 use Rattle.cad_surgery.specs.declared.edits.try_divide.Division.{Division}
+use Rattle.cad_surgery.specs.declared.edits.try_divide.Cut.{Cut}
 use Rattle.map_parts.specs.declared.map_rows.MapRows.{MapRows}
 use Rattle.edit_records.specs.declared.record.SmallRecord.{SmallRecord}
 use Rattle.map_parts.specs.declared.stars.Spoke.{Spoke}
+use Rattle.map_parts.specs.Paths.{HasStringsMore}
 use Rattle.map_parts.specs.Parts.{Parts, FitTogether, HasHalves, map_of, kept_at}
 use Rattle.map_parts.specs.Relabelled.{cycles_length}
 use Rattle.cad_surgery.specs.Work.{TakesWork}
@@ -44,14 +48,13 @@ use Rattle.map_parts.specs.Chains.{IsChainOf}
 use Rattle.map_parts.specs.Dividing.{IsDividing, divided, rings_beside, CanBeginUndivide}
 use Rattle.cad_surgery.specs.Divisions.{divided_by, strings_across, IsDividedBy}
 use Rattle.map_parts.proofs.ChainRings.{first-on}
-use Rattle.cad_surgery.proofs.DividedDraft.{either}
-use Rattle.cad_surgery.proofs.DraftFits.{draft-fits, draft-all, draft-work, settled}
+use Rattle.cad_surgery.proofs.LooseBeside.{either}
+use Rattle.cad_surgery.proofs.DraftFits.{draft-fits, draft-all, draft-work}
 use Rattle.cad_surgery.proofs.NamedRings.{named-on, named-rings, named-once}
 use Rattle.cad_surgery.proofs.RingLengths.{face-lengths}
 use Rattle.cad_surgery.proofs.WorkTaken.{work-allowed, ticks-just, ticks-then}
 use Rattle.map_parts.proofs.Dividing as divides
-use Rattle.cad_surgery.proofs.FitParts.{parts, fit-parts, fit-map, fit-proper}
-use Rattle.cad_surgery.proofs.SplitDraft.{come-and-gone}
+use Rattle.cad_surgery.proofs.FitParts.{parts, parts-in, GoWith, at-rest}
 
 -- a chain of two points or more has a first side
 pub first_side : (chain : List ℕ) → 2 ≤ length chain → Contains (sides_of_chain chain) (start_of chain, next_of chain)
@@ -59,10 +62,33 @@ first_side [] long = absurd (omega (arith, long))
 first_side (a ∷ []) long = absurd (omega (arith, long))
 first_side (a ∷ b ∷ points) long = Contains-first (a, b) (sides_of_chain (b ∷ points))
 
-module _ (rows : MapRows) (table : Table) (held : Held Half) (stars : Held Spoke) (grid : Grid) (v : Parts)
-    (view : parts rows table held stars grid ≡ v) (fit : FitTogether (parts rows table held stars grid)) (d : Division) (moved : List Half)
-    (m : Map) (it : IsDividedBy m (map_of v) d moved) (rest : IsProper (map_of v) v.table.rows (kept_at v))
-    (first : Half) (others : List Half) (path_is : first ∷ others ≡ map forward_of d.strings.now) where
+-- a path along the strings of a division has a first half
+pub path-some : (d : Division) {m : Map} → IsTried m (divided_by d) → {path : List Half} → path ≡ map forward_of d.strings.now → 0 < length path
+path-some d {m} tried path_is =
+    let can = can-divide m d.face d.chain.now d.strings.now d.parcel d.label.now d.source tried.given (allowed m (divided_by d) tried.allowed) in
+    let long = can.long in
+    let as_many = can.as_many in
+    let same = ap length path_is ∙ length-map d.strings.now forward_of in
+    omega (arith, long, as_many, same)
+
+module _ {T : Type 0} (inside : Inside T) {v : Parts} (view : parts-in inside ≡ v) (fit : FitTogether (parts-in inside)) {d : Division} {moved : List Half}
+    {m : Map} (it : IsDividedBy m (map_of v) d moved) (rest : IsProper (map_of v) v.table.rows (kept_at v))
+    {whole_path : List Half} (path_is : whole_path ≡ map forward_of d.strings.now) {first : Half} {others : List Half} (parted : whole_path ≡ first ∷ others) where
+  abbrev rows : MapRows
+  rows = inside.rows
+
+  abbrev table : Table
+  table = inside.table
+
+  abbrev held : Held Half
+  held = inside.kept
+
+  abbrev stars : Held Spoke
+  stars = inside.stars
+
+  abbrev grid : Grid
+  grid = inside.grid
+
   abbrev now : Map
   now = after m (divided_by d)
 
@@ -99,7 +125,7 @@ module _ (rows : MapRows) (table : Table) (held : Held Half) (stars : Held Spoke
         divided-faces m d.face d.chain.now d.strings.now d.parcel d.label.now d.source can.first can.last
         it.tried.valid it.tried.given it.tried.allowed can.at_first can.at_last;
     added_are = refl;
-    path_is = path_is;
+    path_is = sym parted ∙ path_is;
   }
 
   abbrev left : Boundary
@@ -143,96 +169,66 @@ module _ (rows : MapRows) (table : Table) (held : Held Half) (stars : Held Spoke
       (divides.along m d.face d.strings.now (strings_across d) d.parcel path is_it table.rows ends))
       moved moved_are moved_once
 
-  module _ (new : MapRows) (t : Table) (put : Held Half) (wide : Held Spoke) where
+  more : HasStringsMore m now path
+  more = divides.more m d.face d.strings.now (strings_across d) d.parcel path is_it
+
+  module _ {new : MapRows} (t : Table) {put : Held Half} {wide : Held Spoke} where
     -- where memory ran out
-    module _ (each : (c : CanBeginUndivide d.face d.strings.now d.parcel path moved rows table.rows held stars) → FitMap (divided c.is) new t.rows put wide)
-        (same : t ≡ table) where
-      stay : FitMap now new t.rows put wide
-      stay = each begins
+    module _ (each : (c : CanBeginUndivide d.face d.strings.now d.parcel path moved rows table.rows held stars) → FitMap (divided c.is) new t.rows put wide) where
+      pub stays : GoWith now new t put wide
+      stays = record { whole = whole_now; fits = each begins }
 
-      pub stay-fit : FitTogether (parts new t put wide grid)
-      stay-fit = fit-parts new t put wide grid now whole_now stay
-
-      pub stay-map : map_of (parts new t put wide grid) ≡ map_of v
-      stay-map = fit-map new t put wide grid now whole_now stay ∙ sym it.is
-
-      pub stay-proper : IsProper (map_of (parts new t put wide grid)) t.rows (kept_at (parts new t put wide grid))
-      stay-proper = fit-proper new t put wide grid now whole_now stay (λ g. ap (λ (l : Table). has l.rows g) same ∙ all g)
+      pub stays-rest : t ≡ table → IsProper (map_of (parts new t put wide grid)) t.rows (kept_at (parts new t put wide grid))
+      stays-rest same = at-rest grid stays (λ g. ap (λ (l : Table). has l.rows g) same ∙ all g)
 
     -- where it is taken back
     module _ (each : (c : CanBeginUndivide d.face d.strings.now d.parcel path moved rows table.rows held stars) → FitMap c.map new t.rows put wide)
         (has_same : (g : Half) → has t.rows g ≡ has table.rows g) where
-      in-fits : FitMap m new t.rows put wide
-      in-fits = each begins
+      pub gone-back : GoWith m new t put wide
+      gone-back = record { whole = whole_old; fits = each begins }
 
-      pub in-fit : FitTogether (parts new t put wide grid)
-      in-fit = fit-parts new t put wide grid m whole_old in-fits
+      pub strings-beside : (g : Half) → has t.rows g ≡ (if is_of (strings_of whole_path) g then true else has_string m g.string)
+      strings-beside g =
+          has_same g ∙ all g ∙ more.all g ∙ sym (either (is_of (strings_of path) g) (has_string m g.string))
+          ∙ ap (λ (l : List Half). if is_of (strings_of l) g then true else has_string m g.string) (sym parted)
 
-      pub in-map : map_of (parts new t put wide grid) ≡ m
-      in-map = fit-map new t put wide grid m whole_old in-fits
+  pub strings-new : (g : Half) → IsShown m g → is_of (strings_of whole_path) g ≡ false
+  strings-new = subst (λ (l : List Half). (g : Half) → IsShown m g → is_of (strings_of l) g ≡ false) (sym parted) more.new
 
-      pub in-whole : HasWholeRings (map_of (parts new t put wide grid))
-      in-whole = subst HasWholeRings (sym in-map) whole_old
+  pub strings-differ : AreDifferent whole_path
+  strings-differ = subst AreDifferent (sym parted) (divides.different m d.face d.strings.now (strings_across d) d.parcel path is_it)
 
-      module _ (q : List Half) (q_is : q ≡ path) where
-        pub back-in : AreIn t.rows q
-        back-in =
-            subst (AreIn t.rows) (sym q_is)
-            (All-follows (λ h. has table.rows h ≡ true) (λ h. has t.rows h ≡ true) (λ h there. has_same h ∙ there) path
-            (divides.within m d.face d.strings.now (strings_across d) d.parcel path is_it table.rows ends))
-
-        pub back-different : AreDifferent q
-        back-different = subst AreDifferent (sym q_is) (divides.different m d.face d.strings.now (strings_across d) d.parcel path is_it)
-
-        pub back-loose : AreLoose (next t.rows) path → AreLoose (next t.rows) q
-        back-loose loose = subst (AreLoose (next t.rows)) (sym q_is) loose
-
-        pub back-hidden : (g : Half) → IsShown (map_of (parts new t put wide grid)) g → is_of (strings_of q) g ≡ false
-        back-hidden g shown =
-            subst (λ (l : List Half). is_of (strings_of l) g ≡ false) (sym q_is)
-            ((divides.more m d.face d.strings.now (strings_across d) d.parcel path is_it).new g (subst (λ (n : Map). IsShown n g) in-map shown))
-
-        pub back-proper : (p : Parts) → FitTogether p → map_of p ≡ map_of (parts new t put wide grid)
-            → DropsStrings q t.rows p.table.rows → IsProper (map_of p) p.table.rows (kept_at p)
-        back-proper p p_fit same drops =
-            settled p m p_fit (same ∙ in-map) whole_old (λ g.
-            (subst (λ (l : List Half). DropsStrings l t.rows p.table.rows) q_is drops).has g
-            ∙ ap (λ (b : Bool). if is_of (strings_of path) g then false else b)
-            (has_same g ∙ all g ∙ (divides.more m d.face d.strings.now (strings_across d) d.parcel path is_it).all g
-            ∙ sym (either (is_of (strings_of path) g) (has_string m g.string)))
-            ∙ come-and-gone (is_of (strings_of path) g) (has_string m g.string)
-            ((divides.more m d.face d.strings.now (strings_across d) d.parcel path is_it).new g))
-
-        pub back-work : table.work ≤ greatest
-            → t.work ≡ ticked (cycles_length table.rows moved + (length (cycle table.rows first) + (length others + 2) + (2 + 2 * length others))) table.work
-            → (u : Table) → u.work ≡ ticked (length q) t.work → TakesWork v.table u (work_bound m (map_of v))
-        back-work within work u last =
-            let few = cycles_length table.rows moved + (length (cycle table.rows first) + (length others + 2) + (2 + 2 * length others)) in
-            let most = work-allowed m (divided_by d) it.tried in
-            let long = ap length path_is ∙ length-map d.strings.now forward_of in
-            let rings = all-rings in
-            let count = ap length q_is in
-            subst (λ (n : Map). TakesWork v.table u (work_bound m n)) (sym it.is)
-            (draft-work rows table held stars grid v view u (few + length q) (work_bound m now) within (omega (arith, most, long, rings, count))
-            (ticks-then table t u few (length q) (ticks-just table t few work) (ticks-just t u (length q) last)))
+  pub back-work : table.work ≤ greatest → (t u : Table)
+      → t.work ≡ ticked (cycles_length table.rows moved + (length (cycle table.rows first) + (length others + 2) + (2 + 2 * length others))) table.work
+      → u.work ≡ ticked (length whole_path) t.work → TakesWork v.table u (work_bound m (map_of v))
+  back-work within t u work last =
+      let few = cycles_length table.rows moved + (length (cycle table.rows first) + (length others + 2) + (2 + 2 * length others)) in
+      let most = work-allowed m (divided_by d) it.tried in
+      let long = ap length path_is ∙ length-map d.strings.now forward_of in
+      let rings = all-rings in
+      let count = ap length parted in
+      subst (λ (n : Map). TakesWork v.table u (work_bound m n)) (sym it.is)
+      (draft-work rows table held stars grid v view u (few + length whole_path) (work_bound m now) within (omega (arith, most, long, rings, count))
+      (ticks-then table t u few (length whole_path) (ticks-just table t few work) (ticks-just t u (length whole_path) last)))
 
 -- ---- By its record
 
 -- the record leads from the map to the one after the division that it tells
-pub by-record : (r : SmallRecord) (d : Division) (start end : Half) (moved : List Half) → GivesInRange (edit_of r) → edit_of r ≡ divided_by d
-    → ((b : Map) → Holds r b → HeldChain (after b (edit_of r)) (Parcel d.parcel) d.chain.now start end moved)
-    → (m n : Map) → Belongs r m n → IsDividedBy m n d moved
-by-record r d start end moved given same held m n it = record {
-  tried = record {
-    valid = it.valid;
-    given = subst GivesInRange same given;
-    allowed = ap (first_refusal m) (sym same) ∙ it.leads.allowed;
-  };
-  is = it.leads.is ∙ ap (after m) same;
-  named =
-      subst (λ (n : Map). NamesRings n moved (rings_but n (Parcel d.parcel) (start_of d.chain.now, next_of d.chain.now)))
-      (sym it.leads.is) (held m it.holds).moved_are;
-}
+pub by-record : (r : SmallRecord) {d : Division} (cut : Cut) → GivesInRange (edit_of r) → edit_of r ≡ divided_by d
+    → ((b : Map) → Holds r b → HeldChain (after b (edit_of r)) (Parcel d.parcel) d.chain.now cut.start cut.end cut.moved.now)
+    → (m n : Map) → Belongs r m n → IsDividedBy m n d cut.moved.now
+by-record r {d} cut given same told m n it =
+    record {
+      tried = record {
+        valid = it.valid;
+        given = subst GivesInRange same given;
+        allowed = ap (first_refusal m) (sym same) ∙ it.leads.allowed;
+      };
+      is = it.leads.is ∙ ap (after m) same;
+      named =
+          subst (λ (n : Map). NamesRings n cut.moved.now (rings_but n (Parcel d.parcel) (start_of d.chain.now, next_of d.chain.now)))
+          (sym it.leads.is) (told m it.holds).moved_are;
+    }
 
 -- what follows where a call succeeded
 pub ok-then : {A E P Q : Type 0} (r : Result A E) → OnOk r P → (P → Q) → OnOk r Q

@@ -1,11 +1,9 @@
 -- A division on the parts of a map on half-edges, from growth to rest.
-use Rattle.std.proofs.Common.{◌≡◌, ◌≤◌, ◌<◌, ◌+◌, ◌*◌, ℕ, refl, sym, ap, subst, ◌∙◌, List, [], ◌∷◌, map, filter, length, Bool, true, false, ◌||◌, if◌then◌else◌, None, is_some, arith}
-use Rattle.std.specs.Prelude.{IsPermutation, Result, Ok, Err, OnOk, OnErr}
+use Rattle.std.proofs.Common.{◌≡◌, ◌≤◌, ◌+◌, ◌*◌, ℕ, refl, sym, ap, subst, ◌∙◌, List, [], ◌∷◌, map, filter, length, true, false, if◌then◌else◌, None, is_some, arith}
+use Rattle.std.specs.Prelude.{IsPermutation}
 use Rattle.std.specs.List.{AllByRecursion, Contains}
 use Rattle.std.proofs.lemmas.List.{length-map}
 use Rattle.cad_rows.specs.declared.names.Face.TheVariants.{Parcel}
-use Rattle.cad_rows.specs.declared.refusals.Refusal.TheVariants.{Breaks}
-use Rattle.cad_rows.specs.declared.refusals.Rule.{Rule}
 use Rattle.cad_rows.specs.declared.rows.ParcelRow.{ParcelRow}
 use Rattle.cad_rows.specs.declared.rows.StringRow.{StringRow}
 use Rattle.cell_grid.specs.Grid.{Grid}
@@ -14,26 +12,24 @@ use Rattle.cad_map.specs.Boundaries.{face_place, is_face}
 use Rattle.cad_map.specs.Costs.{work_bound}
 use Rattle.cad_map.specs.Effects.{after}
 use Rattle.cad_map.specs.Map.{Map, string_of, has_string}
-use Rattle.cad_map.specs.Outcome.{MayRefuse, refused, breaking}
 use Rattle.cad_map.specs.Rings.{HasWholeRings}
-use Rattle.cad_map.specs.Touched.{IsTouched, Touched as TouchedOf}
-use Rattle.cad_map.specs.Valid.{IsValid, CanBeTested, FirstBroken, KeepsAll}
-use Rattle.cad_map.proofs.CallerLemmas.{CanDivide as IsAllowed, All-at_each, All-follows, allowed, can-divide, valid-from_kept, whole_valid}
+use Rattle.cad_map.proofs.CallerLemmas.{CanDivide as IsAllowed, All-at_each, whole_valid}
 use Rattle.half_table.specs.declared.half.Half.{Half}
 use Rattle.half_table.specs.Count.{greatest, ticked}
 use Rattle.half_table.specs.Half.{forward_of, twin}
-use Rattle.half_table.specs.Rows.{HalfRows, Table, has, has_halves, next, origin_of, cycle}
+use Rattle.half_table.specs.Rows.{HalfRows, Table, has, has_halves, origin_of, cycle}
 use Rattle.half_table.proofs.Strings.{has-string}
-use Rattle.half_paths.specs.Path.{AreIn, AreDifferent, strings_of}
-use Rattle.half_paths.specs.Loose.{is_of, numbers_of, AreNew, AreLoose, DropsStrings}
+use Rattle.half_paths.specs.Path.{AreDifferent, strings_of}
+use Rattle.half_paths.specs.Loose.{is_of, numbers_of, AreNew}
 use Rattle.half_paths.proofs.Along.{ticked-add}
 use Rattle.key_lists.specs.Held.{Held, items_at, HasRoomAt}
 use Rattle.cad_laws.specs.Counts.{sides_of_face}
 use Rattle.cad_laws.specs.Local.{IsShown, side_by}
 use Rattle.cad_laws.specs.Tried.{IsTried}
 use Rattle.cad_laws.proofs.CallerLemmas.{whole-after}
-use Rattle.cad_valid.specs.Near.{HoldsMap, ComesFromValid}
+use Rattle.cad_surgery.specs.declared.draft.Draft.TheInside.{Inside}
 use Rattle.cad_surgery.specs.declared.edits.try_divide.Division.{Division}
+use Rattle.cad_surgery.specs.declared.edits.try_divide.Cut.{Cut}
 use Rattle.map_parts.specs.declared.map_rows.MapRows.{MapRows}
 use Rattle.map_parts.specs.declared.stars.Spoke.{Spoke}
 use Rattle.map_parts.specs.Parts.{Parts, FitTogether, HasHalves, map_of, kept_at}
@@ -44,37 +40,54 @@ use Rattle.map_parts.specs.Islands.{AreOfRings}
 use Rattle.cad_surgery.specs.Proper.{IsProper}
 use Rattle.map_parts.specs.Splitting.{FitMap}
 use Rattle.map_parts.specs.Dividing.{IsDividing, divided, rings_beside, CanBeginDivide, CanUndivide}
-use Rattle.cad_surgery.specs.Divisions.{divided_by, strings_across, parcel_across, HasCrossing}
+use Rattle.cad_surgery.specs.Divisions.{divided_by, strings_across, parcel_across, HasCrossing, ComesAcross}
 use Rattle.map_parts.proofs.AddedStrings.{strings-path}
 use Rattle.map_parts.proofs.ChainRings.{first-on}
-use Rattle.cad_surgery.proofs.DraftFits.{draft-fits, draft-all, draft-work, settled}
+use Rattle.cad_surgery.proofs.DraftFits.{draft-fits, draft-all, draft-work}
 use Rattle.map_parts.proofs.KeptEach.{map-cong}
 use Rattle.cad_surgery.proofs.RingLengths.{face-lengths, home-stays}
 use Rattle.cad_surgery.proofs.WorkTaken.{work-allowed, ticks-just, ticks-then}
 use Rattle.map_parts.proofs.Dividing as divides
-use Rattle.cad_surgery.proofs.FitParts.{parts, fit-parts, fit-map, fit-proper}
-use Rattle.cad_surgery.proofs.Played.{tested}
-use Rattle.cad_surgery.proofs.SplitDraft.{come-and-gone}
+use Rattle.cad_surgery.proofs.FitParts.{parts, parts-in, GoWith, at-rest}
+use Rattle.cad_surgery.proofs.LooseBeside.{either}
 
-pub either : (b has : Bool) → (if b then true else has) ≡ (b || has)
-either true has = refl
-either false has = refl
-
--- a path along the strings of a division has a first half
-pub path-some : (m : Map) (d : Division) → IsTried m (divided_by d) → (path : List Half) → path ≡ map forward_of d.strings.now → 0 < length path
-path-some m d tried path is =
-    let can = can-divide m d.face d.chain.now d.strings.now d.parcel d.label.now d.source tried.given (allowed m (divided_by d) tried.allowed) in
-    let long = can.long in
-    let as_many = can.as_many in
-    let same = ap length is ∙ length-map d.strings.now forward_of in
-    omega (arith, long, as_many, same)
-
-module _ (rows : MapRows) (table : Table) (held : Held Half) (stars : Held Spoke) (grid : Grid) (v : Parts)
-    (view : parts rows table held stars grid ≡ v) (fit : FitTogether (parts rows table held stars grid)) (d : Division)
+module _ {T : Type 0} (inside : Inside T) {v : Parts} (view : parts-in inside ≡ v) (fit : FitTogether (parts-in inside))
+    {d : Division} {cut : Cut} {added : List StringRow} {row : ParcelRow} {whole_path : List Half}
     (tried : IsTried (map_of v) (divided_by d)) (rest : IsProper (map_of v) v.table.rows (kept_at v))
-    (added : List StringRow) (added_is : added ≡ strings_across d) (row : ParcelRow) (row_is : row ≡ parcel_across d)
-    (first : Half) (others : List Half) (path_is : first ∷ others ≡ map forward_of d.strings.now)
-    (start end : Half) (moved : List Half) (seen : HasCrossing (map_of v) v.table.rows d start end moved) where
+    (comes : ComesAcross (map_of v) v.table.rows d cut added row whole_path) {first : Half} {others : List Half} (parted : whole_path ≡ first ∷ others) where
+  abbrev rows : MapRows
+  rows = inside.rows
+
+  abbrev table : Table
+  table = inside.table
+
+  abbrev held : Held Half
+  held = inside.kept
+
+  abbrev stars : Held Spoke
+  stars = inside.stars
+
+  abbrev grid : Grid
+  grid = inside.grid
+
+  abbrev start : Half
+  start = cut.start
+
+  abbrev end : Half
+  end = cut.end
+
+  abbrev moved : List Half
+  moved = cut.moved.now
+
+  abbrev added_is : added ≡ strings_across d
+  added_is = comes.strings_are
+
+  abbrev row_is : row ≡ parcel_across d
+  row_is = comes.parcel_is
+
+  pub path_is : first ∷ others ≡ map forward_of d.strings.now
+  path_is = sym parted ∙ comes.path_is
+
   abbrev old : Map
   old = map_of v
 
@@ -97,7 +110,7 @@ module _ (rows : MapRows) (table : Table) (held : Held Half) (stars : Held Spoke
   all = draft-all rows table held stars grid v view rest
 
   abbrev pub cross : HasCrossing old table.rows d start end moved
-  cross = subst (λ (q : Parts). HasCrossing old q.table.rows d start end moved) (sym view) seen
+  cross = subst (λ (q : Parts). HasCrossing old q.table.rows d start end moved) (sym view) comes.crossing
 
   abbrev pub is_it : IsDividing old d.face d.strings.now added d.parcel path
   is_it = record {
@@ -156,76 +169,47 @@ module _ (rows : MapRows) (table : Table) (held : Held Half) (stars : Held Spoke
   divide-work : 16 * (length d.strings.now + 2) + 4 * sides_of_face (Parcel d.parcel) made ≤ work_bound old made
   divide-work = let w = work-allowed old (divided_by d) tried in omega (arith, w)
 
-  module _ (new : MapRows) (t : Table) (put : Held Half) (wide : Held Spoke) where
+  pub left-work : (t : Table) → table.work ≤ greatest → (count : ℕ) × (count ≤ length added) × (t.work ≡ ticked count (ticked count table.work)) → TakesWork v.table t (work_bound old made)
+  left-work t within it =
+      let most = divide-work in
+      let long = added-long in
+      let few = it.1 in
+      draft-work rows table held stars grid v view t (it.0 + it.0) (work_bound old made) within (omega (arith, most, long, few))
+      (ticks-just table t (it.0 + it.0) (it.2 ∙ sym (ticked-add it.0 it.0 table.work)))
+
+  module _ {new : MapRows} (t : Table) {put : Held Half} {wide : Held Spoke} where
     -- where memory ran out
-    module _ (each : (c : CanBeginDivide d.face added row path start end moved rows table.rows held stars) → FitMap c.map new t.rows put wide)
-        (same : t.rows ≡ table.rows) where
-      left : FitMap old new t.rows put wide
-      left =
+    module _ (each : (c : CanBeginDivide d.face added row path start end moved rows table.rows held stars) → FitMap c.map new t.rows put wide) where
+      left-fits : FitMap old new t.rows put wide
+      left-fits =
           subst (λ (r : ParcelRow). ((c : CanBeginDivide d.face added r path start end moved rows table.rows held stars) → FitMap c.map new t.rows put wide) → FitMap old new t.rows put wide) (sym row_is)
           (λ f. f own) each
 
-      pub left-fit : FitTogether (parts new t put wide grid)
-      left-fit = fit-parts new t put wide grid old whole_old left
+      pub left : GoWith old new t put wide
+      left = record { whole = whole_old; fits = left-fits }
 
-      pub left-map : map_of (parts new t put wide grid) ≡ old
-      left-map = fit-map new t put wide grid old whole_old left
-
-      pub left-proper : IsProper (map_of (parts new t put wide grid)) t.rows (kept_at (parts new t put wide grid))
-      left-proper = fit-proper new t put wide grid old whole_old left (λ g. ap (λ (l : HalfRows). has l g) same ∙ all g)
-
-    pub left-work : table.work ≤ greatest → (count : ℕ) × (count ≤ length added) × (t.work ≡ ticked count (ticked count table.work)) → TakesWork v.table t (work_bound old made)
-    left-work within it =
-        let most = divide-work in
-        let long = added-long in
-        let few = it.1 in
-        draft-work rows table held stars grid v view t (it.0 + it.0) (work_bound old made) within (omega (arith, most, long, few))
-        (ticks-just table t (it.0 + it.0) (it.2 ∙ sym (ticked-add it.0 it.0 table.work)))
+      pub left-rest : t.rows ≡ table.rows → IsProper (map_of (parts new t put wide grid)) t.rows (kept_at (parts new t put wide grid))
+      left-rest same = at-rest grid left (λ g. ap (λ (l : HalfRows). has l g) same ∙ all g)
 
     -- where it is made
-    module _ (each : (c : CanBeginDivide d.face added row path start end moved rows table.rows held stars) → FitMap (divided c.is) new t.rows put wide)
-        (some : (g : Half) → has t.rows g ≡ (if is_of (numbers_of added) g then true else has table.rows g)) where
+    module _ (each : (c : CanBeginDivide d.face added row path start end moved rows table.rows held stars) → FitMap (divided c.is) new t.rows put wide) where
       pub made-fits : FitMap made new t.rows put wide
       made-fits =
           subst (λ (r : ParcelRow). ((c : CanBeginDivide d.face added r path start end moved rows table.rows held stars) → FitMap (divided c.is) new t.rows put wide) → FitMap made new t.rows put wide) (sym row_is)
           (λ f. f own) each
 
-      more : (g : Half) → has t.rows g ≡ (if is_of (strings_of path) g then true else has_string old g.string)
-      more g = some g ∙ (λ i. if is_of (sym path_strings i) g then true else all g i)
+      pub gone-through : GoWith made new t put wide
+      gone-through = record { whole = whole_made; fits = made-fits }
 
-      pub made-fit : FitTogether (parts new t put wide grid)
-      made-fit = fit-parts new t put wide grid made whole_made made-fits
+      more : ((g : Half) → has t.rows g ≡ (if is_of (numbers_of added) g then true else has table.rows g))
+          → (g : Half) → has t.rows g ≡ (if is_of (strings_of path) g then true else has_string old g.string)
+      more some g = some g ∙ (λ i. if is_of (sym path_strings i) g then true else all g i)
 
-      pub made-map : map_of (parts new t put wide grid) ≡ made
-      made-map = fit-map new t put wide grid made whole_made made-fits
-
-      pub made-proper : IsProper (map_of (parts new t put wide grid)) t.rows (kept_at (parts new t put wide grid))
-      made-proper =
-          fit-proper new t put wide grid made whole_made made-fits
-          (λ g. more g ∙ either (is_of (strings_of path) g) (has_string old g.string) ∙ sym ((divides.more old d.face d.strings.now added d.parcel path is_it).all g))
-
-      -- what the check near it asks
-      pub near-tested : CanBeTested (map_of (parts new t put wide grid))
-      near-tested = subst CanBeTested (sym made-map) (tested old (divided_by d) tried)
-
-      pub near-held : (looked : Grid) → looked ≡ grid → HoldsMap v.grid made → HoldsMap looked (map_of (parts new t put wide grid))
-      near-held looked is holds =
-          subst (λ (s : Grid). HoldsMap s (map_of (parts new t put wide grid))) (sym is)
-          (subst (HoldsMap grid) (sym made-map) (subst (λ (q : Parts). HoldsMap q.grid made) (sym view) holds))
-
-      pub near-touched : (touched : TouchedOf) → IsTouched old made touched → ComesFromValid touched (map_of (parts new t put wide grid))
-      near-touched touched all_named = record {
-        before = old;
-        valid = tried.valid;
-        touched = subst (λ (m : Map). IsTouched old m touched) (sym made-map) all_named;
-      }
-
-      -- and what it tells
-      pub near-refused : (rule : Rule) → FirstBroken (map_of (parts new t put wide grid)) rule → MayRefuse old (divided_by d) (Breaks rule)
-      near-refused rule broken = refused (breaking tried.allowed (subst (λ (m : Map). FirstBroken m rule) made-map broken))
-
-      pub near-valid : KeepsAll (map_of (parts new t put wide grid)) → IsValid (map_of (parts new t put wide grid))
-      near-valid keeps = subst IsValid (sym made-map) (valid-from_kept made (tested old (divided_by d) tried) (subst KeepsAll made-map keeps))
+      pub made-rest : ((g : Half) → has t.rows g ≡ (if is_of (numbers_of added) g then true else has table.rows g))
+          → IsProper (map_of (parts new t put wide grid)) t.rows (kept_at (parts new t put wide grid))
+      made-rest some =
+          at-rest grid gone-through
+          (λ g. more some g ∙ either (is_of (strings_of path) g) (has_string old g.string) ∙ sym ((divides.more old d.face d.strings.now added d.parcel path is_it).all g))
 
       ends : AllByRecursion (HasHalves t.rows) added
       ends = (divides.added-ends old d.face d.strings.now added d.parcel path is_it t.rows made-fits.fits.ends).1
@@ -282,16 +266,16 @@ module _ (rows : MapRows) (table : Table) (held : Held Half) (stars : Held Spoke
             abbrev back_ticks : ℕ
             back_ticks = cycles_length t.rows moved + (length (cycle t.rows first) + (length others + 2) + (2 + 2 * length others))
 
-            pub back-work : (u w : Table) (q : List Half) → q ≡ path → u.work ≡ ticked back_ticks t.work → w.work ≡ ticked (length q) u.work → TakesWork v.table w (work_bound old made)
-            back-work u w q q_is again last =
+            pub back-work : (u w : Table) → u.work ≡ ticked back_ticks t.work → w.work ≡ ticked (length whole_path) u.work → TakesWork v.table w (work_bound old made)
+            back-work u w again last =
                 let most = divide-work in
                 let a = added-long in
                 let b = path-long in
                 let c = all-rings in
-                let k = ap length q_is in
-                draft-work rows table held stars grid v view w (made_ticks + back_ticks + length q) (work_bound old made) within (omega (arith, most, a, b, c, k))
-                (ticks-then table u w (made_ticks + back_ticks) (length q)
-                (ticks-then table t u made_ticks back_ticks made_count (ticks-just t u back_ticks again)) (ticks-just u w (length q) last))
+                let k = ap length parted in
+                draft-work rows table held stars grid v view w (made_ticks + back_ticks + length whole_path) (work_bound old made) within (omega (arith, most, a, b, c, k))
+                (ticks-then table u w (made_ticks + back_ticks) (length whole_path)
+                (ticks-then table t u made_ticks back_ticks made_count (ticks-just t u back_ticks again)) (ticks-just u w (length whole_path) last))
 
         -- ---- And taken back
 
@@ -311,74 +295,19 @@ module _ (rows : MapRows) (table : Table) (held : Held Half) (stars : Held Spoke
             outer_room = subst (λ (n : ℕ). HasRoomAt put (face_place d.face) (length (items_at put (face_place (Parcel n))) + 1)) number outer_room;
           }
 
-          module _ (back : MapRows) (u : Table) (kept : Held Half) (star : Held Spoke)
+          module _ {back : MapRows} (u : Table) {kept : Held Half} {star : Held Spoke}
               (undone : (c : CanUndivide d.face d.strings.now d.parcel path moved new t.rows put wide) → FitMap c.map back u.rows kept star)
               (has_same : (g : Half) → has u.rows g ≡ has t.rows g) where
-            undo-fits : FitMap old back u.rows kept star
-            undo-fits = undone undo
+            pub gone-back : GoWith old back u kept star
+            gone-back = record { whole = whole_old; fits = undone undo }
 
-            pub undo-fit : FitTogether (parts back u kept star grid)
-            undo-fit = fit-parts back u kept star grid old whole_old undo-fits
+            -- its strings are in the table, loose, and no look sees them
+            pub strings-beside : ((g : Half) → has t.rows g ≡ (if is_of (numbers_of added) g then true else has table.rows g))
+                → (g : Half) → has u.rows g ≡ (if is_of (strings_of whole_path) g then true else has_string old g.string)
+            strings-beside some g = has_same g ∙ more some g ∙ ap (λ (l : List Half). if is_of (strings_of l) g then true else has_string old g.string) (sym parted)
 
-            pub undo-map : map_of (parts back u kept star grid) ≡ old
-            undo-map = fit-map back u kept star grid old whole_old undo-fits
+  pub strings-new : (g : Half) → IsShown old g → is_of (strings_of whole_path) g ≡ false
+  strings-new = subst (λ (l : List Half). (g : Half) → IsShown old g → is_of (strings_of l) g ≡ false) (sym parted) (divides.more old d.face d.strings.now added d.parcel path is_it).new
 
-            pub undo-whole : HasWholeRings (map_of (parts back u kept star grid))
-            undo-whole = subst HasWholeRings (sym undo-map) whole_old
-
-            module _ (q : List Half) (q_is : q ≡ path) where
-              pub back-in : AreIn u.rows q
-              back-in =
-                  subst (AreIn u.rows) (sym q_is)
-                  (All-follows (λ h. has t.rows h ≡ true) (λ h. has u.rows h ≡ true) (λ h there. has_same h ∙ there) path (divides.within old d.face d.strings.now added d.parcel path is_it t.rows ends))
-
-              pub back-different : AreDifferent q
-              back-different = subst AreDifferent (sym q_is) (divides.different old d.face d.strings.now added d.parcel path is_it)
-
-              pub back-loose : AreLoose (next u.rows) path → AreLoose (next u.rows) q
-              back-loose loose = subst (AreLoose (next u.rows)) (sym q_is) loose
-
-              pub back-hidden : (g : Half) → IsShown (map_of (parts back u kept star grid)) g → is_of (strings_of q) g ≡ false
-              back-hidden g shown =
-                  subst (λ (l : List Half). is_of (strings_of l) g ≡ false) (sym q_is)
-                  ((divides.more old d.face d.strings.now added d.parcel path is_it).new g (subst (λ (m : Map). IsShown m g) undo-map shown))
-
-              pub back-proper : (p : Parts) → FitTogether p → map_of p ≡ map_of (parts back u kept star grid)
-                  → DropsStrings q u.rows p.table.rows → IsProper (map_of p) p.table.rows (kept_at p)
-              back-proper p p_fit same drops =
-                  settled p old p_fit (same ∙ undo-map) whole_old (λ g.
-                  (subst (λ (l : List Half). DropsStrings l u.rows p.table.rows) q_is drops).has g
-                  ∙ ap (λ (b : Bool). if is_of (strings_of path) g then false else b) (has_same g ∙ more g)
-                  ∙ come-and-gone (is_of (strings_of path) g) (has_string old g.string)
-                  ((divides.more old d.face d.strings.now added d.parcel path is_it).new g))
-
-    -- ---- Made, or left where memory ran out
-
-    module _ {A E : Type 0} where
-      pub done-fit : (r : Result A E) → ((c : CanBeginDivide d.face added row path start end moved rows table.rows held stars) → OnOk r (FitMap (divided c.is) new t.rows put wide)) → ((c : CanBeginDivide d.face added row path start end moved rows table.rows held stars) → OnErr r (FitMap c.map new t.rows put wide)) → OnErr r (t.rows ≡ table.rows) → OnOk r ((g : Half) → has t.rows g ≡ (if is_of (numbers_of added) g then true else has table.rows g))
-          → FitTogether (parts new t put wide grid)
-      done-fit (Ok x) ok err same some = made-fit ok some
-      done-fit (Err x) ok err same some = left-fit err same
-
-      pub done-map : (r : Result A E) → ((c : CanBeginDivide d.face added row path start end moved rows table.rows held stars) → OnOk r (FitMap (divided c.is) new t.rows put wide)) → ((c : CanBeginDivide d.face added row path start end moved rows table.rows held stars) → OnErr r (FitMap c.map new t.rows put wide)) → OnErr r (t.rows ≡ table.rows) → OnOk r ((g : Half) → has t.rows g ≡ (if is_of (numbers_of added) g then true else has table.rows g))
-          → OnOk r (map_of (parts new t put wide grid) ≡ made)
-      done-map (Ok x) ok err same some = made-map ok some
-      done-map (Err x) ok err same some = tt
-
-      pub done-left : (r : Result A E) → ((c : CanBeginDivide d.face added row path start end moved rows table.rows held stars) → OnOk r (FitMap (divided c.is) new t.rows put wide)) → ((c : CanBeginDivide d.face added row path start end moved rows table.rows held stars) → OnErr r (FitMap c.map new t.rows put wide)) → OnErr r (t.rows ≡ table.rows) → OnOk r ((g : Half) → has t.rows g ≡ (if is_of (numbers_of added) g then true else has table.rows g))
-          → OnErr r (map_of (parts new t put wide grid) ≡ old)
-      done-left (Ok x) ok err same some = tt
-      done-left (Err x) ok err same some = left-map err same
-
-      pub done-proper : (r : Result A E) → ((c : CanBeginDivide d.face added row path start end moved rows table.rows held stars) → OnOk r (FitMap (divided c.is) new t.rows put wide)) → ((c : CanBeginDivide d.face added row path start end moved rows table.rows held stars) → OnErr r (FitMap c.map new t.rows put wide)) → OnErr r (t.rows ≡ table.rows) → OnOk r ((g : Half) → has t.rows g ≡ (if is_of (numbers_of added) g then true else has table.rows g))
-          → IsProper (map_of (parts new t put wide grid)) t.rows (kept_at (parts new t put wide grid))
-      done-proper (Ok x) ok err same some = made-proper ok some
-      done-proper (Err x) ok err same some = left-proper err same
-
-      pub done-work : (r : Result A E) → ((c : CanBeginDivide d.face added row path start end moved rows table.rows held stars) → OnOk r (FitMap (divided c.is) new t.rows put wide)) → ((c : CanBeginDivide d.face added row path start end moved rows table.rows held stars) → OnErr r (FitMap c.map new t.rows put wide)) → OnErr r (t.rows ≡ table.rows) → OnOk r ((g : Half) → has t.rows g ≡ (if is_of (numbers_of added) g then true else has table.rows g))
-          → ((c : CanBeginDivide d.face added row path start end moved rows table.rows held stars) → OnOk r (AreOfRings (divided c.is) t.rows moved (Parcel row.number) (rings_beside c.is)))
-          → OnOk r ((h : Half) → has table.rows h ≡ true → origin_of t.rows h ≡ origin_of table.rows h) → table.work ≤ greatest
-          → OnOk r (t.work ≡ ticked (2 + 2 * length others + (length others + 2) + (length (cycle t.rows first) + cycles_length t.rows moved)) (ticked (length added) table.work))
-          → OnErr r ((count : ℕ) × (count ≤ length added) × (t.work ≡ ticked count (ticked count table.work))) → TakesWork v.table t (work_bound old made)
-      done-work (Ok x) ok err same some moved_now origins within work err_work = made-work ok some moved_now origins within work
-      done-work (Err x) ok err same some moved_now origins within work err_work = left-work within err_work
+  pub strings-differ : AreDifferent whole_path
+  strings-differ = subst AreDifferent (sym parted) (divides.different old d.face d.strings.now added d.parcel path is_it)

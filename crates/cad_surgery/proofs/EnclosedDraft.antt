@@ -1,13 +1,10 @@
 -- An enclosure on the parts of a map on half-edges, from growth to rest.
-use Rattle.std.proofs.Common.{◌≡◌, ◌≤◌, ◌<◌, ◌+◌, ◌*◌, ℕ, refl, sym, ap, subst, ◌∙◌, List, [], ◌∷◌, map, length, Bool, true, false, ◌||◌, if◌then◌else◌, None, is_some, true≢false, arith}
-use Rattle.std.specs.Prelude.{Result, Ok, Err, OnOk, OnErr}
+use Rattle.std.proofs.Common.{◌≡◌, ◌≤◌, ◌<◌, ◌+◌, ◌*◌, ℕ, sym, ap, subst, ◌∙◌, List, [], ◌∷◌, map, length, true, false, if◌then◌else◌, None, is_some, arith}
 use Rattle.std.specs.List.{AllByRecursion}
 use Rattle.std.proofs.lemmas.List.{length-map}
 use Rattle.cad_rows.specs.declared.edits.Edit.{Edit}
 use Rattle.cad_rows.specs.declared.edits.Edit.TheVariants.{Enclose}
 use Rattle.cad_rows.specs.declared.names.Face.TheVariants.{Parcel}
-use Rattle.cad_rows.specs.declared.refusals.Refusal.TheVariants.{Breaks}
-use Rattle.cad_rows.specs.declared.refusals.Rule.{Rule}
 use Rattle.cad_rows.specs.declared.rows.ParcelRow.{ParcelRow}
 use Rattle.cad_rows.specs.declared.rows.StringRow.{StringRow}
 use Rattle.cell_grid.specs.Grid.{Grid}
@@ -16,24 +13,21 @@ use Rattle.cad_map.specs.Costs.{work_bound}
 use Rattle.cad_map.specs.Division.{hole_placed}
 use Rattle.cad_map.specs.Effects.{after}
 use Rattle.cad_map.specs.Map.{Map, string_of, has_string}
-use Rattle.cad_map.specs.Outcome.{MayRefuse, refused, breaking}
 use Rattle.cad_map.specs.Rings.{HasWholeRings}
-use Rattle.cad_map.specs.Touched.{IsTouched, Touched as TouchedOf}
-use Rattle.cad_map.specs.Valid.{IsValid, CanBeTested, FirstBroken, KeepsAll}
-use Rattle.cad_map.proofs.CallerLemmas.{All-follows, allowed, can-enclose, valid-from_kept, whole_valid}
+use Rattle.cad_map.proofs.CallerLemmas.{allowed, can-enclose, whole_valid}
 use Rattle.half_table.specs.declared.half.Half.{Half}
 use Rattle.half_table.specs.Count.{greatest, ticked}
 use Rattle.half_table.specs.Half.{forward_of, twin}
-use Rattle.half_table.specs.Rows.{HalfRows, Table, has, has_halves, next, cycle}
+use Rattle.half_table.specs.Rows.{HalfRows, Table, has, has_halves, cycle}
 use Rattle.half_table.proofs.Strings.{has-string}
-use Rattle.half_paths.specs.Path.{AreIn, AreDifferent, strings_of}
-use Rattle.half_paths.specs.Loose.{is_of, numbers_of, AreNew, AreLoose, DropsStrings}
+use Rattle.half_paths.specs.Path.{AreDifferent, strings_of}
+use Rattle.half_paths.specs.Loose.{is_of, numbers_of, AreNew}
 use Rattle.key_lists.specs.Held.{Held, items_at, HasRoomAt}
 use Rattle.cad_laws.specs.Counts.{sides_of_face}
 use Rattle.cad_laws.specs.Local.{IsShown, side_by}
 use Rattle.cad_laws.specs.Tried.{IsTried}
 use Rattle.cad_laws.proofs.CallerLemmas.{whole-after}
-use Rattle.cad_valid.specs.Near.{HoldsMap, ComesFromValid}
+use Rattle.cad_surgery.specs.declared.draft.Draft.TheInside.{Inside}
 use Rattle.cad_surgery.specs.declared.edits.try_enclose.Enclosure.{Enclosure}
 use Rattle.map_parts.specs.declared.map_rows.MapRows.{MapRows}
 use Rattle.map_parts.specs.declared.stars.Spoke.{Spoke}
@@ -45,25 +39,15 @@ use Rattle.map_parts.specs.Placed.{AreOfHoles}
 use Rattle.cad_surgery.specs.Proper.{IsProper}
 use Rattle.map_parts.specs.Splitting.{FitMap}
 use Rattle.map_parts.specs.Enclosing.{IsEnclosing, enclosed, rings_placed, CanBeginEnclose, CanOpen}
-use Rattle.cad_surgery.specs.Enclosures.{enclosed_by, strings_by, parcel_by}
+use Rattle.cad_surgery.specs.Enclosures.{enclosed_by, strings_by, parcel_by, ComesRound}
 use Rattle.map_parts.proofs.AddedStrings.{strings-path}
-use Rattle.cad_surgery.proofs.DraftFits.{draft-fits, draft-all, draft-work, settled}
+use Rattle.cad_surgery.proofs.DraftFits.{draft-fits, draft-all, draft-work}
 use Rattle.cad_surgery.proofs.EnclosedWork.{inner-long, outer-long, moved-long}
 use Rattle.map_parts.proofs.IslandTable.{more-old}
 use Rattle.cad_surgery.proofs.WorkTaken.{work-allowed, ticks-just, ticks-then}
 use Rattle.map_parts.proofs.Enclosing as encloses
-use Rattle.cad_surgery.proofs.FitParts.{parts, fit-parts, fit-map, fit-proper}
-use Rattle.cad_surgery.proofs.Played.{tested}
-
--- what comes and goes again leaves what there was
-pub come-and-gone : (b has : Bool) → (has ≡ true → b ≡ false) → (if b then false else (if b then true else has)) ≡ has
-come-and-gone true true none = absurd (true≢false (none refl))
-come-and-gone true false none = refl
-come-and-gone false has none = refl
-
-pub either : (b has : Bool) → (if b then true else has) ≡ (b || has)
-either true has = refl
-either false has = refl
+use Rattle.cad_surgery.proofs.FitParts.{parts, parts-in, GoWith, at-rest}
+use Rattle.cad_surgery.proofs.LooseBeside.{either}
 
 -- an enclosure that is tried has three points or more
 pub enclosure-long : (m : Map) (e : Enclosure) → IsTried m (enclosed_by e) → 3 ≤ length e.points.now
@@ -78,23 +62,41 @@ enclosure-many m e tried =
     (allowed m (enclosed_by e) tried.allowed)).as_many
 
 -- a path along the strings of an enclosure has a first half
-pub path-some : (m : Map) (e : Enclosure) → IsTried m (enclosed_by e) → (path : List Half) → path ≡ map forward_of e.strings.now
-    → 0 < length path
-path-some m e tried path is =
-    let can =
-    can-enclose m e.face e.points.now e.strings.now e.parcel e.label.now e.source tried.given
-    (allowed m (enclosed_by e) tried.allowed) in
-    let long = can.long in
-    let as_many = can.as_many in
-    let same = ap length is ∙ length-map e.strings.now forward_of in
+pub path-some : (e : Enclosure) {m : Map} → IsTried m (enclosed_by e) → {path : List Half} → path ≡ map forward_of e.strings.now → 0 < length path
+path-some e {m} tried path_is =
+    let long = enclosure-long m e tried in
+    let as_many = enclosure-many m e tried in
+    let same = ap length path_is ∙ length-map e.strings.now forward_of in
     omega (arith, long, as_many, same)
 
-module _ (rows : MapRows) (table : Table) (held : Held Half) (stars : Held Spoke) (grid : Grid) (v : Parts)
-    (view : parts rows table held stars grid ≡ v) (fit : FitTogether (parts rows table held stars grid)) (e : Enclosure)
+module _ {T : Type 0} (inside : Inside T) {v : Parts} (view : parts-in inside ≡ v) (fit : FitTogether (parts-in inside))
+    {e : Enclosure} {added : List StringRow} {row : ParcelRow} {whole_path moved : List Half}
     (tried : IsTried (map_of v) (enclosed_by e)) (rest : IsProper (map_of v) v.table.rows (kept_at v))
-    (added : List StringRow) (added_is : added ≡ strings_by e) (row : ParcelRow) (row_is : row ≡ parcel_by e)
-    (first : Half) (others : List Half) (path_is : first ∷ others ≡ map forward_of e.strings.now)
-    (moved : List Half) (holes : AreOfHoles (map_of v) v.table.rows e.face e.points.now moved) where
+    (comes : ComesRound (map_of v) v.table.rows e added row whole_path moved) {first : Half} {others : List Half} (parted : whole_path ≡ first ∷ others) where
+  abbrev rows : MapRows
+  rows = inside.rows
+
+  abbrev table : Table
+  table = inside.table
+
+  abbrev held : Held Half
+  held = inside.kept
+
+  abbrev stars : Held Spoke
+  stars = inside.stars
+
+  abbrev grid : Grid
+  grid = inside.grid
+
+  abbrev added_is : added ≡ strings_by e
+  added_is = comes.strings_are
+
+  abbrev row_is : row ≡ parcel_by e
+  row_is = comes.parcel_is
+
+  pub path_is : first ∷ others ≡ map forward_of e.strings.now
+  path_is = sym parted ∙ comes.path_is
+
   abbrev old : Map
   old = map_of v
 
@@ -158,7 +160,7 @@ module _ (rows : MapRows) (table : Table) (held : Held Half) (stars : Held Spoke
     sources_are = ap (λ (r : ParcelRow). r.sources) row_is;
     fits = fits;
     new = new_strings;
-    holes = subst (λ (q : Parts). AreOfHoles old q.table.rows e.face e.points.now moved) (sym view) holes;
+    holes = subst (λ (q : Parts). AreOfHoles old q.table.rows e.face e.points.now moved) (sym view) comes.holes;
   }
 
   path_strings : strings_of path ≡ numbers_of added
@@ -176,75 +178,42 @@ module _ (rows : MapRows) (table : Table) (held : Held Half) (stars : Held Spoke
   enclose-work : 16 * (length e.strings.now + 2) + 4 * sides_of_face (Parcel e.parcel) made ≤ work_bound old made
   enclose-work = let w = work-allowed old (enclosed_by e) tried in omega (arith, w)
 
-  module _ (new : MapRows) (t : Table) (put : Held Half) (wide : Held Spoke) where
+  pub left-work : (t : Table) → table.work ≤ greatest → (count : ℕ) × (count ≤ 2 * length added) × (t.work ≡ ticked count table.work)
+      → TakesWork v.table t (work_bound old made)
+  left-work t within it =
+      let most = enclose-work in
+      let long = added-long in
+      let few = it.1 in
+      draft-work rows table held stars grid v view t (2 * length added) (work_bound old made) within (omega (arith, most, long))
+      (record { ticks = it.0; few = few; counted = it.2 })
+
+  module _ {new : MapRows} (t : Table) {put : Held Half} {wide : Held Spoke} where
     -- where memory ran out
-    module _ (each : (c : CanBeginEnclose e.face added row path moved rows table.rows held stars) → FitMap c.map new t.rows put wide)
-        (same : t.rows ≡ table.rows) where
-      left : FitMap old new t.rows put wide
-      left = each begins
+    module _ (each : (c : CanBeginEnclose e.face added row path moved rows table.rows held stars) → FitMap c.map new t.rows put wide) where
+      pub left : GoWith old new t put wide
+      left = record { whole = whole_old; fits = each begins }
 
-      pub left-fit : FitTogether (parts new t put wide grid)
-      left-fit = fit-parts new t put wide grid old whole_old left
-
-      pub left-map : map_of (parts new t put wide grid) ≡ old
-      left-map = fit-map new t put wide grid old whole_old left
-
-      pub left-proper : IsProper (map_of (parts new t put wide grid)) t.rows (kept_at (parts new t put wide grid))
-      left-proper = fit-proper new t put wide grid old whole_old left (λ g. ap (λ (l : HalfRows). has l g) same ∙ all g)
-
-    pub left-work : table.work ≤ greatest → (count : ℕ) × (count ≤ 2 * length added) × (t.work ≡ ticked count table.work)
-        → TakesWork v.table t (work_bound old made)
-    left-work within it =
-        let most = enclose-work in
-        let long = added-long in
-        let few = it.1 in
-        draft-work rows table held stars grid v view t (2 * length added) (work_bound old made) within (omega (arith, most, long))
-        (record { ticks = it.0; few = few; counted = it.2 })
+      pub left-rest : t.rows ≡ table.rows → IsProper (map_of (parts new t put wide grid)) t.rows (kept_at (parts new t put wide grid))
+      left-rest same = at-rest grid left (λ g. ap (λ (l : HalfRows). has l g) same ∙ all g)
 
     -- where it is made
-    module _ (each : (c : CanBeginEnclose e.face added row path moved rows table.rows held stars) → FitMap (enclosed c.is) new t.rows put wide)
-        (some : (g : Half) → has t.rows g ≡ (if is_of (numbers_of added) g then true else has table.rows g)) where
+    module _ (each : (c : CanBeginEnclose e.face added row path moved rows table.rows held stars) → FitMap (enclosed c.is) new t.rows put wide) where
       pub made-fits : FitMap made new t.rows put wide
       made-fits = subst (λ (n : ℕ). FitMap (after old (numbered n)) new t.rows put wide) number (each begins)
 
-      more : (g : Half) → has t.rows g ≡ (if is_of (strings_of path) g then true else has_string old g.string)
-      more g = some g ∙ (λ i. if is_of (sym path_strings i) g then true else all g i)
+      pub gone-through : GoWith made new t put wide
+      gone-through = record { whole = whole_made; fits = made-fits }
 
-      pub made-fit : FitTogether (parts new t put wide grid)
-      made-fit = fit-parts new t put wide grid made whole_made made-fits
+      more : ((g : Half) → has t.rows g ≡ (if is_of (numbers_of added) g then true else has table.rows g))
+          → (g : Half) → has t.rows g ≡ (if is_of (strings_of path) g then true else has_string old g.string)
+      more some g = some g ∙ (λ i. if is_of (sym path_strings i) g then true else all g i)
 
-      pub made-map : map_of (parts new t put wide grid) ≡ made
-      made-map = fit-map new t put wide grid made whole_made made-fits
-
-      pub made-proper : IsProper (map_of (parts new t put wide grid)) t.rows (kept_at (parts new t put wide grid))
-      made-proper =
-          fit-proper new t put wide grid made whole_made made-fits
-          (λ g. more g ∙ either (is_of (strings_of path) g) (has_string old g.string)
+      pub made-rest : ((g : Half) → has t.rows g ≡ (if is_of (numbers_of added) g then true else has table.rows g))
+          → IsProper (map_of (parts new t put wide grid)) t.rows (kept_at (parts new t put wide grid))
+      made-rest some =
+          at-rest grid gone-through
+          (λ g. more some g ∙ either (is_of (strings_of path) g) (has_string old g.string)
           ∙ sym ((encloses.more old e.face e.strings.now added e.parcel path is_it).all g))
-
-      -- what the check near it asks
-      pub near-tested : CanBeTested (map_of (parts new t put wide grid))
-      near-tested = subst CanBeTested (sym made-map) (tested old (enclosed_by e) tried)
-
-      pub near-held : (seen : Grid) → seen ≡ grid → HoldsMap v.grid made → HoldsMap seen (map_of (parts new t put wide grid))
-      near-held seen is holds =
-          subst (λ (s : Grid). HoldsMap s (map_of (parts new t put wide grid))) (sym is)
-          (subst (HoldsMap grid) (sym made-map) (subst (λ (q : Parts). HoldsMap q.grid made) (sym view) holds))
-
-      pub near-touched : (touched : TouchedOf) → IsTouched old made touched → ComesFromValid touched (map_of (parts new t put wide grid))
-      near-touched touched all_named = record {
-        before = old;
-        valid = tried.valid;
-        touched = subst (λ (m : Map). IsTouched old m touched) (sym made-map) all_named;
-      }
-
-      -- and what it tells
-      pub near-refused : (rule : Rule) → FirstBroken (map_of (parts new t put wide grid)) rule → MayRefuse old (enclosed_by e) (Breaks rule)
-      near-refused rule broken = refused (breaking tried.allowed (subst (λ (m : Map). FirstBroken m rule) made-map broken))
-
-      pub near-valid : KeepsAll (map_of (parts new t put wide grid)) → IsValid (map_of (parts new t put wide grid))
-      near-valid keeps =
-          subst IsValid (sym made-map) (valid-from_kept made (tested old (enclosed_by e) tried) (subst KeepsAll made-map keeps))
 
       -- the work until it is made
       module _ (sides : (c : CanBeginEnclose e.face added row path moved rows table.rows held stars) → (h : Half) → IsShown c.map h
@@ -286,9 +255,9 @@ module _ (rows : MapRows) (table : Table) (held : Held Half) (stars : Held Spoke
           abbrev back_ticks : ℕ
           back_ticks = cycles_length t.rows moved + (length (cycle t.rows (twin first)) + (length others + 1))
 
-          pub back-work : (u w : Table) (q : List Half) → q ≡ path → u.work ≡ ticked back_ticks t.work → w.work ≡ ticked (length q) u.work
+          pub back-work : (u w : Table) → u.work ≡ ticked back_ticks t.work → w.work ≡ ticked (length whole_path) u.work
               → TakesWork v.table w (work_bound old made)
-          back-work u w q q_is again last =
+          back-work u w again last =
               let most = enclose-work in
               let a = added-long in
               let b = path-long in
@@ -296,11 +265,11 @@ module _ (rows : MapRows) (table : Table) (held : Held Half) (stars : Held Spoke
               let d = outer-ring in
               let f = all-rings in
               let n = as_many in
-              let k = ap length q_is in
-              draft-work rows table held stars grid v view w (made_ticks + back_ticks + length q) (work_bound old made) within
+              let k = ap length parted in
+              draft-work rows table held stars grid v view w (made_ticks + back_ticks + length whole_path) (work_bound old made) within
               (omega (arith, most, a, b, c, d, f, n, k))
-              (ticks-then table u w (made_ticks + back_ticks) (length q)
-              (ticks-then table t u made_ticks back_ticks (ticks-just table t made_ticks work) (ticks-just t u back_ticks again)) (ticks-just u w (length q) last))
+              (ticks-then table u w (made_ticks + back_ticks) (length whole_path)
+              (ticks-then table t u made_ticks back_ticks (ticks-just table t made_ticks work) (ticks-just t u back_ticks again)) (ticks-just u w (length whole_path) last))
 
       -- ---- And taken back
 
@@ -321,104 +290,21 @@ module _ (rows : MapRows) (table : Table) (held : Held Half) (stars : Held Spoke
           outer_room = subst (λ (n : ℕ). HasRoomAt put (face_place e.face) (length (items_at put (face_place (Parcel n))))) number outer_room;
         }
 
-        module _ (back : MapRows) (u : Table) (kept : Held Half) (star : Held Spoke)
+        module _ {back : MapRows} (u : Table) {kept : Held Half} {star : Held Spoke}
             (undone : (c : CanOpen e.face e.strings.now e.parcel path moved new t.rows put wide) → FitMap c.map back u.rows kept star)
             (has_same : (g : Half) → has u.rows g ≡ has t.rows g) where
-          undo-fits : FitMap old back u.rows kept star
-          undo-fits = undone undo
+          pub gone-back : GoWith old back u kept star
+          gone-back = record { whole = whole_old; fits = undone undo }
 
-          pub undo-fit : FitTogether (parts back u kept star grid)
-          undo-fit = fit-parts back u kept star grid old whole_old undo-fits
+          -- its strings are in the table, loose, and no look sees them
+          pub strings-beside : ((g : Half) → has t.rows g ≡ (if is_of (numbers_of added) g then true else has table.rows g))
+              → (g : Half) → has u.rows g ≡ (if is_of (strings_of whole_path) g then true else has_string old g.string)
+          strings-beside some g = has_same g ∙ more some g ∙ ap (λ (l : List Half). if is_of (strings_of l) g then true else has_string old g.string) (sym parted)
 
-          pub undo-map : map_of (parts back u kept star grid) ≡ old
-          undo-map = fit-map back u kept star grid old whole_old undo-fits
+  pub strings-new : (g : Half) → IsShown old g → is_of (strings_of whole_path) g ≡ false
+  strings-new =
+      subst (λ (l : List Half). (g : Half) → IsShown old g → is_of (strings_of l) g ≡ false) (sym parted)
+      (encloses.more old e.face e.strings.now added e.parcel path is_it).new
 
-          pub undo-whole : HasWholeRings (map_of (parts back u kept star grid))
-          undo-whole = subst HasWholeRings (sym undo-map) whole_old
-
-          module _ (q : List Half) (q_is : q ≡ path) where
-            pub back-in : AreIn u.rows q
-            back-in =
-                subst (AreIn u.rows) (sym q_is)
-                (All-follows (λ h. has t.rows h ≡ true) (λ h. has u.rows h ≡ true) (λ h there. has_same h ∙ there) path
-                (encloses.within old e.face e.strings.now added e.parcel path is_it t.rows
-                (encloses.added-ends old e.face e.strings.now added e.parcel path is_it t.rows made-fits.fits.ends).1))
-
-            pub back-different : AreDifferent q
-            back-different = subst AreDifferent (sym q_is) (encloses.different old e.face e.strings.now added e.parcel path is_it)
-
-            pub back-loose : AreLoose (next u.rows) path → AreLoose (next u.rows) q
-            back-loose loose = subst (AreLoose (next u.rows)) (sym q_is) loose
-
-            pub back-hidden : (g : Half) → IsShown (map_of (parts back u kept star grid)) g → is_of (strings_of q) g ≡ false
-            back-hidden g shown =
-                subst (λ (l : List Half). is_of (strings_of l) g ≡ false) (sym q_is)
-                ((encloses.more old e.face e.strings.now added e.parcel path is_it).new g (subst (λ (m : Map). IsShown m g) undo-map shown))
-
-            pub back-proper : (d : Parts) → FitTogether d → map_of d ≡ map_of (parts back u kept star grid)
-                → DropsStrings q u.rows d.table.rows → IsProper (map_of d) d.table.rows (kept_at d)
-            back-proper d d_fit same drops =
-                settled d old d_fit (same ∙ undo-map) whole_old (λ g.
-                (subst (λ (l : List Half). DropsStrings l u.rows d.table.rows) q_is drops).has g
-                ∙ ap (λ (b : Bool). if is_of (strings_of path) g then false else b) (has_same g ∙ more g)
-                ∙ come-and-gone (is_of (strings_of path) g) (has_string old g.string)
-                ((encloses.more old e.face e.strings.now added e.parcel path is_it).new g))
-
-    -- ---- Made again, or left where memory ran out
-
-    module _ {A E : Type 0} where
-      module _ (r : Result A E) (fine : (c : CanBeginEnclose e.face added row path moved rows table.rows held stars) → OnOk r (FitMap (enclosed c.is) new t.rows put wide))
-          (bad : (c : CanBeginEnclose e.face added row path moved rows table.rows held stars) → OnErr r (FitMap c.map new t.rows put wide)) (same : OnErr r (t.rows ≡ table.rows))
-          (some : OnOk r ((g : Half) → has t.rows g ≡ (if is_of (numbers_of added) g then true else has table.rows g))) where
-        pub done-fit : FitTogether (parts new t put wide grid)
-        done-fit = by r fine bad same some
-          where
-            by : (r : Result A E) → ((c : CanBeginEnclose e.face added row path moved rows table.rows held stars) → OnOk r (FitMap (enclosed c.is) new t.rows put wide))
-                → ((c : CanBeginEnclose e.face added row path moved rows table.rows held stars) → OnErr r (FitMap c.map new t.rows put wide)) → OnErr r (t.rows ≡ table.rows)
-                → OnOk r ((g : Half) → has t.rows g ≡ (if is_of (numbers_of added) g then true else has table.rows g))
-                → FitTogether (parts new t put wide grid)
-            by (Ok x) fine bad same some = made-fit fine some
-            by (Err x) fine bad same some = left-fit bad same
-
-        pub done-map : OnOk r (map_of (parts new t put wide grid) ≡ made)
-        done-map = by r fine some
-          where
-            by : (r : Result A E) → ((c : CanBeginEnclose e.face added row path moved rows table.rows held stars) → OnOk r (FitMap (enclosed c.is) new t.rows put wide))
-                → OnOk r ((g : Half) → has t.rows g ≡ (if is_of (numbers_of added) g then true else has table.rows g))
-                → OnOk r (map_of (parts new t put wide grid) ≡ made)
-            by (Ok x) fine some = made-map fine some
-            by (Err x) fine some = tt
-
-        pub done-left : OnErr r (map_of (parts new t put wide grid) ≡ old)
-        done-left = by r bad same
-          where
-            by : (r : Result A E) → ((c : CanBeginEnclose e.face added row path moved rows table.rows held stars) → OnErr r (FitMap c.map new t.rows put wide)) → OnErr r (t.rows ≡ table.rows)
-                → OnErr r (map_of (parts new t put wide grid) ≡ old)
-            by (Ok x) bad same = tt
-            by (Err x) bad same = left-map bad same
-
-        pub done-proper : IsProper (map_of (parts new t put wide grid)) t.rows (kept_at (parts new t put wide grid))
-        done-proper = by r fine bad same some
-          where
-            by : (r : Result A E) → ((c : CanBeginEnclose e.face added row path moved rows table.rows held stars) → OnOk r (FitMap (enclosed c.is) new t.rows put wide))
-                → ((c : CanBeginEnclose e.face added row path moved rows table.rows held stars) → OnErr r (FitMap c.map new t.rows put wide)) → OnErr r (t.rows ≡ table.rows)
-                → OnOk r ((g : Half) → has t.rows g ≡ (if is_of (numbers_of added) g then true else has table.rows g))
-                → IsProper (map_of (parts new t put wide grid)) t.rows (kept_at (parts new t put wide grid))
-            by (Ok x) fine bad same some = made-proper fine some
-            by (Err x) fine bad same some = left-proper bad same
-
-        pub done-work : ((c : CanBeginEnclose e.face added row path moved rows table.rows held stars) → OnOk r ((h : Half) → IsShown c.map h → side_by t.rows h ≡ side_by table.rows h))
-            → table.work ≤ greatest
-            → OnOk r (t.work ≡ ticked (length added + (length others + 1 + (length (cycle t.rows first) + (length (cycle t.rows (twin first)) + cycles_length t.rows moved)))) table.work)
-            → OnErr r ((count : ℕ) × (count ≤ 2 * length added) × (t.work ≡ ticked count table.work))
-            → TakesWork v.table t (work_bound old made)
-        done-work sides within work few = by r fine some sides work few
-          where
-            by : (r : Result A E) → ((c : CanBeginEnclose e.face added row path moved rows table.rows held stars) → OnOk r (FitMap (enclosed c.is) new t.rows put wide))
-                → OnOk r ((g : Half) → has t.rows g ≡ (if is_of (numbers_of added) g then true else has table.rows g))
-                → ((c : CanBeginEnclose e.face added row path moved rows table.rows held stars) → OnOk r ((h : Half) → IsShown c.map h → side_by t.rows h ≡ side_by table.rows h))
-                → OnOk r (t.work ≡ ticked (length added + (length others + 1 + (length (cycle t.rows first) + (length (cycle t.rows (twin first)) + cycles_length t.rows moved)))) table.work)
-                → OnErr r ((count : ℕ) × (count ≤ 2 * length added) × (t.work ≡ ticked count table.work))
-                → TakesWork v.table t (work_bound old made)
-            by (Ok x) fine some sides work few = made-work fine some sides within work
-            by (Err x) fine some sides work few = left-work within few
+  pub strings-differ : AreDifferent whole_path
+  strings-differ = subst AreDifferent (sym parted) (encloses.different old e.face e.strings.now added e.parcel path is_it)

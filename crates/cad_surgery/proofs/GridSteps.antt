@@ -59,3 +59,7 @@ exchange-of m b r gone come made given is goes comes =
     let tried = tried-of r b made given in
     let beside : IsBeside m b (edit_of r) = record { tried = tried; is = is } in
     listed b (edit_of r) tried gone come (goes b beside made.holds) (comes b beside made.holds)
+
+-- a table that stands took none
+pub stood : {s t : Table} {most : ℕ} → t ≡ s → TakesWork s t most
+stood {s} {t} {most} is = subst (λ (u : Table). TakesWork s u most) (sym is) (record { rises = omega arith; few = omega arith })

@@ -15,13 +15,12 @@ use Rattle.cad_map.specs.declared.boundary.Boundary.{Boundary}
 use Rattle.cad_map.specs.Boundaries.{bounding}
 use Rattle.cad_map.specs.Chain.{start_of, next_of}
 use Rattle.cad_map.specs.Asked.{GivesInRange}
-use Rattle.cell_grid.specs.Grid.{Grid}
 use Rattle.cad_map.specs.Map.{Map, all_sides}
 use Rattle.cad_map.specs.Merger.{handed_over, is_shared}
 use Rattle.cad_map.specs.Rings.{HasWholeRings}
 use Rattle.cad_map.proofs.CallerLemmas.{All-at_each, All-from_each, Contains-first, Contains-map, filter-Contains, map-Contains, whole_valid}
 use Rattle.half_table.specs.declared.half.Half.{Half}
-use Rattle.half_table.specs.Rows.{HalfRows, Table, has}
+use Rattle.half_table.specs.Rows.{HalfRows, has}
 use Rattle.half_paths.specs.Path.{AreIn, strings_of}
 use Rattle.half_paths.specs.Loose.{numbers_of}
 use Rattle.cad_laws.specs.Counts.{shared_strings}
@@ -31,21 +30,20 @@ use Rattle.edit_records.specs.declared.record.ChainString.{ChainString}
 use Rattle.edit_records.specs.HeldChains.{IsOfRing, closed, rings_beside as rings_but, rows_along, side_along}
 use Rattle.edit_records.specs.declared.record.SmallRecord.{SmallRecord}
 use Rattle.edit_records.specs.Record.{edit_of, Holds, Belongs, HeldMergedIsland}
-use Rattle.key_lists.specs.Held.{Held}
+use Rattle.cad_surgery.specs.declared.draft.Draft.TheInside.{Inside}
+use Rattle.cad_surgery.specs.declared.edits.try_merge_island.MergedRound.{MergedRound}
 use Rattle.cad_surgery.specs.Mergers.{halves_of}
 use Rattle.cad_surgery.specs.IslandMergers.{HasSharedRing}
 use Rattle.map_parts.specs.Islands.{AreOfRings, IsIslandOf}
 use Rattle.map_parts.specs.Labels.{IsAlong, IsOnRing}
 use Rattle.map_parts.specs.MergingIsland.{IsMergingIsland, without_island, rings_apart}
-use Rattle.map_parts.specs.declared.map_rows.MapRows.{MapRows}
-use Rattle.map_parts.specs.declared.stars.Spoke.{Spoke}
 use Rattle.map_parts.specs.Parts.{Parts, FitTogether, HasHalves, map_of}
 use Rattle.map_parts.specs.Paths.{AreAlong}
 use Rattle.map_parts.proofs.MergedIsland.{merged-island}
 use Rattle.map_parts.proofs.MergedRows as rows_of
 use Rattle.map_parts.proofs.MergingIsland as merging
 use Rattle.cad_surgery.proofs.DraftFits.{draft-fits}
-use Rattle.cad_surgery.proofs.FitParts.{parts}
+use Rattle.cad_surgery.proofs.FitParts.{parts-in}
 use Rattle.cad_surgery.proofs.HeldMergers.{along-rows, numbers-along, record-tried, rows-both}
 use Rattle.cad_surgery.proofs.HeldPaths.{HasRowsBoth, left-there, off-past, off-rows, stays-along}
 use Rattle.cad_surgery.proofs.NamedRings.{named-among, named-on, named-once, named-rings}
@@ -180,13 +178,11 @@ module _ (m : Map) (kept : Face) (row : ParcelRow) (place : ℕ) (points : List 
 
 -- ---- By its record, on a draft
 
-module _ (rows : MapRows) (table : Table) (held : Held Half) (stars : Held Spoke) (grid : Grid) (v : Parts)
-    (view : parts rows table held stars grid ≡ v) (fit : FitTogether (parts rows table held stars grid)) (r : SmallRecord)
-    (kept : Face) (row : ParcelRow) (place : ℕ) (points : List ℕ) (strings : List ChainString) (moved : List Half)
-    (given : GivesInRange (edit_of r)) (same : edit_of r ≡ Merge kept (Parcel row.number))
-    (told : (b : Map) → Holds r b → HeldMergedIsland b kept row place points strings moved) (after_it : Map) (it : Belongs r (map_of v) after_it) where
-  pub again-ring : HasSharedRing (map_of v) v.table.rows kept row.number (halves_of strings) moved
+module _ {T : Type 0} (inside : Inside T) {v : Parts} (view : parts-in inside ≡ v) (fit : FitTogether (parts-in inside)) (r : SmallRecord) (t : MergedRound)
+    (given : GivesInRange (edit_of r)) (same : edit_of r ≡ Merge t.kept (Parcel t.row.now.number))
+    (told : (b : Map) → Holds r b → HeldMergedIsland b t.kept t.row.now t.place t.points.now t.strings.now t.moved.now) {after_it : Map} (it : Belongs r (map_of v) after_it) where
+  pub again-ring : HasSharedRing (map_of v) v.table.rows t.kept t.row.now.number (halves_of t.strings.now) t.moved.now
   again-ring =
-      subst (λ (q : Parts). HasSharedRing (map_of v) q.table.rows kept row.number (halves_of strings) moved) view
-      (shared-ring (map_of v) kept row place points strings moved (record-tried r (Merge kept (Parcel row.number)) given same (map_of v) after_it it) (told (map_of v) it.holds)
-      table.rows (draft-fits rows table held stars grid v view fit (whole_valid (map_of v) it.valid)).fits.ends)
+      subst (λ (q : Parts). HasSharedRing (map_of v) q.table.rows t.kept t.row.now.number (halves_of t.strings.now) t.moved.now) view
+      (shared-ring (map_of v) t.kept t.row.now t.place t.points.now t.strings.now t.moved.now (record-tried r (Merge t.kept (Parcel t.row.now.number)) given same (map_of v) after_it it) (told (map_of v) it.holds)
+      inside.table.rows (draft-fits inside.rows inside.table inside.kept inside.stars inside.grid v view fit (whole_valid (map_of v) it.valid)).fits.ends)

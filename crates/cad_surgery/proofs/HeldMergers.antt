@@ -14,12 +14,11 @@ use Rattle.cad_rings.specs.Surgery.{both_ways, sides_of_chain}
 use Rattle.cad_map.specs.Chain.{leaving}
 use Rattle.cad_map.specs.Asked.{GivesInRange}
 use Rattle.cad_map.specs.Refusals.{first_refusal}
-use Rattle.cell_grid.specs.Grid.{Grid}
 use Rattle.cad_map.specs.Map.{Map}
 use Rattle.cad_map.specs.Merger.{is_shared}
 use Rattle.cad_map.proofs.CallerLemmas.{All-at_each, map-Contains, Contains-cases, Contains-first, Contains-later, filter-Contains, whole_valid}
 use Rattle.half_table.specs.declared.half.Half.{Half}
-use Rattle.half_table.specs.Rows.{HalfRows, Table}
+use Rattle.half_table.specs.Rows.{HalfRows}
 use Rattle.half_paths.specs.Path.{AreIn, strings_of}
 use Rattle.half_paths.specs.Loose.{numbers_of}
 use Rattle.cad_laws.specs.Counts.{shared_strings}
@@ -29,18 +28,17 @@ use Rattle.edit_records.specs.declared.record.ChainString.{ChainString}
 use Rattle.edit_records.specs.HeldChains.{HeldChain, rows_along, row_between, side_along}
 use Rattle.edit_records.specs.declared.record.SmallRecord.{SmallRecord}
 use Rattle.edit_records.specs.Record.{edit_of, Holds, Belongs, HeldMergedAlong}
-use Rattle.key_lists.specs.Held.{Held}
+use Rattle.cad_surgery.specs.declared.draft.Draft.TheInside.{Inside}
+use Rattle.cad_surgery.specs.declared.edits.try_merge_along.Merged.{Merged}
 use Rattle.cad_surgery.specs.Mergers.{HasSharedPath, halves_of}
 use Rattle.map_parts.specs.Islands.{AreOfRings}
 use Rattle.map_parts.specs.Labels.{IsAlong}
 use Rattle.map_parts.specs.Merging.{IsMerging, merged, shared_chain, first_corner, last_corner, rings_past}
-use Rattle.map_parts.specs.declared.map_rows.MapRows.{MapRows}
-use Rattle.map_parts.specs.declared.stars.Spoke.{Spoke}
 use Rattle.map_parts.specs.Parts.{Parts, FitTogether, HasHalves, map_of}
 use Rattle.map_parts.specs.Paths.{AreAlong}
 use Rattle.map_parts.proofs.MergedChain.{merged-chain}
 use Rattle.cad_surgery.proofs.DraftFits.{draft-fits}
-use Rattle.cad_surgery.proofs.FitParts.{parts}
+use Rattle.cad_surgery.proofs.FitParts.{parts-in}
 use Rattle.cad_surgery.proofs.HeldPaths as paths
 use Rattle.cad_surgery.proofs.HeldPaths.{HasRowsBoth}
 use Rattle.cad_surgery.proofs.NamedRings.{row-side}
@@ -176,13 +174,11 @@ record-tried r e given same m n it = record {
   allowed = ap (first_refusal m) (sym same) ∙ it.leads.allowed;
 }
 
-module _ (rows : MapRows) (table : Table) (held : Held Half) (stars : Held Spoke) (grid : Grid) (v : Parts)
-    (view : parts rows table held stars grid ≡ v) (fit : FitTogether (parts rows table held stars grid)) (r : SmallRecord)
-    (kept : Face) (row : ParcelRow) (place : ℕ) (chain : List ℕ) (strings : List ChainString) (start end : Half) (moved : List Half)
-    (given : GivesInRange (edit_of r)) (same : edit_of r ≡ Merge kept (Parcel row.number))
-    (told : (b : Map) → Holds r b → HeldMergedAlong b kept row place chain strings start end moved) (after_it : Map) (it : Belongs r (map_of v) after_it) where
-  pub again-path : HasSharedPath (map_of v) v.table.rows kept row.number (halves_of strings) start end moved
+module _ {T : Type 0} (inside : Inside T) {v : Parts} (view : parts-in inside ≡ v) (fit : FitTogether (parts-in inside)) (r : SmallRecord) (t : Merged)
+    (given : GivesInRange (edit_of r)) (same : edit_of r ≡ Merge t.kept (Parcel t.row.now.number))
+    (told : (b : Map) → Holds r b → HeldMergedAlong b t.kept t.row.now t.place t.chain.now t.strings.now t.start t.end t.moved.now) {after_it : Map} (it : Belongs r (map_of v) after_it) where
+  pub again-path : HasSharedPath (map_of v) v.table.rows t.kept t.row.now.number (halves_of t.strings.now) t.start t.end t.moved.now
   again-path =
-      subst (λ (q : Parts). HasSharedPath (map_of v) q.table.rows kept row.number (halves_of strings) start end moved) view
-      (shared-path (map_of v) kept row place chain strings start end moved (record-tried r (Merge kept (Parcel row.number)) given same (map_of v) after_it it) (told (map_of v) it.holds)
-      table.rows (draft-fits rows table held stars grid v view fit (whole_valid (map_of v) it.valid)).fits.ends)
+      subst (λ (q : Parts). HasSharedPath (map_of v) q.table.rows t.kept t.row.now.number (halves_of t.strings.now) t.start t.end t.moved.now) view
+      (shared-path (map_of v) t.kept t.row.now t.place t.chain.now t.strings.now t.start t.end t.moved.now (record-tried r (Merge t.kept (Parcel t.row.now.number)) given same (map_of v) after_it it) (told (map_of v) it.holds)
+      inside.table.rows (draft-fits inside.rows inside.table inside.kept inside.stars inside.grid v view fit (whole_valid (map_of v) it.valid)).fits.ends)

@@ -1,14 +1,13 @@
 -- A join that is tried on a map on half-edges, kept or taken back.
-use Rattle.std.proofs.Common.{◌≡◌, ◌≤◌, ◌+◌, ◌==◌, ℕ, sym, ap, subst, ◌∙◌, [], ◌∷◌, length, not, true, false, Bool, Some, if◌then◌else◌, slice_get, arith}
+use Rattle.std.proofs.Common.{◌≡◌, ◌≤◌, ◌+◌, ◌==◌, ℕ, sym, ap, subst, ◌∙◌, [], ◌∷◌, length, not, true, false, Bool, if◌then◌else◌, arith}
 use Rattle.cad_rows.specs.declared.edits.Edit.TheVariants.{Join}
 use Rattle.cad_rows.specs.declared.rows.StringRow.{StringRow}
 use Rattle.cell_grid.specs.Grid.{Grid}
 use Rattle.cad_map.specs.Changes.{by_number}
 use Rattle.cad_map.specs.Costs.{work_bound}
 use Rattle.cad_map.specs.Effects.{after}
-use Rattle.cad_map.specs.Map.{Map, point_of, string_of, has_string, strings_at}
+use Rattle.cad_map.specs.Map.{Map, has_string, strings_at}
 use Rattle.cad_map.specs.Rings.{HasWholeRings}
-use Rattle.cad_map.specs.Table.{without_row}
 use Rattle.cad_map.proofs.CallerLemmas.{whole_valid}
 use Rattle.half_table.specs.declared.half.Half.{Half}
 use Rattle.half_table.specs.Count.{greatest, ticked}
@@ -16,17 +15,17 @@ use Rattle.half_table.specs.Half.{half_of, twin, forward_of, backward_of}
 use Rattle.half_table.specs.Rows.{Table, has, next, cycle}
 use Rattle.half_paths.specs.Path.{AreDifferent, strings_of}
 use Rattle.half_paths.specs.Loose.{is_of, AreLoose, DropsStrings}
-use Rattle.entry_list.specs.Slots.{HasSlot}
 use Rattle.key_lists.specs.Held.{Held, HasRoomAt}
 use Rattle.cad_laws.specs.Joining.{FarEndsAreApart}
 use Rattle.cad_laws.specs.Local.{IsShown}
 use Rattle.cad_laws.specs.Tried.{IsTried}
 use Rattle.map_parts.specs.declared.edits.join.JoinedRows.{JoinedRows}
+use Rattle.cad_surgery.specs.declared.draft.Draft.TheInside.{Inside}
 use Rattle.cad_surgery.specs.declared.edits.joining.Joining.{Joining}
 use Rattle.map_parts.specs.declared.map_rows.MapRows.{MapRows}
 use Rattle.map_parts.specs.declared.stars.Spoke.{Spoke}
-use Rattle.map_parts.specs.Joined.{CanBeginJoin, CanUnjoin}
-use Rattle.cad_surgery.specs.Joinings.{joining_of}
+use Rattle.map_parts.specs.Joined.{CanBeginJoin, CanBePutBack, CanUnjoin, HaveJoined}
+use Rattle.cad_surgery.specs.Joinings.{IsJoiningAt}
 use Rattle.map_parts.specs.Parts.{Parts, FitTogether, HasHalves, map_of, kept_at}
 use Rattle.map_parts.specs.Passing.{path_at}
 use Rattle.cad_surgery.specs.Proper.{IsProper}
@@ -35,25 +34,28 @@ use Rattle.map_parts.specs.Rows.{map_in}
 use Rattle.map_parts.specs.Splitting.{FitMap}
 use Rattle.cad_surgery.specs.Work.{TakesWork}
 use Rattle.cad_surgery.proofs.DraftFits.{draft-fits, draft-all, draft-work, settled}
-use Rattle.cad_surgery.proofs.FitParts.{parts, fit-parts, fit-map, fit-proper}
+use Rattle.cad_surgery.proofs.FitParts.{parts, parts-in, GoWith, at-rest, stand-for}
 use Rattle.cad_surgery.proofs.JoinDraft as draft
 use Rattle.cad_surgery.proofs.WorkTaken.{ticks-just, ticks-then}
 
--- the rows that go, as they stood
-pub record AreTaken (rows : MapRows) (p first second : ℕ) (joined : JoinedRows) : Type 0 where
-  pub point : slice_get (map_in rows).points joined.point_place ≡ Some joined.point
-  pub point_found : point_of (map_in rows) p ≡ Some joined.point
-  pub one : slice_get (map_in rows).strings joined.first_place ≡ Some joined.first
-  pub one_found : string_of (map_in rows) first ≡ Some joined.first
-  pub other : slice_get (without_row (λ r. r.number) first (map_in rows).strings) joined.second_place ≡ Some joined.second
-  pub other_found : string_of (map_in rows) second ≡ Some joined.second
+module _ {T : Type 0} (inside : Inside T) {v : Parts} (view : parts-in inside ≡ v) (fit : FitTogether (parts-in inside)) (p : ℕ) (k : Joining)
+    (tried : IsTried (map_of v) (Join p k.row.number)) (apart : FarEndsAreApart (map_of v) (Join p k.row.number))
+    (told : IsJoiningAt (map_of v) p k) (proper : IsProper (map_of v) v.table.rows (kept_at v)) where
+  abbrev rows : MapRows
+  rows = inside.rows
 
-module _ (rows : MapRows) (table : Table) (held : Held Half) (stars : Held Spoke) (grid : Grid) (v : Parts)
-    (view : parts rows table held stars grid ≡ v) (fit : FitTogether (parts rows table held stars grid))
-    (p : ℕ) (k : Joining) (tried : IsTried (map_of v) (Join p k.row.number))
-    (apart : FarEndsAreApart (map_of v) (Join p k.row.number))
-    (told : (s t : StringRow) → by_number (strings_at (map_of v) p) ≡ s ∷ t ∷ [] → k ≡ joining_of p k.row.number s t)
-    (proper : IsProper (map_of v) v.table.rows (kept_at v)) where
+  abbrev table : Table
+  table = inside.table
+
+  abbrev held : Held Half
+  held = inside.kept
+
+  abbrev stars : Held Spoke
+  stars = inside.stars
+
+  abbrev grid : Grid
+  grid = inside.grid
+
   abbrev m : Map
   m = map_of v
 
@@ -90,171 +92,140 @@ module _ (rows : MapRows) (table : Table) (held : Held Half) (stars : Held Spoke
   whole-now : HasWholeRings n
   whole-now = draft.join-whole_after m p new s t tried are apart
 
-  -- ---- Where memory ran out
+  module _ {rows1 : MapRows} (table1 : Table) {held1 : Held Half} {stars1 : Held Spoke} where
+    -- where memory ran out
+    module _ (err : (can : CanBeginJoin p k.first k.second k.row rows table.rows held stars) → FitMap can.map rows1 table1.rows held1 stars1) where
+      pub left : GoWith m rows1 table1 held1 stars1
+      left = record { whole = whole; fits = err begins }
 
-  module _ (rows1 : MapRows) (table1 : Table) (held1 : Held Half) (stars1 : Held Spoke)
-      (err : (can : CanBeginJoin p k.first k.second k.row rows table.rows held stars) → FitMap can.map rows1 table1.rows held1 stars1)
-      (same : table1 ≡ table) where
-    stays : FitMap m rows1 table1.rows held1 stars1
-    stays = err begins
+      pub left-rest : table1 ≡ table → IsProper (map_of (parts rows1 table1 held1 stars1 grid)) table1.rows (kept_at (parts rows1 table1 held1 stars1 grid))
+      left-rest same = at-rest grid left (λ g. ap (λ (w : Table). has w.rows g) same ∙ all g)
 
-    pub stay-fit : FitTogether (parts rows1 table1 held1 stars1 grid)
-    stay-fit = fit-parts rows1 table1 held1 stars1 grid m whole stays
+    -- where the strings are joined
+    module _ (ok : (can : CanBeginJoin p k.first k.second k.row rows table.rows held stars)
+        → FitMap (after can.map (Join p k.row.number)) rows1 table1.rows held1 stars1) where
+      pub gone-through : GoWith n rows1 table1 held1 stars1
+      gone-through = record { whole = whole-now; fits = ok begins }
 
-    pub stay-map : map_of (parts rows1 table1 held1 stars1 grid) ≡ m
-    stay-map = fit-map rows1 table1 held1 stars1 grid m whole stays
+      module _ (joined : JoinedRows) (taken : HaveJoined (map_in rows) p k.first k.second joined)
+          (more : (g : Half) → has table1.rows g ≡ (if is_of (k.row.number ∷ []) g then true else has table.rows g)) where
+        more-of : (g : Half) → has table1.rows g ≡ (if is_of (new ∷ []) g then true else has_string m g.string)
+        more-of g = more g ∙ ap (λ (b : Bool). if is_of (new ∷ []) g then true else b) (all g)
 
-    pub stay-proper : IsProper (map_of (parts rows1 table1 held1 stars1 grid)) table1.rows (kept_at (parts rows1 table1 held1 stars1 grid))
-    stay-proper =
-        fit-proper rows1 table1 held1 stars1 grid m whole stays (λ g. ap (λ (w : Table). has w.rows g) same ∙ all g)
+        have : HaveJoined m p k.first k.second joined
+        have =
+            subst (λ (q : Parts). HaveJoined (map_of q) p k.first k.second joined) view (record {
+              point_at = taken.point_at;
+              point_found = taken.point_found;
+              first_at = taken.first_at;
+              first_found = taken.first_found;
+              second_at = taken.second_at;
+              second_found = taken.second_found;
+            })
 
-    pub stay-work : (most : ℕ) → table.work ≤ greatest → TakesWork v.table table1 most
-    stay-work most within =
-        draft-work rows table held stars grid v view table1 0 most within (omega arith) (ticks-just table table1 0 (ap (λ (w : Table). w.work) same))
+        pub taken-held : (joined.point.number ≡ p)
+            × HeldJoined m joined.point joined.point_place joined.first joined.first_place joined.second joined.second_place
+        taken-held =
+            draft.joined-held m p k tried apart s t are (told s t are) joined have.point_at have.point_found have.first_at have.first_found have.second_at
+            have.second_found
 
-  -- ---- Where the strings are joined
+        are-now : by_number (strings_at m p) ≡ joined.first ∷ joined.second ∷ []
+        are-now = ap (λ (i : ℕ). by_number (strings_at m i)) (sym taken-held.0) ∙ taken-held.1.strings
 
-  module _ (rows1 : MapRows) (table1 : Table) (held1 : Held Half) (stars1 : Held Spoke)
-      (ok : (can : CanBeginJoin p k.first k.second k.row rows table.rows held stars)
-      → FitMap (after can.map (Join p k.row.number)) rows1 table1.rows held1 stars1) where
-    pub mid : FitMap n rows1 table1.rows held1 stars1
-    mid = ok begins
+        -- ---- The two strings go
 
-    pub mid-fit : FitTogether (parts rows1 table1 held1 stars1 grid)
-    mid-fit = fit-parts rows1 table1 held1 stars1 grid n whole-now mid
+        module _ (x y : Half) (x_is : x ≡ half_of joined.first.number (not (joined.first.from == p)))
+            (y_is : y ≡ half_of joined.second.number (joined.second.from == p)) where
+          pub two-different : AreDifferent (x ∷ y ∷ [])
+          two-different =
+              subst (λ (w : Half × Half). AreDifferent (w.0 ∷ w.1 ∷ [])) (λ i. (sym x_is i, sym y_is i))
+              (draft.join-different m p new joined.first joined.second tried are-now apart)
 
-    pub mid-map : map_of (parts rows1 table1 held1 stars1 grid) ≡ n
-    mid-map = fit-map rows1 table1 held1 stars1 grid n whole-now mid
+          pub two-hidden : (g : Half) → IsShown (map_of (parts rows1 table1 held1 stars1 grid)) g
+              → is_of (strings_of (x ∷ y ∷ [])) g ≡ false
+          two-hidden g shown =
+              subst (λ (w : Half × Half). is_of (strings_of (w.0 ∷ w.1 ∷ [])) g ≡ false) (λ i. (sym x_is i, sym y_is i))
+              (draft.join-hidden m p new joined.first joined.second tried are-now apart g
+              (subst (λ (q : Map). IsShown q g) (stand-for grid gone-through) shown))
 
-    pub mid-whole : HasWholeRings (map_of (parts rows1 table1 held1 stars1 grid))
-    mid-whole = subst HasWholeRings (sym mid-map) whole-now
+          module _ (d : Parts) (fit_now : FitTogether d) (same : map_of d ≡ map_of (parts rows1 table1 held1 stars1 grid))
+              (drops : DropsStrings (x ∷ y ∷ []) table1.rows d.table.rows) where
+            pub done-proper : IsProper (map_of d) d.table.rows (kept_at d)
+            done-proper =
+                settled d n fit_now (same ∙ stand-for grid gone-through) whole-now
+                (draft.join-alone m p new joined.first joined.second tried are-now apart table1.rows more-of d.table.rows
+                (subst (λ (w : Half × Half). DropsStrings (w.0 ∷ w.1 ∷ []) table1.rows d.table.rows) (λ i. (x_is i, y_is i)) drops))
 
-    module _ (joined : JoinedRows) (taken : AreTaken rows p k.first k.second joined)
-        (more : (g : Half) → has table1.rows g ≡ (if is_of (k.row.number ∷ []) g then true else has table.rows g)) where
-      more-of : (g : Half) → has table1.rows g ≡ (if is_of (new ∷ []) g then true else has_string m g.string)
-      more-of g = more g ∙ ap (λ (b : Bool). if is_of (new ∷ []) g then true else b) (all g)
-
-      pub taken-held : (joined.point.number ≡ p)
-          × HeldJoined m joined.point joined.point_place joined.first joined.first_place joined.second joined.second_place
-      taken-held =
-          draft.joined-held m p k tried apart s t are (told s t are) joined
-          (subst (λ (q : Parts). slice_get q.points joined.point_place ≡ Some joined.point) view taken.point)
-          (subst (λ (q : Parts). point_of (map_of q) p ≡ Some joined.point) view taken.point_found)
-          (subst (λ (q : Parts). slice_get q.strings joined.first_place ≡ Some joined.first) view taken.one)
-          (subst (λ (q : Parts). string_of (map_of q) k.first ≡ Some joined.first) view taken.one_found)
-          (subst (λ (q : Parts). slice_get (without_row (λ r. r.number) k.first q.strings) joined.second_place ≡ Some joined.second) view taken.other)
-          (subst (λ (q : Parts). string_of (map_of q) k.second ≡ Some joined.second) view taken.other_found)
-
-      are-now : by_number (strings_at m p) ≡ joined.first ∷ joined.second ∷ []
-      are-now = ap (λ (i : ℕ). by_number (strings_at m i)) (sym taken-held.0) ∙ taken-held.1.strings
-
-      -- ---- The two strings go
-
-      module _ (x y : Half) (x_is : x ≡ half_of joined.first.number (not (joined.first.from == p)))
-          (y_is : y ≡ half_of joined.second.number (joined.second.from == p)) where
-        pub two-different : AreDifferent (x ∷ y ∷ [])
-        two-different =
-            subst (λ (w : Half × Half). AreDifferent (w.0 ∷ w.1 ∷ [])) (λ i. (sym x_is i, sym y_is i))
-            (draft.join-different m p new joined.first joined.second tried are-now apart)
-
-        pub two-hidden : (g : Half) → IsShown (map_of (parts rows1 table1 held1 stars1 grid)) g
-            → is_of (strings_of (x ∷ y ∷ [])) g ≡ false
-        two-hidden g shown =
-            subst (λ (w : Half × Half). is_of (strings_of (w.0 ∷ w.1 ∷ [])) g ≡ false) (λ i. (sym x_is i, sym y_is i))
-            (draft.join-hidden m p new joined.first joined.second tried are-now apart g
-            (subst (λ (q : Map). IsShown q g) mid-map shown))
-
-        module _ (d : Parts) (fit_now : FitTogether d) (same : map_of d ≡ map_of (parts rows1 table1 held1 stars1 grid))
-            (drops : DropsStrings (x ∷ y ∷ []) table1.rows d.table.rows) where
-          pub done-proper : IsProper (map_of d) d.table.rows (kept_at d)
-          done-proper =
-              settled d n fit_now (same ∙ mid-map) whole-now
-              (draft.join-alone m p new joined.first joined.second tried are-now apart table1.rows more-of d.table.rows
-              (subst (λ (w : Half × Half). DropsStrings (w.0 ∷ w.1 ∷ []) table1.rows d.table.rows) (λ i. (x_is i, y_is i)) drops))
-
-          pub done-work : table.work ≤ greatest
-              → table1.work ≡ ticked (1 + (length (cycle table1.rows (forward_of new)) + length (cycle table1.rows (backward_of new)) + 5)) table.work
-              → d.table.work ≡ ticked (length (x ∷ y ∷ [])) table1.work
-              → TakesWork v.table d.table (work_bound m n)
-          done-work within one two =
-              let ring = length (cycle table1.rows (forward_of new)) + length (cycle table1.rows (backward_of new)) in
-              let few = draft.join-few m p new joined.first joined.second tried are-now apart table1.rows rows1 held1 stars1 mid in
-              let most = draft.join-work m p new joined.first joined.second tried are-now apart in
-              draft-work rows table held stars grid v view d.table ((1 + (ring + 5)) + 2) (work_bound m n) within
-              (omega (arith, few, most))
-              (ticks-then table table1 d.table (1 + (ring + 5)) 2 (ticks-just table table1 (1 + (ring + 5)) one) (ticks-just table1 d.table 2 two))
-
-      -- ---- Taken back
-
-      abbrev pub undoes : HasHalves table1.rows joined.first → HasHalves table1.rows joined.second
-          → AreLoose (next table1.rows) ((path_at p joined.first joined.second new).first
-          ∷ (path_at p joined.first joined.second new).second ∷ [])
-          → HasSlot rows1.points joined.point.number → HasSlot rows1.strings joined.first.number
-          → HasSlot rows1.strings joined.second.number → HasRoomAt stars1 p 2
-          → CanUnjoin joined new rows1 table1.rows held1 stars1
-      undoes first_there second_there loose point_slot first_slot second_slot room =
-          let at = sym taken-held.0 in
-          draft.undo-begins m new joined (subst (λ (q : ℕ). IsTried m (Join q new)) at tried)
-          (subst (λ (q : ℕ). FarEndsAreApart m (Join q new)) at apart) taken-held.1 rows1 table1.rows held1 stars1
-          (subst (λ (q : ℕ). FitMap (after m (Join q new)) rows1 table1.rows held1 stars1) at mid)
-          first_there second_there
-          (subst (λ (q : ℕ). AreLoose (next table1.rows) ((path_at q joined.first joined.second new).first
-          ∷ (path_at q joined.first joined.second new).second ∷ [])) at loose)
-          point_slot first_slot second_slot (subst (λ (q : ℕ). HasRoomAt stars1 q 2) at room)
-
-      module _ (rows2 : MapRows) (table2 : Table) (held2 : Held Half) (stars2 : Held Spoke)
-          (back : FitMap m rows2 table2.rows held2 stars2) where
-        pub undone-fit : FitTogether (parts rows2 table2 held2 stars2 grid)
-        undone-fit = fit-parts rows2 table2 held2 stars2 grid m whole back
-
-        pub undone-map : map_of (parts rows2 table2 held2 stars2 grid) ≡ m
-        undone-map = fit-map rows2 table2 held2 stars2 grid m whole back
-
-        pub undone-whole : HasWholeRings (map_of (parts rows2 table2 held2 stars2 grid))
-        undone-whole = subst HasWholeRings (sym undone-map) whole
-
-        module _ (kept : (g : Half) → has table2.rows g ≡ has table1.rows g) (z : Half) (z_is : z ≡ forward_of new) where
-          pub one-different : AreDifferent (z ∷ [])
-          one-different =
-              subst (λ (w : Half). AreDifferent (w ∷ [])) (sym z_is) (draft.undo-different m p new joined.first joined.second tried are-now apart)
-
-          pub one-hidden : (g : Half) → IsShown (map_of (parts rows2 table2 held2 stars2 grid)) g
-              → is_of (strings_of (z ∷ [])) g ≡ false
-          one-hidden g shown =
-              subst (λ (w : Half). is_of (strings_of (w ∷ [])) g ≡ false) (sym z_is)
-              (draft.undo-hidden m p new joined.first joined.second tried are-now apart g
-              (subst (λ (q : Map). IsShown q g) undone-map shown))
-
-          pub one-in : has table2.rows z ≡ true
-          one-in =
-              subst (λ (w : Half). has table2.rows w ≡ true) (sym z_is)
-              (kept (forward_of new) ∙ (draft.undo-in m p new joined.first joined.second tried are-now apart table1.rows more-of).0)
-
-          module _ (d : Parts) (fit_now : FitTogether d) (same : map_of d ≡ map_of (parts rows2 table2 held2 stars2 grid))
-              (drops : DropsStrings (z ∷ []) table2.rows d.table.rows) where
-            pub undone-proper : IsProper (map_of d) d.table.rows (kept_at d)
-            undone-proper =
-                settled d m fit_now (same ∙ undone-map) whole
-                (draft.undo-alone m p new joined.first joined.second tried are-now apart table2.rows (λ g. kept g ∙ more-of g) d.table.rows
-                (subst (λ (w : Half). DropsStrings (w ∷ []) table2.rows d.table.rows) z_is drops))
-
-            pub undone-work : table.work ≤ greatest
+            pub done-work : table.work ≤ greatest
                 → table1.work ≡ ticked (1 + (length (cycle table1.rows (forward_of new)) + length (cycle table1.rows (backward_of new)) + 5)) table.work
-                → table2.work ≡ ticked (length (cycle table2.rows (path_at joined.point.number joined.first joined.second new).first)
-                + length (cycle table2.rows (twin (path_at joined.point.number joined.first joined.second new).second)) + 5) table1.work
-                → d.table.work ≡ ticked (length (z ∷ [])) table2.work
+                → d.table.work ≡ ticked (length (x ∷ y ∷ [])) table1.work
                 → TakesWork v.table d.table (work_bound m n)
-            undone-work within one two three =
+            done-work within one two =
                 let ring = length (cycle table1.rows (forward_of new)) + length (cycle table1.rows (backward_of new)) in
-                let path = path_at p joined.first joined.second new in
-                let old = length (cycle table2.rows path.first) + length (cycle table2.rows (twin path.second)) in
-                let at = subst (λ (q : ℕ). table2.work ≡ ticked (length (cycle table2.rows (path_at q joined.first joined.second new).first)
-                + length (cycle table2.rows (twin (path_at q joined.first joined.second new).second)) + 5) table1.work) taken-held.0 two in
-                let few = draft.join-few m p new joined.first joined.second tried are-now apart table1.rows rows1 held1 stars1 mid in
-                let less = draft.unjoin-few m p new joined.first joined.second tried are-now apart table2.rows rows2 held2 stars2 back in
+                let few = draft.join-few m p new joined.first joined.second tried are-now apart table1.rows rows1 held1 stars1 gone-through.fits in
                 let most = draft.join-work m p new joined.first joined.second tried are-now apart in
-                draft-work rows table held stars grid v view d.table (((1 + (ring + 5)) + (old + 5)) + 1) (work_bound m n) within
-                (omega (arith, few, less, most))
-                (ticks-then table table2 d.table ((1 + (ring + 5)) + (old + 5)) 1
-                (ticks-then table table1 table2 (1 + (ring + 5)) (old + 5) (ticks-just table table1 (1 + (ring + 5)) one) (ticks-just table1 table2 (old + 5) at))
-                (ticks-just table2 d.table 1 three))
+                draft-work rows table held stars grid v view d.table ((1 + (ring + 5)) + 2) (work_bound m n) within
+                (omega (arith, few, most))
+                (ticks-then table table1 d.table (1 + (ring + 5)) 2 (ticks-just table table1 (1 + (ring + 5)) one) (ticks-just table1 d.table 2 two))
+
+        -- ---- Taken back
+
+        module _ (first_there : HasHalves table1.rows joined.first) (second_there : HasHalves table1.rows joined.second)
+            (loose : AreLoose (next table1.rows) ((path_at p joined.first joined.second new).first ∷ (path_at p joined.first joined.second new).second ∷ []))
+            (slots : CanBePutBack joined rows1) (room : HasRoomAt stars1 p 2) where
+          abbrev pub undoes : CanUnjoin joined new rows1 table1.rows held1 stars1
+          undoes =
+              let at = sym taken-held.0 in
+              draft.undo-begins m new joined (subst (λ (q : ℕ). IsTried m (Join q new)) at tried)
+              (subst (λ (q : ℕ). FarEndsAreApart m (Join q new)) at apart) taken-held.1 rows1 table1.rows held1 stars1
+              (subst (λ (q : ℕ). FitMap (after m (Join q new)) rows1 table1.rows held1 stars1) at gone-through.fits)
+              first_there second_there
+              (subst (λ (q : ℕ). AreLoose (next table1.rows) ((path_at q joined.first joined.second new).first
+              ∷ (path_at q joined.first joined.second new).second ∷ [])) at loose)
+              slots.point_slot slots.first_slot slots.second_slot (subst (λ (q : ℕ). HasRoomAt stars1 q 2) at room)
+
+          module _ {rows2 : MapRows} (table2 : Table) {held2 : Held Half} {stars2 : Held Spoke}
+              (each : (can : CanUnjoin joined new rows1 table1.rows held1 stars1) → FitMap can.map rows2 table2.rows held2 stars2) where
+            pub gone-back : GoWith m rows2 table2 held2 stars2
+            gone-back = record { whole = whole; fits = each undoes }
+
+            module _ (kept : (g : Half) → has table2.rows g ≡ has table1.rows g) (z : Half) (z_is : z ≡ forward_of new) where
+              pub one-different : AreDifferent (z ∷ [])
+              one-different =
+                  subst (λ (w : Half). AreDifferent (w ∷ [])) (sym z_is) (draft.undo-different m p new joined.first joined.second tried are-now apart)
+
+              pub one-hidden : (g : Half) → IsShown (map_of (parts rows2 table2 held2 stars2 grid)) g
+                  → is_of (strings_of (z ∷ [])) g ≡ false
+              one-hidden g shown =
+                  subst (λ (w : Half). is_of (strings_of (w ∷ [])) g ≡ false) (sym z_is)
+                  (draft.undo-hidden m p new joined.first joined.second tried are-now apart g
+                  (subst (λ (q : Map). IsShown q g) (stand-for grid gone-back) shown))
+
+              module _ (d : Parts) (fit_now : FitTogether d) (same : map_of d ≡ map_of (parts rows2 table2 held2 stars2 grid))
+                  (drops : DropsStrings (z ∷ []) table2.rows d.table.rows) where
+                pub undone-proper : IsProper (map_of d) d.table.rows (kept_at d)
+                undone-proper =
+                    settled d m fit_now (same ∙ stand-for grid gone-back) whole
+                    (draft.undo-alone m p new joined.first joined.second tried are-now apart table2.rows (λ g. kept g ∙ more-of g) d.table.rows
+                    (subst (λ (w : Half). DropsStrings (w ∷ []) table2.rows d.table.rows) z_is drops))
+
+                pub undone-work : table.work ≤ greatest
+                    → table1.work ≡ ticked (1 + (length (cycle table1.rows (forward_of new)) + length (cycle table1.rows (backward_of new)) + 5)) table.work
+                    → table2.work ≡ ticked (length (cycle table2.rows (path_at joined.point.number joined.first joined.second new).first)
+                    + length (cycle table2.rows (twin (path_at joined.point.number joined.first joined.second new).second)) + 5) table1.work
+                    → d.table.work ≡ ticked (length (z ∷ [])) table2.work
+                    → TakesWork v.table d.table (work_bound m n)
+                undone-work within one two three =
+                    let ring = length (cycle table1.rows (forward_of new)) + length (cycle table1.rows (backward_of new)) in
+                    let path = path_at p joined.first joined.second new in
+                    let old = length (cycle table2.rows path.first) + length (cycle table2.rows (twin path.second)) in
+                    let at = subst (λ (q : ℕ). table2.work ≡ ticked (length (cycle table2.rows (path_at q joined.first joined.second new).first)
+                    + length (cycle table2.rows (twin (path_at q joined.first joined.second new).second)) + 5) table1.work) taken-held.0 two in
+                    let few = draft.join-few m p new joined.first joined.second tried are-now apart table1.rows rows1 held1 stars1 gone-through.fits in
+                    let less = draft.unjoin-few m p new joined.first joined.second tried are-now apart table2.rows rows2 held2 stars2 gone-back.fits in
+                    let most = draft.join-work m p new joined.first joined.second tried are-now apart in
+                    draft-work rows table held stars grid v view d.table (((1 + (ring + 5)) + (old + 5)) + 1) (work_bound m n) within
+                    (omega (arith, few, less, most))
+                    (ticks-then table table2 d.table ((1 + (ring + 5)) + (old + 5)) 1
+                    (ticks-then table table1 table2 (1 + (ring + 5)) (old + 5) (ticks-just table table1 (1 + (ring + 5)) one) (ticks-just table1 table2 (old + 5) at))
+                    (ticks-just table2 d.table 1 three))

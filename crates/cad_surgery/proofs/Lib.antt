@@ -23,9 +23,11 @@ pub mod GridSteps
 pub mod WorkTaken
 pub mod DraftFits
 pub mod SplitDraft
+pub mod SplitBack
 pub mod FarEnds
 pub mod JoinDraft
 pub mod NearTried
+pub mod LooseBeside
 pub mod JoinTried
 pub mod JoinBack
 pub mod RingLengths

@@ -1,40 +1,43 @@
 -- A merger along a chain on the parts of a map on half-edges, from growth to rest.
-use Rattle.std.proofs.Common.{◌≡◌, ◌≤◌, ◌<◌, ◌+◌, ◌*◌, ℕ, refl, sym, ap, subst, ◌∙◌, List, [], ◌∷◌, map, filter, length, Bool, true, false, if◌then◌else◌, arith}
+use Rattle.std.proofs.Common.{◌≡◌, ◌≤◌, ◌<◌, ◌+◌, ◌*◌, ℕ, refl, sym, ap, subst, ◌∙◌, List, [], ◌∷◌, map, filter, length, true, false, if◌then◌else◌, arith}
 use Rattle.std.specs.Prelude.{IsPermutation}
 use Rattle.std.specs.List.{Contains}
 use Rattle.std.proofs.lemmas.List.{length-map}
 use Rattle.std.proofs.lemmas.List.Sorted.{length_permutation}
 use Rattle.cad_rows.specs.declared.names.Face.{Face}
 use Rattle.cad_rows.specs.declared.names.Face.TheVariants.{Parcel}
+use Rattle.cad_rows.specs.declared.rows.ParcelRow.{ParcelRow}
 use Rattle.cad_rows.specs.declared.rows.StringRow.{StringRow}
 use Rattle.cad_rings.specs.Cycle.{Side}
 use Rattle.cad_rings.specs.Surgery.{sides_of_chain}
 use Rattle.cell_grid.specs.Grid.{Grid}
 use Rattle.cad_map.specs.declared.boundary.Boundary.{Boundary}
 use Rattle.cad_map.specs.Boundaries.{bounding, is_face}
-use Rattle.cad_map.specs.Chain.{start_of, next_of}
+use Rattle.cad_map.specs.Chain.{start_of, next_of, leaving}
 use Rattle.cad_map.specs.Costs.{work_bound}
 use Rattle.cad_map.specs.Effects.{after}
 use Rattle.cad_map.specs.Map.{Map, has_string}
 use Rattle.cad_map.specs.Rings.{HasWholeRings}
-use Rattle.cad_map.proofs.CallerLemmas.{All-at_each, All-from_each}
 use Rattle.half_table.specs.declared.half.Half.{Half}
 use Rattle.half_table.specs.Count.{greatest, ticked}
-use Rattle.half_table.specs.Rows.{HalfRows, Table, has, next, origin_of, cycle}
-use Rattle.half_paths.specs.Path.{AreIn, AreDifferent, strings_of}
-use Rattle.half_paths.specs.Loose.{is_of, AreLoose, DropsStrings}
+use Rattle.half_table.specs.Rows.{HalfRows, Table, has, origin_of, cycle}
+use Rattle.half_paths.specs.Path.{AreDifferent, strings_of}
+use Rattle.half_paths.specs.Loose.{is_of}
 use Rattle.key_lists.specs.Held.{Held}
 use Rattle.cad_laws.specs.Counts.{sides_of_face, shared_strings}
 use Rattle.cad_laws.specs.Local.{IsLocal, IsShown, side_by}
+use Rattle.cad_surgery.specs.declared.draft.Draft.TheInside.{Inside}
 use Rattle.cad_surgery.specs.declared.edits.try_merge_along.Merger.{Merger}
 use Rattle.cad_surgery.specs.Mergers.{HasSharedPath, merged_by}
 use Rattle.cad_surgery.specs.Proper.{IsProper}
 use Rattle.cad_surgery.specs.Work.{TakesWork}
+use Rattle.map_parts.specs.declared.edits.placed_strings.PlacedString.{PlacedString}
 use Rattle.map_parts.specs.declared.map_rows.MapRows.{MapRows}
 use Rattle.map_parts.specs.declared.stars.Spoke.{Spoke}
 use Rattle.map_parts.specs.Handing.{home_of}
 use Rattle.map_parts.specs.Islands.{AreOfRings}
-use Rattle.map_parts.specs.Merging.{IsMerging, merged, shared_chain, first_corner, last_corner, rings_past, CanBeginMerge}
+use Rattle.map_parts.specs.Labels.{IsAlong}
+use Rattle.map_parts.specs.Merging.{IsMerging, merged, shared_chain, first_corner, last_corner, rings_past, CanBeginMerge, CanUnmerge}
 use Rattle.map_parts.specs.Parts.{Parts, FitTogether, map_of, kept_at}
 use Rattle.map_parts.specs.Paths.{AreAlong, HasStringsMore}
 use Rattle.map_parts.specs.Relabelled.{cycles_length}
@@ -45,16 +48,15 @@ use Rattle.map_parts.proofs.KeptEach.{map-cong}
 use Rattle.map_parts.proofs.MergedRows as rows_of
 use Rattle.map_parts.proofs.Merging as merging
 use Rattle.cad_surgery.proofs.DividedBack.{first_side}
-use Rattle.cad_surgery.proofs.DividedDraft.{either}
-use Rattle.cad_surgery.proofs.DraftFits.{draft-fits, draft-all, draft-work, settled}
-use Rattle.cad_surgery.proofs.FitParts.{parts, fit-parts, fit-map, fit-proper}
+use Rattle.cad_surgery.proofs.LooseBeside.{either}
+use Rattle.cad_surgery.proofs.DraftFits.{draft-fits, draft-all, draft-work}
+use Rattle.cad_surgery.proofs.FitParts.{parts, parts-in, GoWith, at-rest}
 use Rattle.cad_surgery.proofs.RingLengths.{face-lengths, home-stays}
-use Rattle.cad_surgery.proofs.SplitDraft.{come-and-gone}
 use Rattle.cad_surgery.proofs.WorkTaken.{work-allowed, ticks-just, ticks-then}
 
 -- the path has a first half
-pub path-some : (m : Map) (rows : HalfRows) (g : Merger) → HasSharedPath m rows g.kept g.ended g.path.now g.start g.end g.moved.now → 0 < length g.path.now
-path-some m rows g it = by g.path.now refl
+pub path-some : (g : Merger) {m : Map} {rows : HalfRows} → HasSharedPath m rows g.kept g.ended g.path.now g.start g.end g.moved.now → 0 < length g.path.now
+path-some g {m} {rows} it = by g.path.now refl
   where
     by : (path : List Half) → g.path.now ≡ path → 0 < length g.path.now
     by [] none =
@@ -80,10 +82,24 @@ path-rings m rows kept ended first others moved is local leads moved_are once =
     (merging.chain-open m kept ended path is).long first others (merging.more m kept ended path is) rows leads)
     moved moved_are once
 
-module _ (rows : MapRows) (table : Table) (held : Held Half) (stars : Held Spoke) (grid : Grid) (v : Parts)
-    (view : parts rows table held stars grid ≡ v) (fit : FitTogether (parts rows table held stars grid)) (g : Merger)
-    (rest : IsProper (map_of v) v.table.rows (kept_at v)) (first : Half) (others : List Half) (path_is : first ∷ others ≡ g.path.now)
-    (seen : HasSharedPath (map_of v) v.table.rows g.kept g.ended g.path.now g.start g.end g.moved.now) (strings_are : g.strings.now ≡ strings_of g.path.now) where
+module _ {T : Type 0} (inside : Inside T) {v : Parts} (view : parts-in inside ≡ v) (fit : FitTogether (parts-in inside)) (g : Merger)
+    (rest : IsProper (map_of v) v.table.rows (kept_at v)) (seen : HasSharedPath (map_of v) v.table.rows g.kept g.ended g.path.now g.start g.end g.moved.now)
+    (strings_are : g.strings.now ≡ strings_of g.path.now) {first : Half} {others : List Half} (parted : g.path.now ≡ first ∷ others) where
+  abbrev rows : MapRows
+  rows = inside.rows
+
+  abbrev table : Table
+  table = inside.table
+
+  abbrev held : Held Half
+  held = inside.kept
+
+  abbrev stars : Held Spoke
+  stars = inside.stars
+
+  abbrev grid : Grid
+  grid = inside.grid
+
   abbrev old : Map
   old = map_of v
 
@@ -94,7 +110,7 @@ module _ (rows : MapRows) (table : Table) (held : Held Half) (stars : Held Spoke
   path = first ∷ others
 
   pub ready : HasSharedPath old table.rows g.kept g.ended path g.start g.end g.moved.now
-  ready = subst (λ (q : HalfRows × List Half). HasSharedPath old q.0 g.kept g.ended q.1 g.start g.end g.moved.now) (λ i. ((sym view i).table.rows, sym path_is i)) seen
+  ready = subst (λ (q : HalfRows × List Half). HasSharedPath old q.0 g.kept g.ended q.1 g.start g.end g.moved.now) (λ i. ((sym view i).table.rows, parted i)) seen
 
   abbrev pub is_it : IsMerging old g.kept g.ended path
   is_it = ready.is
@@ -115,7 +131,7 @@ module _ (rows : MapRows) (table : Table) (held : Held Half) (stars : Held Spoke
   begins = record {
     map = old;
     is = is_it;
-    strings_are = strings_are ∙ ap strings_of (sym path_is);
+    strings_are = strings_are ∙ ap strings_of parted;
     fits = fits;
     leads = ready.leads;
     moved_are = ready.moved_are;
@@ -151,102 +167,67 @@ module _ (rows : MapRows) (table : Table) (held : Held Half) (stars : Held Spoke
         (along-same table.rows t origins path (sides_of_chain (shared_chain is_it)) ready.leads)
         (of-same table.rows t origins old g.moved.now (Parcel g.ended) (rings_past is_it) ready.moved_are) once_here
 
-  -- ---- Where memory ran out
+  -- its strings are in the table, loose, and no look sees them
+  pub strings-beside : (t : Table) → ((h : Half) → has t.rows h ≡ has table.rows h)
+      → (h : Half) → has t.rows h ≡ (if is_of (strings_of g.path.now) h then true else has_string made h.string)
+  strings-beside t has_same h =
+      has_same h ∙ all h ∙ more.all h ∙ sym (either (is_of (strings_of path) h) (has_string made h.string))
+      ∙ ap (λ (l : List Half). if is_of (strings_of l) h then true else has_string made h.string) (sym parted)
 
-  module _ (new : MapRows) (t : Table) (put : Held Half) (wide : Held Spoke)
-      (each : (c : CanBeginMerge g.kept g.ended g.strings.now path g.moved.now rows table.rows held stars) → FitMap c.map new t.rows put wide) (same : t ≡ table) where
-    left : FitMap old new t.rows put wide
-    left = each begins
+  module _ {new : MapRows} (t : Table) {put : Held Half} {wide : Held Spoke} where
+    -- where memory ran out
+    module _ (each : (c : CanBeginMerge g.kept g.ended g.strings.now path g.moved.now rows table.rows held stars) → FitMap c.map new t.rows put wide) where
+      pub left : GoWith old new t put wide
+      left = record { whole = whole_old; fits = each begins }
 
-    pub left-fit : FitTogether (parts new t put wide grid)
-    left-fit = fit-parts new t put wide grid old whole_old left
+      pub left-rest : t ≡ table → IsProper (map_of (parts new t put wide grid)) t.rows (kept_at (parts new t put wide grid))
+      left-rest same = at-rest grid left (λ h. ap (λ (w : Table). has w.rows h) same ∙ all h)
 
-    pub left-map : map_of (parts new t put wide grid) ≡ old
-    left-map = fit-map new t put wide grid old whole_old left
+    -- where it is made
+    module _ (each : (c : CanBeginMerge g.kept g.ended g.strings.now path g.moved.now rows table.rows held stars) → FitMap (merged c.is) new t.rows put wide) where
+      pub gone-through : GoWith made new t put wide
+      gone-through = record { whole = whole_made; fits = each begins }
 
-    pub left-proper : IsProper (map_of (parts new t put wide grid)) t.rows (kept_at (parts new t put wide grid))
-    left-proper = fit-proper new t put wide grid old whole_old left (λ h. ap (λ (w : Table). has w.rows h) same ∙ all h)
+    -- ---- And taken back
 
-    pub left-work : table.work ≤ greatest → TakesWork v.table t (work_bound old made)
-    left-work within =
-        draft-work rows table held stars grid v view t 0 (work_bound old made) within (omega arith) (ticks-just table t 0 (ap (λ (w : Table). w.work) same))
+    module _ {row : ParcelRow} {place : ℕ} {gone : List PlacedString}
+        (undo : (can : CanBeginMerge g.kept g.ended g.strings.now path g.moved.now rows table.rows held stars) → (start end : Half) → IsAlong (merged can.is) table.rows (leaving (first_corner can.is)) start
+        → IsAlong (merged can.is) table.rows (leaving (last_corner can.is)) end → (undo : CanUnmerge g.kept row place path start end g.moved.now gone new t.rows put wide) × (undo.map ≡ can.map)) where
+      pub undoing : (undo : CanUnmerge g.kept row place path g.start g.end g.moved.now gone new t.rows put wide) × (undo.map ≡ old)
+      undoing = undo begins g.start g.end ready.start_on ready.end_on
 
-  -- ---- Where it is made
+      module _ {back : MapRows} (u : Table) {kept : Held Half} {star : Held Spoke} (each : (c : CanUnmerge g.kept row place path g.start g.end g.moved.now gone new t.rows put wide) → FitMap c.map back u.rows kept star) where
+        pub gone-back : GoWith old back u kept star
+        gone-back = record { whole = whole_old; fits = subst (λ (m : Map). FitMap m back u.rows kept star) undoing.1 (each undoing.0) }
+
+        pub back-rest : ((h : Half) → has u.rows h ≡ has table.rows h) → IsProper (map_of (parts back u kept star grid)) u.rows (kept_at (parts back u kept star grid))
+        back-rest has_same = at-rest grid gone-back (λ h. has_same h ∙ all h)
+
+  pub strings-new : (h : Half) → IsShown made h → is_of (strings_of g.path.now) h ≡ false
+  strings-new = subst (λ (l : List Half). (h : Half) → IsShown made h → is_of (strings_of l) h ≡ false) (sym parted) more.new
+
+  pub strings-differ : AreDifferent g.path.now
+  strings-differ = subst AreDifferent (sym parted) (rows_of.different old g.kept g.ended path is_it.tried is_it.shared)
 
   abbrev own_ticks : ℕ
   own_ticks = cycles_length table.rows g.moved.now + (length (cycle table.rows first) + (length others + 2) + (2 + 2 * length others))
 
-  module _ (new : MapRows) (t : Table) (put : Held Half) (wide : Held Spoke)
-      (each : (c : CanBeginMerge g.kept g.ended g.strings.now path g.moved.now rows table.rows held stars) → FitMap (merged c.is) new t.rows put wide) where
-    pub mid : FitMap made new t.rows put wide
-    mid = each begins
+  pub done-work : table.work ≤ greatest → (t w : Table) → t.work ≡ ticked own_ticks table.work → w.work ≡ ticked (length g.path.now) t.work → TakesWork v.table w (work_bound old made)
+  done-work within t w work last =
+      let most = merge-work in
+      let rings = all-rings table.rows (λ h. refl) rows held stars fits in
+      let long = ap length parted in
+      draft-work rows table held stars grid v view w (own_ticks + length g.path.now) (work_bound old made) within (omega (arith, most, rings, long))
+      (ticks-then table t w own_ticks (length g.path.now) (ticks-just table t own_ticks work) (ticks-just t w (length g.path.now) last))
 
-    pub mid-fit : FitTogether (parts new t put wide grid)
-    mid-fit = fit-parts new t put wide grid made whole_made mid
-
-    pub mid-map : map_of (parts new t put wide grid) ≡ made
-    mid-map = fit-map new t put wide grid made whole_made mid
-
-    pub mid-whole : HasWholeRings (map_of (parts new t put wide grid))
-    mid-whole = subst HasWholeRings (sym mid-map) whole_made
-
-    module _ (has_same : (h : Half) → has t.rows h ≡ has table.rows h) where
-      -- its strings go
-      pub gone-in : AreIn t.rows g.path.now
-      gone-in =
-          subst (AreIn t.rows) path_is
-          (All-from_each (λ h. has t.rows h ≡ true) path (λ h among. has_same h ∙ All-at_each (λ h. has table.rows h ≡ true) path h (rows_of.within old g.kept g.ended path is_it.tried is_it.shared table.rows fits.fits.ends) among))
-
-      pub gone-different : AreDifferent g.path.now
-      gone-different = subst AreDifferent path_is (rows_of.different old g.kept g.ended path is_it.tried is_it.shared)
-
-      pub gone-loose : AreLoose (next t.rows) path → AreLoose (next t.rows) g.path.now
-      gone-loose loose = subst (AreLoose (next t.rows)) path_is loose
-
-      pub gone-hidden : (h : Half) → IsShown (map_of (parts new t put wide grid)) h → is_of (strings_of g.path.now) h ≡ false
-      gone-hidden h shown =
-          subst (λ (l : List Half). is_of (strings_of l) h ≡ false) path_is (more.new h (subst (λ (m : Map). IsShown m h) mid-map shown))
-
-      module _ (p : Parts) (p_fit : FitTogether p) (same : map_of p ≡ map_of (parts new t put wide grid)) (drops : DropsStrings g.path.now t.rows p.table.rows) where
-        pub done-map : map_of p ≡ made
-        done-map = same ∙ mid-map
-
-        pub done-proper : IsProper (map_of p) p.table.rows (kept_at p)
-        done-proper =
-            settled p made p_fit done-map whole_made (λ h.
-            (subst (λ (l : List Half). DropsStrings l t.rows p.table.rows) (sym path_is) drops).has h
-            ∙ ap (λ (b : Bool). if is_of (strings_of path) h then false else b) (has_same h ∙ all h ∙ more.all h ∙ sym (either (is_of (strings_of path) h) (has_string made h.string)))
-            ∙ come-and-gone (is_of (strings_of path) h) (has_string made h.string) (more.new h))
-
-    module _ (within : table.work ≤ greatest) (work : t.work ≡ ticked own_ticks table.work) where
-      pub done-work : (w : Table) → w.work ≡ ticked (length g.path.now) t.work → TakesWork v.table w (work_bound old made)
-      done-work w last =
-          let most = merge-work in
-          let rings = all-rings table.rows (λ h. refl) rows held stars fits in
-          let long = ap length path_is in
-          draft-work rows table held stars grid v view w (own_ticks + length g.path.now) (work_bound old made) within (omega (arith, most, rings, long))
-          (ticks-then table t w own_ticks (length g.path.now) (ticks-just table t own_ticks work) (ticks-just t w (length g.path.now) last))
-
-      -- ---- And taken back
-
-      pub undone-work : (back : MapRows) (u : Table) (kept : Held Half) (star : Held Spoke) → FitMap old back u.rows kept star
-          → ((h : Half) → origin_of u.rows h ≡ origin_of table.rows h)
-          → u.work ≡ ticked (2 + 2 * length others + (length others + 2) + (length (cycle u.rows first) + cycles_length u.rows g.moved.now)) t.work
-          → TakesWork v.table u (work_bound old made)
-      undone-work back u kept star goes origins again =
-          let most = merge-work in
-          let rings = all-rings table.rows (λ h. refl) rows held stars fits in
-          let rings_again = all-rings u.rows origins back kept star goes in
-          let ticks = 2 + 2 * length others + (length others + 2) + (length (cycle u.rows first) + cycles_length u.rows g.moved.now) in
-          draft-work rows table held stars grid v view u (own_ticks + ticks) (work_bound old made) within (omega (arith, most, rings, rings_again))
-          (ticks-then table t u own_ticks ticks (ticks-just table t own_ticks work) (ticks-just t u ticks again))
-
-  module _ (back : MapRows) (u : Table) (kept : Held Half) (star : Held Spoke) (undone : FitMap old back u.rows kept star) where
-    pub undone-fit : FitTogether (parts back u kept star grid)
-    undone-fit = fit-parts back u kept star grid old whole_old undone
-
-    pub undone-map : map_of (parts back u kept star grid) ≡ old
-    undone-map = fit-map back u kept star grid old whole_old undone
-
-    pub undone-proper : ((h : Half) → has u.rows h ≡ has table.rows h) → IsProper (map_of (parts back u kept star grid)) u.rows (kept_at (parts back u kept star grid))
-    undone-proper has_same = fit-proper back u kept star grid old whole_old undone (λ h. has_same h ∙ all h)
+  pub undone-work : table.work ≤ greatest → (t : Table) → t.work ≡ ticked own_ticks table.work → {back : MapRows} (u : Table) {kept : Held Half} {star : Held Spoke} → FitMap old back u.rows kept star
+      → ((h : Half) → origin_of u.rows h ≡ origin_of table.rows h)
+      → u.work ≡ ticked (2 + 2 * length others + (length others + 2) + (length (cycle u.rows first) + cycles_length u.rows g.moved.now)) t.work
+      → TakesWork v.table u (work_bound old made)
+  undone-work within t work {back} u {kept} {star} goes origins again =
+      let most = merge-work in
+      let rings = all-rings table.rows (λ h. refl) rows held stars fits in
+      let rings_again = all-rings u.rows origins back kept star goes in
+      let ticks = 2 + 2 * length others + (length others + 2) + (length (cycle u.rows first) + cycles_length u.rows g.moved.now) in
+      draft-work rows table held stars grid v view u (own_ticks + ticks) (work_bound old made) within (omega (arith, most, rings, rings_again))
+      (ticks-then table t u own_ticks ticks (ticks-just table t own_ticks work) (ticks-just t u ticks again))

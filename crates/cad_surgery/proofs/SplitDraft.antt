@@ -4,20 +4,14 @@ use Rattle.std.specs.Prelude.{IsSome}
 use Rattle.std.proofs.lemmas.Bool.{false_from_ne_true}
 use Rattle.std.proofs.lemmas.Cmp.{nat_eq_equiv}
 use Rattle.cad_rows.specs.declared.edits.Edit.TheVariants.{Split}
-use Rattle.cad_rows.specs.declared.refusals.Refusal.TheVariants.{Breaks}
 use Rattle.cad_rows.specs.declared.rows.StringRow.{StringRow}
-use Rattle.cad_rows.specs.declared.refusals.Rule.{Rule}
 use Rattle.cell_grid.specs.Grid.{Grid}
-use Rattle.cad_map.specs.Asked.{GivesInRange}
 use Rattle.cad_map.specs.Costs.{work_bound}
 use Rattle.cad_map.specs.Effects.{after}
 use Rattle.cad_map.specs.Map.{Map, string_of, has_string}
 use Rattle.cad_rows.specs.declared.names.Name.TheVariants as name
-use Rattle.cad_map.specs.Outcome.{MayRefuse, refused, breaking}
 use Rattle.cad_map.specs.Rings.{HasWholeRings}
-use Rattle.cad_map.specs.Touched.{IsTouched, Touched as TouchedOf}
-use Rattle.cad_map.specs.Valid.{IsValid, CanBeTested, FirstBroken, KeepsAll}
-use Rattle.cad_map.proofs.CallerLemmas.{allowed, there-one, found-number, valid-from_kept, whole_valid}
+use Rattle.cad_map.proofs.CallerLemmas.{allowed, there-one, found-number, whole_valid}
 use Rattle.half_table.specs.declared.half.Half.{Half}
 use Rattle.half_table.specs.Count.{greatest, ticked}
 use Rattle.half_table.specs.Half.{forward_of, backward_of}
@@ -31,33 +25,26 @@ use Rattle.cad_laws.specs.Counts.{sides_through}
 use Rattle.cad_laws.specs.Local.{IsShown}
 use Rattle.cad_laws.specs.Tried.{IsTried}
 use Rattle.cad_laws.proofs.CallerLemmas.{whole-after}
-use Rattle.cad_valid.specs.Near.{HoldsMap, ComesFromValid}
 use Rattle.map_parts.specs.declared.map_rows.MapRows.{MapRows}
 use Rattle.map_parts.specs.declared.stars.Spoke.{Spoke}
+use Rattle.cad_surgery.specs.declared.draft.Draft.TheInside.{Inside}
 use Rattle.cad_surgery.specs.declared.edits.try_split.Halving.{Halving}
 use Rattle.cad_surgery.specs.declared.edits.try_split.SplitRows.{SplitRows}
 use Rattle.map_parts.specs.Rows.{map_in}
 use Rattle.map_parts.specs.Parts.{Parts, FitTogether, HasHalves, map_of, kept_at}
 use Rattle.map_parts.specs.Passing.{HasBetween, path_of}
 use Rattle.cad_surgery.specs.Proper.{IsProper}
-use Rattle.edit_records.specs.Record.{IsMadeOf}
-use Rattle.map_parts.specs.Splitting.{FitMap, CanUnsplit, CanBeginSplit, CanBeginUnsplit}
-use Rattle.cad_surgery.specs.Halvings.{split_by, split_record, split_rows}
+use Rattle.map_parts.specs.Splitting.{FitMap, CanUnsplit, CanBeginSplit}
+use Rattle.cad_surgery.specs.Halvings.{split_by, split_rows}
 use Rattle.cad_surgery.specs.Work.{TakesWork, TicksUpTo}
 use Rattle.edit_records.proofs.EditExchanges.{some-from}
 use Rattle.cad_surgery.proofs.DraftFits.{draft-fits, draft-all, draft-work, settled}
-use Rattle.cad_surgery.proofs.FitParts.{parts, fit-parts, fit-map, fit-proper}
+use Rattle.cad_surgery.proofs.FitParts.{parts, parts-in, GoWith, at-rest, stand-for}
+use Rattle.cad_surgery.proofs.LooseBeside.{come-and-gone}
 use Rattle.map_parts.proofs.Passing.BothMaps as both
 use Rattle.map_parts.proofs.Passing.Lengths.{path-length, whole-length}
 use Rattle.map_parts.proofs.Passing.SplitBetween.{split-has_between, split-free}
-use Rattle.cad_surgery.proofs.Played.{tested}
 use Rattle.cad_surgery.proofs.WorkTaken.{work-allowed, ticks-just, ticks-then}
-
--- what comes and goes again leaves what there was
-pub come-and-gone : (b has : Bool) → (has ≡ true → b ≡ false) → (if b then false else (if b then true else has)) ≡ has
-come-and-gone true true none = absurd (true≢false (none refl))
-come-and-gone true false none = refl
-come-and-gone false has none = refl
 
 module _ (m : Map) (table : HalfRows) (all : (g : Half) → has table g ≡ has_string m g.string) where
   -- a table with a map's strings alone has none that the map hasn't
@@ -264,9 +251,23 @@ module _ (m : Map) (h : Halving) (string : ℕ) (tried : IsTried m (split_by str
 
 -- ---- A split that is made
 
-module _ (rows : MapRows) (table : Table) (held : Held Half) (stars : Held Spoke) (grid : Grid) (v : Parts)
-    (view : parts rows table held stars grid ≡ v) (fit : FitTogether (parts rows table held stars grid)) (h : Halving)
-    (string : ℕ) (tried : IsTried (map_of v) (split_by string h)) (rest : IsProper (map_of v) v.table.rows (kept_at v)) where
+module _ {T : Type 0} (inside : Inside T) {v : Parts} (view : parts-in inside ≡ v) (fit : FitTogether (parts-in inside)) (h : Halving) (string : ℕ)
+    (tried : IsTried (map_of v) (split_by string h)) (rest : IsProper (map_of v) v.table.rows (kept_at v)) where
+  abbrev rows : MapRows
+  rows = inside.rows
+
+  abbrev table : Table
+  table = inside.table
+
+  abbrev held : Held Half
+  held = inside.kept
+
+  abbrev stars : Held Spoke
+  stars = inside.stars
+
+  abbrev grid : Grid
+  grid = inside.grid
+
   abbrev old : Map
   old = map_of v
 
@@ -293,281 +294,133 @@ module _ (rows : MapRows) (table : Table) (held : Held Half) (stars : Held Spoke
     pub begins : CanBeginSplit string k.point k.first k.second rows table.rows held stars
     begins = split-begins old h string tried rows table.rows held stars fits all k are
 
-    module _ (new : MapRows) (t : Table) (put : Held Half) (wide : Held Spoke) where
+    pub left-work : (t : Table) → table.work ≤ greatest → (count : ℕ) × (count ≤ 2) × (t.work ≡ ticked count table.work)
+        → TakesWork v.table t (work_bound old made)
+    left-work t within it =
+        let most = split-work old h string tried in
+        draft-work rows table held stars grid v view t 2 (work_bound old made) within (omega (arith, most))
+        (record { ticks = it.0; few = it.1; counted = it.2 })
+
+    module _ {new : MapRows} (t : Table) {put : Held Half} {wide : Held Spoke} where
       -- where memory ran out
-      module _ (each : (c : CanBeginSplit string k.point k.first k.second rows table.rows held stars) → FitMap c.map new t.rows put wide)
-          (same : t.rows ≡ table.rows) where
-        left : FitMap old new t.rows put wide
-        left = split-unbegun old h string tried rows table.rows held stars fits all k are new t.rows put wide each
+      module _ (each : (c : CanBeginSplit string k.point k.first k.second rows table.rows held stars) → FitMap c.map new t.rows put wide) where
+        pub left : GoWith old new t put wide
+        left = record {
+          whole = whole_valid old tried.valid;
+          fits = split-unbegun old h string tried rows table.rows held stars fits all k are new t.rows put wide each;
+        }
 
-        pub left-fit : FitTogether (parts new t put wide grid)
-        left-fit = fit-parts new t put wide grid old (whole_valid old tried.valid) left
-
-        pub left-map : map_of (parts new t put wide grid) ≡ old
-        left-map = fit-map new t put wide grid old (whole_valid old tried.valid) left
-
-        pub left-proper : IsProper (map_of (parts new t put wide grid)) t.rows (kept_at (parts new t put wide grid))
-        left-proper =
-            fit-proper new t put wide grid old (whole_valid old tried.valid) left
-            (λ g. ap (λ (l : HalfRows). has l g) same ∙ all g)
-
-      pub left-work : table.work ≤ greatest → (count : ℕ) × (count ≤ 2) × (t.work ≡ ticked count table.work)
-          → TakesWork v.table t (work_bound old made)
-      left-work within it =
-          let most = split-work old h string tried in
-          draft-work rows table held stars grid v view t 2 (work_bound old made) within (omega (arith, most))
-          (record { ticks = it.0; few = it.1; counted = it.2 })
+        pub left-rest : t.rows ≡ table.rows → IsProper (map_of (parts new t put wide grid)) t.rows (kept_at (parts new t put wide grid))
+        left-rest same = at-rest grid left (λ g. ap (λ (l : HalfRows). has l g) same ∙ all g)
 
       -- where it is made
       module _ (each : (c : CanBeginSplit string k.point k.first k.second rows table.rows held stars)
-          → FitMap (after c.map (Split string k.point.number k.point.position.x k.point.position.y k.first.number k.second.number)) new t.rows put wide)
-          (some : (g : Half) → has t.rows g ≡ (if is_of (k.first.number ∷ k.second.number ∷ []) g then true else has table.rows g)) where
-        made-fits : FitMap made new t.rows put wide
-        made-fits = split-begun old h string tried rows table.rows held stars fits all k are new t.rows put wide each
-
-        more : (g : Half) → has t.rows g ≡ (if is_of (h.first ∷ h.second ∷ []) g then true else has_string old g.string)
-        more = split-has old h string tried rows table.rows held stars fits all k are t.rows some
-
-        pub made-fit : FitTogether (parts new t put wide grid)
-        made-fit = fit-parts new t put wide grid made (split-whole_after old h string tried) made-fits
-
-        pub made-map : map_of (parts new t put wide grid) ≡ made
-        made-map = fit-map new t put wide grid made (split-whole_after old h string tried) made-fits
-
-        pub made-whole : HasWholeRings (map_of (parts new t put wide grid))
-        made-whole = subst HasWholeRings (sym made-map) (split-whole_after old h string tried)
-
-        -- what the check near it asks
-        pub near-tested : CanBeTested (map_of (parts new t put wide grid))
-        near-tested = subst CanBeTested (sym made-map) (tested old (split_by string h) tried)
-
-        pub near-held : (seen : Grid) → seen ≡ grid → HoldsMap v.grid made → HoldsMap seen (map_of (parts new t put wide grid))
-        near-held seen is holds =
-            subst (λ (s : Grid). HoldsMap s (map_of (parts new t put wide grid))) (sym is)
-            (subst (HoldsMap grid) (sym made-map) (subst (λ (q : Parts). HoldsMap q.grid made) (sym view) holds))
-
-        pub near-touched : (touched : TouchedOf) → IsTouched old made touched → ComesFromValid touched (map_of (parts new t put wide grid))
-        near-touched touched all_named = record {
-          before = old;
-          valid = tried.valid;
-          touched = subst (λ (m : Map). IsTouched old m touched) (sym made-map) all_named;
+          → FitMap (after c.map (Split string k.point.number k.point.position.x k.point.position.y k.first.number k.second.number)) new t.rows put wide) where
+        pub gone-through : GoWith made new t put wide
+        gone-through = record {
+          whole = split-whole_after old h string tried;
+          fits = split-begun old h string tried rows table.rows held stars fits all k are new t.rows put wide each;
         }
 
-        -- and what it tells
-        pub near-refused : (rule : Rule) → FirstBroken (map_of (parts new t put wide grid)) rule → MayRefuse old (split_by string h) (Breaks rule)
-        near-refused rule broken = refused (breaking tried.allowed (subst (λ (m : Map). FirstBroken m rule) made-map broken))
+        module _ (some : (g : Half) → has t.rows g ≡ (if is_of (k.first.number ∷ k.second.number ∷ []) g then true else has table.rows g)) where
+          more : (g : Half) → has t.rows g ≡ (if is_of (h.first ∷ h.second ∷ []) g then true else has_string old g.string)
+          more = split-has old h string tried rows table.rows held stars fits all k are t.rows some
 
-        pub near-valid : KeepsAll (map_of (parts new t put wide grid)) → (d : Parts) → map_of d ≡ map_of (parts new t put wide grid) → IsValid (map_of d)
-        near-valid keeps d same =
-            subst IsValid (sym (same ∙ made-map))
-            (valid-from_kept made (tested old (split_by string h) tried) (subst KeepsAll made-map keeps))
+          module _ (q : Half) (q_is : q ≡ forward_of string) where
+            pub gone-different : AreDifferent (q ∷ [])
+            gone-different = subst (λ (q : Half). AreDifferent (q ∷ [])) (sym q_is) (split-one old h string tried t.rows more)
 
-        module _ (q : Half) (q_is : q ≡ forward_of string) where
-          pub gone-different : AreDifferent (q ∷ [])
-          gone-different = subst (λ (q : Half). AreDifferent (q ∷ [])) (sym q_is) (split-one old h string tried t.rows more)
+            pub gone-hidden : (g : Half) → IsShown (map_of (parts new t put wide grid)) g → is_of (strings_of (q ∷ [])) g ≡ false
+            gone-hidden g shown =
+                subst (λ (q : Half). is_of (strings_of (q ∷ [])) g ≡ false) (sym q_is)
+                (split-hidden old h string tried t.rows more g (subst (λ (m : Map). IsShown m g) (stand-for grid gone-through) shown))
 
-          pub gone-hidden : (g : Half) → IsShown (map_of (parts new t put wide grid)) g → is_of (strings_of (q ∷ [])) g ≡ false
-          gone-hidden g shown =
-              subst (λ (q : Half). is_of (strings_of (q ∷ [])) g ≡ false) (sym q_is)
-              (split-hidden old h string tried t.rows more g (subst (λ (m : Map). IsShown m g) made-map shown))
+            pub gone-proper : (d : Parts) → FitTogether d → map_of d ≡ map_of (parts new t put wide grid)
+                → DropsStrings (q ∷ []) t.rows d.table.rows → IsProper (map_of d) d.table.rows (kept_at d)
+            gone-proper d d_fit same drops =
+                settled d made d_fit (same ∙ (stand-for grid gone-through)) (split-whole_after old h string tried)
+                (split-alone old h string tried t.rows more d.table.rows (subst (λ (q : Half). DropsStrings (q ∷ []) t.rows d.table.rows) q_is drops))
 
-          pub gone-proper : (d : Parts) → FitTogether d → map_of d ≡ map_of (parts new t put wide grid)
-              → DropsStrings (q ∷ []) t.rows d.table.rows → IsProper (map_of d) d.table.rows (kept_at d)
-          gone-proper d d_fit same drops =
-              settled d made d_fit (same ∙ made-map) (split-whole_after old h string tried)
-              (split-alone old h string tried t.rows more d.table.rows (subst (λ (q : Half). DropsStrings (q ∷ []) t.rows d.table.rows) q_is drops))
+          module _ (within : table.work ≤ greatest)
+              (work : t.work ≡ ticked (2 + (length (cycle t.rows (forward_of k.first.number)) + length (cycle t.rows (backward_of k.second.number)) + 5)) table.work) where
+            -- the ticks until it is made
+            abbrev path : ℕ
+            path = 2 + (length (cycle t.rows (forward_of h.first)) + length (cycle t.rows (backward_of h.second)) + 5)
 
-        module _ (within : table.work ≤ greatest)
-            (work : t.work ≡ ticked (2 + (length (cycle t.rows (forward_of k.first.number)) + length (cycle t.rows (backward_of k.second.number)) + 5)) table.work) where
-          -- the ticks until it is made
-          abbrev path : ℕ
-          path = 2 + (length (cycle t.rows (forward_of h.first)) + length (cycle t.rows (backward_of h.second)) + 5)
+            made-ticks : TicksUpTo path table t
+            made-ticks = ticks-just table t path (split-ticks old h string tried rows table.rows held stars fits all k are t.rows t.work table.work work)
 
-          made-ticks : TicksUpTo path table t
-          made-ticks = ticks-just table t path (split-ticks old h string tried rows table.rows held stars fits all k are t.rows t.work table.work work)
+            pub gone-work : (u : Table) → u.work ≡ ticked 1 t.work → TakesWork v.table u (work_bound old made)
+            gone-work u one =
+                let most = split-work old h string tried in
+                let few = path-few old h string tried t.rows new put wide gone-through.fits in
+                draft-work rows table held stars grid v view u (path + 1) (work_bound old made) within (omega (arith, most, few))
+                (ticks-then table t u path 1 made-ticks (ticks-just t u 1 one))
 
-          pub gone-work : (u : Table) → u.work ≡ ticked 1 t.work → TakesWork v.table u (work_bound old made)
-          gone-work u one =
-              let most = split-work old h string tried in
-              let few = path-few old h string tried t.rows new put wide made-fits in
-              draft-work rows table held stars grid v view u (path + 1) (work_bound old made) within (omega (arith, most, few))
-              (ticks-then table t u path 1 made-ticks (ticks-just t u 1 one))
+          -- ---- And taken back
 
-        -- ---- And taken back
+          module _ {r : StringRow} (place : ℕ) (found_in : string_of (map_in rows) string ≡ Some r)
+              (at_in : slice_get (map_in rows).strings place ≡ Some r) (whole_there : HasHalves t.rows r)
+              (loose : AreLoose (next t.rows) (forward_of string ∷ [])) (slot : HasSlot new.strings r.number) where
+            found : string_of old string ≡ Some r
+            found = subst (λ (q : Parts). string_of (map_of q) string ≡ Some r) view found_in
 
-        module _ (r : StringRow) (place : ℕ) (found_in : string_of (map_in rows) string ≡ Some r)
-            (at_in : slice_get (map_in rows).strings place ≡ Some r) (whole_there : HasHalves t.rows r)
-            (loose : AreLoose (next t.rows) (forward_of string ∷ [])) (slot : HasSlot new.strings r.number) where
-          found : string_of old string ≡ Some r
-          found = subst (λ (q : Parts). string_of (map_of q) string ≡ Some r) view found_in
+            at : slice_get old.strings place ≡ Some r
+            at = subst (λ (q : Parts). slice_get q.strings place ≡ Some r) view at_in
 
-          at : slice_get old.strings place ≡ Some r
-          at = subst (λ (q : Parts). slice_get q.strings place ≡ Some r) view at_in
+            undo : (c : CanUnsplit r place h.point h.first h.second new t.rows put wide) × (c.map ≡ old)
+            undo = split-back old h string tried r place new t.rows put wide found at gone-through.fits whole_there loose slot
 
-          undo : (c : CanUnsplit r place h.point h.first h.second new t.rows put wide) × (c.map ≡ old)
-          undo = split-back old h string tried r place new t.rows put wide found at made-fits whole_there loose slot
+            pub undo-begins : CanUnsplit r place h.point h.first h.second new t.rows put wide
+            undo-begins = undo.0
 
-          pub undo-begins : CanUnsplit r place h.point h.first h.second new t.rows put wide
-          undo-begins = undo.0
+            module _ {back : MapRows} (u : Table) {kept : Held Half} {star : Held Spoke}
+                (undone : (c : CanUnsplit r place h.point h.first h.second new t.rows put wide) → FitMap c.map back u.rows kept star)
+                (has_same : (g : Half) → has u.rows g ≡ has t.rows g) where
+              pub gone-back : GoWith old back u kept star
+              gone-back = record {
+                whole = whole_valid old tried.valid;
+                fits = subst (λ (m : Map). FitMap m back u.rows kept star) undo.1 (undone undo.0);
+              }
 
-          module _ (back : MapRows) (u : Table) (kept : Held Half) (star : Held Spoke)
-              (undone : (c : CanUnsplit r place h.point h.first h.second new t.rows put wide) → FitMap c.map back u.rows kept star)
-              (has_same : (g : Half) → has u.rows g ≡ has t.rows g) where
-            undo-fits : FitMap old back u.rows kept star
-            undo-fits = subst (λ (m : Map). FitMap m back u.rows kept star) undo.1 (undone undo.0)
+              module _ (x y : Half) (are_two : (x ≡ forward_of h.first) × (y ≡ forward_of h.second)) where
+                two : (P : List Half → Type 0) → P (forward_of h.first ∷ forward_of h.second ∷ []) → P (x ∷ y ∷ [])
+                two P p = subst P (λ i. sym are_two.0 i ∷ sym are_two.1 i ∷ []) p
 
-            pub undo-fit : FitTogether (parts back u kept star grid)
-            undo-fit = fit-parts back u kept star grid old (whole_valid old tried.valid) undo-fits
+                pub back-two_in : AreIn u.rows (x ∷ y ∷ [])
+                back-two_in = two (λ l. AreIn u.rows l) (halves-in old h string tried t.rows more u.rows has_same)
 
-            pub undo-map : map_of (parts back u kept star grid) ≡ old
-            undo-map = fit-map back u kept star grid old (whole_valid old tried.valid) undo-fits
+                pub back-two_differ : AreDifferent (x ∷ y ∷ [])
+                back-two_differ = two (λ l. AreDifferent l) (back-different old h string tried)
 
-            pub undo-whole : HasWholeRings (map_of (parts back u kept star grid))
-            undo-whole = subst HasWholeRings (sym undo-map) (whole_valid old tried.valid)
+                pub back-two_hidden : (g : Half) → IsShown (map_of (parts back u kept star grid)) g → is_of (strings_of (x ∷ y ∷ [])) g ≡ false
+                back-two_hidden g shown =
+                    two (λ l. is_of (strings_of l) g ≡ false)
+                    (back-hidden old h string tried g (subst (λ (m : Map). IsShown m g) (stand-for grid gone-back) shown))
 
-            module _ (x y : Half) (are_two : (x ≡ forward_of h.first) × (y ≡ forward_of h.second)) where
-              two : (P : List Half → Type 0) → P (forward_of h.first ∷ forward_of h.second ∷ []) → P (x ∷ y ∷ [])
-              two P p = subst P (λ i. sym are_two.0 i ∷ sym are_two.1 i ∷ []) p
+                pub back-proper : (d : Parts) → FitTogether d → map_of d ≡ map_of (parts back u kept star grid)
+                    → DropsStrings (x ∷ y ∷ []) u.rows d.table.rows → IsProper (map_of d) d.table.rows (kept_at d)
+                back-proper d d_fit same drops =
+                    settled d old d_fit (same ∙ (stand-for grid gone-back)) (whole_valid old tried.valid)
+                    (back-alone old h string tried t.rows more u.rows d.table.rows has_same
+                    (subst (λ (l : List Half). DropsStrings l u.rows d.table.rows) (λ i. are_two.0 i ∷ are_two.1 i ∷ []) drops))
 
-              pub back-two_in : AreIn u.rows (x ∷ y ∷ [])
-              back-two_in = two (λ l. AreIn u.rows l) (halves-in old h string tried t.rows more u.rows has_same)
+              module _ (within : table.work ≤ greatest)
+                  (work : t.work ≡ ticked (2 + (length (cycle t.rows (forward_of k.first.number)) + length (cycle t.rows (backward_of k.second.number)) + 5)) table.work)
+                  (again : u.work ≡ ticked (length (cycle u.rows (forward_of r.number)) + length (cycle u.rows (backward_of r.number)) + 5) t.work) where
+                abbrev ring : ℕ
+                ring = length (cycle u.rows (forward_of string)) + length (cycle u.rows (backward_of string)) + 5
 
-              pub back-two_differ : AreDifferent (x ∷ y ∷ [])
-              back-two_differ = two (λ l. AreDifferent l) (back-different old h string tried)
+                number : r.number ≡ string
+                number = found-number (λ (s : StringRow). s.number) string old.strings r found
 
-              pub back-two_hidden : (g : Half) → IsShown (map_of (parts back u kept star grid)) g → is_of (strings_of (x ∷ y ∷ [])) g ≡ false
-              back-two_hidden g shown =
-                  two (λ l. is_of (strings_of l) g ≡ false)
-                  (back-hidden old h string tried g (subst (λ (m : Map). IsShown m g) undo-map shown))
-
-              pub back-proper : (d : Parts) → FitTogether d → map_of d ≡ map_of (parts back u kept star grid)
-                  → DropsStrings (x ∷ y ∷ []) u.rows d.table.rows → IsProper (map_of d) d.table.rows (kept_at d)
-              back-proper d d_fit same drops =
-                  settled d old d_fit (same ∙ undo-map) (whole_valid old tried.valid)
-                  (back-alone old h string tried t.rows more u.rows d.table.rows has_same
-                  (subst (λ (l : List Half). DropsStrings l u.rows d.table.rows) (λ i. are_two.0 i ∷ are_two.1 i ∷ []) drops))
-
-            module _ (within : table.work ≤ greatest)
-                (work : t.work ≡ ticked (2 + (length (cycle t.rows (forward_of k.first.number)) + length (cycle t.rows (backward_of k.second.number)) + 5)) table.work)
-                (again : u.work ≡ ticked (length (cycle u.rows (forward_of r.number)) + length (cycle u.rows (backward_of r.number)) + 5) t.work) where
-              abbrev ring : ℕ
-              ring = length (cycle u.rows (forward_of string)) + length (cycle u.rows (backward_of string)) + 5
-
-              number : r.number ≡ string
-              number = found-number (λ (s : StringRow). s.number) string old.strings r found
-
-              pub back-work : (w : Table) → w.work ≡ ticked 2 u.work → TakesWork v.table w (work_bound old made)
-              back-work w one =
-                  let most = split-work old h string tried in
-                  let few = path-few old h string tried t.rows new put wide made-fits in
-                  let low = whole-few old h string tried u.rows back kept star undo-fits in
-                  let is : u.work ≡ ticked ring t.work =
-                  again ∙ ap (λ (s : ℕ). ticked (length (cycle u.rows (forward_of s)) + length (cycle u.rows (backward_of s)) + 5) t.work) number in
-                  draft-work rows table held stars grid v view w (path within work + ring + 2) (work_bound old made) within (omega (arith, most, few, low))
-                  (ticks-then table u w (path within work + ring) 2
-                  (ticks-then table t u (path within work) ring (made-ticks within work) (ticks-just t u ring is)) (ticks-just u w 2 one))
-
--- ---- A split that is taken back
-
-module _ (rows : MapRows) (table : Table) (held : Held Half) (stars : Held Spoke) (grid : Grid) (v : Parts)
-    (view : parts rows table held stars grid ≡ v) (fit : FitTogether (parts rows table held stars grid)) (h : Halving)
-    (row : StringRow) (place : ℕ) (given : GivesInRange (split_by row.number h)) (m : Map)
-    (it : IsMadeOf (split_record row place h) m) (was : map_of v ≡ after m (split_by row.number h))
-    (rest : IsProper (map_of v) v.table.rows (kept_at v)) where
-  of : IsTried m (split_by row.number h)
-  of = record { valid = it.valid; given = given; allowed = it.allowed }
-
-  abbrev behind : Map
-  behind = after m (split_by row.number h)
-
-  behind-whole : HasWholeRings behind
-  behind-whole = split-whole_after m h row.number of
-
-  behind-fits : FitMap behind rows table.rows held stars
-  behind-fits =
-      subst (λ (q : Map). FitMap q rows table.rows held stars) was
-      (draft-fits rows table held stars grid v view fit (subst HasWholeRings (sym was) behind-whole))
-
-  behind-all : (g : Half) → has table.rows g ≡ has_string behind g.string
-  behind-all g = draft-all rows table held stars grid v view rest g ∙ ap (λ (q : Map). has_string q g.string) was
-
-  abbrev begun : CanBeginUnsplit row place h.point h.first h.second rows table.rows held stars
-  begun = record {
-    map = m;
-    x = h.position.x;
-    y = h.position.y;
-    tried = of;
-    at = it.holds;
-    fits = behind-fits;
-    new = (whole-free m h row.number of table.rows behind-all, tt);
-  }
-
-  pub back-begins : CanBeginUnsplit row place h.point h.first h.second rows table.rows held stars
-  back-begins = begun
-
-  module _ (new : MapRows) (t : Table) (put : Held Half) (wide : Held Spoke) where
-    -- where memory ran out
-    module _ (each : (c : CanBeginUnsplit row place h.point h.first h.second rows table.rows held stars)
-        → FitMap (after c.map (Split row.number h.point c.x c.y h.first h.second)) new t.rows put wide)
-        (same : t ≡ table) where
-      stay : FitMap behind new t.rows put wide
-      stay = each begun
-
-      pub stay-fit : FitTogether (parts new t put wide grid)
-      stay-fit = fit-parts new t put wide grid behind behind-whole stay
-
-      pub stay-map : map_of (parts new t put wide grid) ≡ map_of v
-      stay-map = fit-map new t put wide grid behind behind-whole stay ∙ sym was
-
-      pub stay-proper : IsProper (map_of (parts new t put wide grid)) t.rows (kept_at (parts new t put wide grid))
-      stay-proper =
-          fit-proper new t put wide grid behind behind-whole stay
-          (λ g. ap (λ (l : Table). has l.rows g) same ∙ behind-all g)
-
-    -- where the string is in
-    module _ (each : (c : CanBeginUnsplit row place h.point h.first h.second rows table.rows held stars) → FitMap c.map new t.rows put wide)
-        (some : (g : Half) → has t.rows g ≡ (if is_of (row.number ∷ []) g then true else has table.rows g)) where
-      in-fits : FitMap m new t.rows put wide
-      in-fits = each begun
-
-      pub in-fit : FitTogether (parts new t put wide grid)
-      in-fit = fit-parts new t put wide grid m (whole_valid m it.valid) in-fits
-
-      pub in-map : map_of (parts new t put wide grid) ≡ m
-      in-map = fit-map new t put wide grid m (whole_valid m it.valid) in-fits
-
-      pub in-whole : HasWholeRings (map_of (parts new t put wide grid))
-      in-whole = subst HasWholeRings (sym in-map) (whole_valid m it.valid)
-
-      module _ (x y : Half) (are_two : (x ≡ forward_of h.first) × (y ≡ forward_of h.second)) where
-        pair : (P : List Half → Type 0) → P (forward_of h.first ∷ forward_of h.second ∷ []) → P (x ∷ y ∷ [])
-        pair P p = subst P (λ i. sym are_two.0 i ∷ sym are_two.1 i ∷ []) p
-
-        pub in-two : AreIn t.rows (x ∷ y ∷ [])
-        in-two = pair (λ l. AreIn t.rows l) (unsplit-in m h row.number of table.rows behind-all t.rows some)
-
-        pub in-two_differ : AreDifferent (x ∷ y ∷ [])
-        in-two_differ = pair (λ l. AreDifferent l) (back-different m h row.number of)
-
-        pub in-two_hidden : (g : Half) → IsShown (map_of (parts new t put wide grid)) g → is_of (strings_of (x ∷ y ∷ [])) g ≡ false
-        in-two_hidden g shown =
-            pair (λ l. is_of (strings_of l) g ≡ false)
-            (back-hidden m h row.number of g (subst (λ (q : Map). IsShown q g) in-map shown))
-
-        pub in-proper : (d : Parts) → FitTogether d → map_of d ≡ map_of (parts new t put wide grid)
-            → DropsStrings (x ∷ y ∷ []) t.rows d.table.rows → IsProper (map_of d) d.table.rows (kept_at d)
-        in-proper d d_fit same drops =
-            settled d m d_fit (same ∙ in-map) (whole_valid m it.valid)
-            (unsplit-alone m h row.number of table.rows behind-all t.rows some d.table.rows
-            (subst (λ (l : List Half). DropsStrings l t.rows d.table.rows) (λ i. are_two.0 i ∷ are_two.1 i ∷ []) drops))
-
-      pub in-work : table.work ≤ greatest
-          → t.work ≡ ticked (1 + (length (cycle t.rows (forward_of row.number)) + length (cycle t.rows (backward_of row.number)) + 5)) table.work
-          → (u : Table) → u.work ≡ ticked 2 t.work → TakesWork v.table u (work_bound m (map_of v))
-      in-work within work u one =
-          let ring = length (cycle t.rows (forward_of row.number)) + length (cycle t.rows (backward_of row.number)) + 5 in
-          let most = split-work m h row.number of in
-          let low = whole-few m h row.number of t.rows new put wide in-fits in
-          subst (λ (q : Map). TakesWork v.table u (work_bound m q)) (sym was)
-          (draft-work rows table held stars grid v view u (1 + ring + 2) (work_bound m behind) within (omega (arith, most, low))
-          (ticks-then table t u (1 + ring) 2 (ticks-just table t (1 + ring) work) (ticks-just t u 2 one)))
+                pub back-work : (w : Table) → w.work ≡ ticked 2 u.work → TakesWork v.table w (work_bound old made)
+                back-work w one =
+                    let most = split-work old h string tried in
+                    let few = path-few old h string tried t.rows new put wide gone-through.fits in
+                    let low = whole-few old h string tried u.rows back kept star gone-back.fits in
+                    let is : u.work ≡ ticked ring t.work =
+                    again ∙ ap (λ (s : ℕ). ticked (length (cycle u.rows (forward_of s)) + length (cycle u.rows (backward_of s)) + 5) t.work) number in
+                    draft-work rows table held stars grid v view w (path within work + ring + 2) (work_bound old made) within (omega (arith, most, few, low))
+                    (ticks-then table u w (path within work + ring) 2
+                    (ticks-then table t u (path within work) ring (made-ticks within work) (ticks-just t u ring is)) (ticks-just u w 2 one))

@@ -44,9 +44,9 @@ use Rattle.map_parts.specs.PlacedStrings.{numbers_placed}
 use Rattle.map_parts.specs.Splitting.{FitMap}
 use Rattle.map_parts.proofs.MergedRows as rows_of
 use Rattle.map_parts.proofs.UnmergingBegun.{placed-numbers}
-use Rattle.cad_surgery.proofs.DividedDraft.{either}
+use Rattle.cad_surgery.proofs.LooseBeside.{either}
 use Rattle.cad_surgery.proofs.DraftFits.{draft-fits, draft-all, draft-work}
-use Rattle.cad_surgery.proofs.FitParts.{parts, fit-parts, fit-map, fit-proper}
+use Rattle.cad_surgery.proofs.FitParts.{parts, GoWith, at-rest}
 use Rattle.cad_surgery.proofs.HeldMergers.{between}
 use Rattle.cad_surgery.proofs.WorkTaken.{work-allowed, ticks-just}
 
@@ -135,14 +135,11 @@ module _ {rows : MapRows} {table : Table} {held : Held Half} {stars : Held Spoke
 
     -- where memory ran out
     module _ (stay : FitMap now at u.rows put wide) where
-      pub stay-fit : FitTogether (parts at u put wide grid)
-      stay-fit = fit-parts at u put wide grid now whole_now stay
+      pub stays : GoWith now at u put wide
+      stays = record { whole = whole_now; fits = stay }
 
-      pub stay-map : map_of (parts at u put wide grid) ≡ map_of v
-      stay-map = fit-map at u put wide grid now whole_now stay ∙ sym it.is
-
-      pub stay-proper : u.rows ≡ table.rows → IsProper (map_of (parts at u put wide grid)) u.rows (kept_at (parts at u put wide grid))
-      stay-proper same = fit-proper at u put wide grid now whole_now stay (λ h. ap (λ (l : HalfRows). has l h) same ∙ all h)
+      pub stays-rest : u.rows ≡ table.rows → IsProper (map_of (parts at u put wide grid)) u.rows (kept_at (parts at u put wide grid))
+      stays-rest same = at-rest grid stays (λ h. ap (λ (l : HalfRows). has l h) same ∙ all h)
 
     pub stay-work : table.work ≤ greatest → (count : ℕ) × (count ≤ length gone) × (u.work ≡ ticked count (ticked count table.work)) → TakesWork v.table u (work_bound m (map_of v))
     stay-work within left =
@@ -151,16 +148,13 @@ module _ {rows : MapRows} {table : Table} {held : Held Half} {stars : Held Spoke
         ticks-work within left.0 left.0 (omega (arith, few)) (omega (arith, few, long)) left.2
 
     -- where it is taken back
-    module _ (in-fits : FitMap m at u.rows put wide) where
-      pub in-fit : FitTogether (parts at u put wide grid)
-      in-fit = fit-parts at u put wide grid m whole_old in-fits
+    module _ (back : FitMap m at u.rows put wide) where
+      pub gone-back : GoWith m at u put wide
+      gone-back = record { whole = whole_old; fits = back }
 
-      pub in-map : map_of (parts at u put wide grid) ≡ m
-      in-map = fit-map at u put wide grid m whole_old in-fits
-
-      pub in-proper : ((h : Half) → has u.rows h ≡ (if is_of (numbers_placed gone) h then true else has table.rows h)) → IsProper (map_of (parts at u put wide grid)) u.rows (kept_at (parts at u put wide grid))
-      in-proper some =
-          fit-proper at u put wide grid m whole_old in-fits (λ h.
+      pub back-rest : ((h : Half) → has u.rows h ≡ (if is_of (numbers_placed gone) h then true else has table.rows h)) → IsProper (map_of (parts at u put wide grid)) u.rows (kept_at (parts at u put wide grid))
+      back-rest some =
+          at-rest grid gone-back (λ h.
           some h ∙ (λ i. if is_of (numbers_are i) h then true else all h i) ∙ either (is_of (strings_of path) h) (has_string now h.string) ∙ sym (more.all h))
 
     pub in-work : table.work ≤ greatest → (n : ℕ) → n ≤ 4 * (length path + 2) + sides_of_face (Parcel number) m

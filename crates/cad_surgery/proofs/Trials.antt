@@ -14,16 +14,15 @@ use Rattle.cad_map.specs.Costs.{work_bound}
 use Rattle.cad_map.specs.Effects.{after}
 use Rattle.cad_map.specs.Map.{Map}
 use Rattle.cad_map.specs.Outcome.{MayRefuse}
-use Rattle.cad_map.specs.Valid.{IsValid}
 use Rattle.cad_valid.specs.declared.near.Touched.{Touched}
 use Rattle.map_parts.specs.Parts.{Parts, map_of, kept_at}
 use Rattle.cad_surgery.specs.Proper.{IsProper}
-use Rattle.cad_surgery.specs.Trials.{IsReadyFor, IsTrialOf, IsTakenBack}
+use Rattle.cad_surgery.specs.Trials.{IsReadyFor, IsMade, IsPlayed, IsTrialOf, IsTakenBack}
 use Rattle.cad_surgery.specs.Work.{TakesWork}
 use Rattle.cad_surgery.proofs.GridSteps.{idle}
 use Rattle.half_table.specs.declared.half.Half.{Half}
 use Rattle.cad_laws.specs.Tried.{IsTried}
-use Rattle.edit_records.specs.Record.{edit_of, Holds}
+use Rattle.edit_records.specs.Record.{edit_of}
 use Rattle.cad_surgery.specs.RowEdits.{is_of_rows}
 use Rattle.edit_records.specs.declared.record.ChainString.{ChainString}
 use Rattle.edit_records.specs.declared.record.SmallRecord.{SmallRecord}
@@ -85,53 +84,57 @@ rows-of (record_of.Detach i source j) split join enclose divide along island = r
 rows-of (record_of.Rename p from to) split join enclose divide along island = refl
 rows-of (record_of.Enclose face points strings parcel label source moved) split join enclose divide along island = absurd (enclose face points strings parcel label source moved refl)
 
--- ---- Trials that succeed, and that are refused
+-- ---- Made, or left as it was
 
--- with the record of what was made
-pub succeeds : (e : Edit) (old new : Parts) (r : SmallRecord) → map_of new ≡ after (map_of old) e → IsValid (map_of new) → edit_of r ≡ e → Holds r (map_of old)
-    → new.grid ≡ old.grid → IsProper (map_of new) new.table.rows (kept_at new)
-    → TakesWork old.table new.table (work_bound (map_of old) (after (map_of old) e)) → IsTrialOf e old new (Ok r)
-succeeds e old new r made valid edit holds grid proper work = record {
-  made = made;
-  valid = valid;
-  edit = edit;
-  holds = holds;
-  refused = tt;
-  err = tt;
-  grid = grid;
-  proper = proper;
-  work = work;
-}
+module _ {e : Edit} {old new : Parts} (grid : new.grid ≡ old.grid) (proper : IsProper (map_of new) new.table.rows (kept_at new))
+    (work : TakesWork old.table new.table (work_bound (map_of old) (after (map_of old) e))) {A E : Type 0} where
+  pub is-made : {a : A} → map_of new ≡ after (map_of old) e → IsMade {A = A} {E = E} e old new (Ok a)
+  is-made map_is = record { becomes = map_is; err = tt; grid = grid; proper = proper; work = work }
+
+  pub is-left : {f : E} → map_of new ≡ map_of old → IsMade {A = A} {E = E} e old new (Err f)
+  is-left map_is = record { becomes = tt; err = map_is; grid = grid; proper = proper; work = work }
+
+-- by a call whose error is passed on
+pub is-left-too : {A E : Type 0} {e : Edit} {old new : Parts} {r : Result A E} → IsErr r → new.grid ≡ old.grid → IsProper (map_of new) new.table.rows (kept_at new)
+    → TakesWork old.table new.table (work_bound (map_of old) (after (map_of old) e)) → map_of new ≡ map_of old → IsMade e old new r
+is-left-too {r = Ok b} is grid proper work map_is = absurd (true≢false (sym is))
+is-left-too {r = Err f} is grid proper work map_is = is-left grid proper work map_is
+
+-- where it was idle
+pub is-idle : {A E : Type 0} {e : Edit} {d : Parts} {r : Result A E} → IsErr r → IsProper (map_of d) d.table.rows (kept_at d) → IsMade e d d r
+is-idle {r = Ok a} is proper = absurd (true≢false (sym is))
+is-idle {d} {r = Err f} is proper = is-left refl proper (idle d d _ refl) refl
+
+-- ---- Trials that are refused
 
 -- before anything was done
 pub stays : (e : Edit) (d : Parts) (t : Touched) (why : Refusal) → IsReadyFor e d t → MayRefuse (map_of d) e why → IsTrialOf e d d (Err why)
 stays e d t why ready may = record {
-  made = tt;
-  valid = tt;
+  played = record { made = is-left refl ready.proper (idle d d _ refl) refl; valid = tt; refused = may };
   edit = tt;
   holds = tt;
-  refused = may;
-  err = refl;
-  grid = refl;
-  proper = ready.proper;
-  work = idle d d _ refl;
+}
+
+-- the same with something else to give
+pub played-with : {A B : Type 0} {e : Edit} {old new : Parts} {a : A} {b : B} → IsPlayed e old new (Ok a) → IsPlayed e old new (Ok b)
+played-with played = record {
+  made = is-made played.made.grid played.made.proper played.made.work played.made.becomes;
+  valid = played.valid;
+  refused = tt;
 }
 
 -- by a call, whose refusal is passed on
-pub passes-on : (e : Edit) (old new : Parts) (why : Refusal) (r : Result SmallRecord Refusal) → IsErr r × IsErrAnd r (λ f. f ≡ why)
-    → MayRefuse (map_of old) e why → map_of new ≡ map_of old → new.grid ≡ old.grid → IsProper (map_of new) new.table.rows (kept_at new)
-    → TakesWork old.table new.table (work_bound (map_of old) (after (map_of old) e)) → IsTrialOf e old new r
-passes-on e old new why (Ok a) is may err grid proper work = absurd is.1
-passes-on e old new why (Err f) is may err grid proper work = record {
-  made = tt;
-  valid = tt;
+pub passes-on : {A : Type 0} {e : Edit} {old new : Parts} {why : Refusal} (r : Result SmallRecord Refusal) → IsErr r × IsErrAnd r (λ f. f ≡ why)
+    → IsPlayed {A = A} e old new (Err why) → IsTrialOf e old new r
+passes-on (Ok a) is played = absurd is.1
+passes-on {e = e} {old = old} (Err f) is played = record {
+  played = record {
+    made = is-left played.made.grid played.made.proper played.made.work played.made.err;
+    valid = tt;
+    refused = subst (MayRefuse (map_of old) e) (sym is.1) played.refused;
+  };
   edit = tt;
   holds = tt;
-  refused = subst (MayRefuse (map_of old) e) (sym is.1) may;
-  err = err;
-  grid = grid;
-  proper = proper;
-  work = work;
 }
 
 -- ---- Edits that aren't taken back
@@ -152,3 +155,20 @@ stays-made Was old new (Err f) is map_is grid proper work = record {
 pub stays-whole : {A E : Type 0} (Was : Map → Type 0) (d : Parts) (r : Result A E) → IsErr r → IsProper (map_of d) d.table.rows (kept_at d)
     → IsTakenBack Was d d r
 stays-whole Was d r is proper = stays-made Was d d r is refl refl proper (λ m was. idle d d _ refl)
+
+-- to a map that is as another one is told to be
+pub taken-so : {A E : Type 0} {Was Is : Map → Type 0} {old new : Parts} {r : Result A E} → ((m : Map) → Was m → Is m) → IsTakenBack Is old new r → IsTakenBack Was old new r
+taken-so {r = Ok a} so taken = record {
+  before = λ m was. taken.before m (so m was);
+  err = tt;
+  grid = taken.grid;
+  proper = taken.proper;
+  work = λ m was. taken.work m (so m was);
+}
+taken-so {r = Err f} so taken = record {
+  before = tt;
+  err = taken.err;
+  grid = taken.grid;
+  proper = taken.proper;
+  work = λ m was. taken.work m (so m was);
+}

@@ -1,5 +1,5 @@
 -- A merger along a chain that is taken back, from its record.
-use Rattle.std.proofs.Common.{◌≡◌, ◌<◌, ◌≤◌, ◌+◌, ◌*◌, ℕ, sym, ap, subst, ◌∙◌, List, ◌∷◌, map, length, true, if◌then◌else◌, arith}
+use Rattle.std.proofs.Common.{◌≡◌, ◌<◌, ◌≤◌, ◌+◌, ◌*◌, ℕ, sym, ap, subst, ◌∙◌, List, ◌∷◌, length, true, if◌then◌else◌, arith}
 use Rattle.std.proofs.lemmas.List.{length-map}
 use Rattle.cad_rows.specs.declared.edits.Edit.TheVariants.{Merge}
 use Rattle.cad_rows.specs.declared.names.Face.TheVariants.{Parcel}
@@ -19,31 +19,30 @@ use Rattle.key_lists.specs.Held.{Held}
 use Rattle.cad_laws.specs.Taken.{AreAtPlaces}
 use Rattle.edit_records.specs.declared.record.ChainString.{ChainString}
 use Rattle.edit_records.specs.declared.record.SmallRecord.{SmallRecord}
-use Rattle.edit_records.specs.HeldChains.{rows_along}
 use Rattle.edit_records.specs.Record.{edit_of, Belongs, HeldMergedAlong, Holds}
+use Rattle.cad_surgery.specs.declared.draft.Draft.TheInside.{Inside}
 use Rattle.cad_surgery.specs.declared.edits.try_merge_along.Merged.{Merged}
-use Rattle.cad_surgery.specs.Mergers.{HasSharedPath, IsMergedBy, halves_of}
+use Rattle.cad_surgery.specs.Mergers.{HasSharedPath, IsMergedBy, WentAlong, halves_of}
 use Rattle.cad_surgery.specs.Proper.{IsProper}
 use Rattle.cad_surgery.specs.Work.{TakesWork}
 use Rattle.map_parts.specs.declared.edits.merging_tried.EndedParcel.{EndedParcel}
-use Rattle.map_parts.specs.declared.edits.placed_strings.PlacedString.{PlacedString}
 use Rattle.map_parts.specs.declared.map_rows.MapRows.{MapRows}
 use Rattle.map_parts.specs.declared.stars.Spoke.{Spoke}
-use Rattle.map_parts.specs.Merging.{IsMerging, merged, rows_gone, sides_led, CanBeginUnmerge}
+use Rattle.map_parts.specs.Merging.{IsMerging, merged, sides_led, CanBeginUnmerge}
 use Rattle.map_parts.specs.Parts.{Parts, FitTogether, map_of, kept_at}
 use Rattle.map_parts.specs.PlacedStrings.{numbers_placed}
 use Rattle.map_parts.specs.Relabelled.{cycles_length}
 use Rattle.map_parts.specs.Splitting.{FitMap}
 use Rattle.map_parts.proofs.Merging as merging
-use Rattle.cad_surgery.proofs.FitParts.{parts}
+use Rattle.cad_surgery.proofs.FitParts.{parts, parts-in, GoWith}
 use Rattle.cad_surgery.proofs.HeldMergers as told
 use Rattle.cad_surgery.proofs.MergedDraft.{path-rings}
 use Rattle.cad_surgery.proofs.TakenBack as taken
 use Rattle.cad_surgery.proofs.TakenBack.{IsMerged, led-rows}
 
 -- the path has a first half
-pub halves-some : (m now : Map) (t : Merged) → IsMergedBy m now t → (path : List Half) → path ≡ halves_of t.strings.now → 0 < length path
-halves-some m now t it path is =
+pub halves-some : {m now : Map} {t : Merged} → IsMergedBy m now t → {path : List Half} → path ≡ halves_of t.strings.now → 0 < length path
+halves-some {m} {now} {t} it is =
     let whole_chain = merging.chain-open m t.kept t.row.now.number (halves_of t.strings.now) (told.is_it m t.kept t.row.now t.place t.chain.now t.strings.now t.start t.end t.moved.now it.tried it.held) in
     let long = whole_chain.long in
     let same = ap length it.held.shared.is in
@@ -52,11 +51,24 @@ halves-some m now t it path is =
     let own = ap length is in
     omega (arith, long, same, many, halves, own)
 
-module _ (rows : MapRows) (table : Table) (held : Held Half) (stars : Held Spoke) (grid : Grid) (v : Parts)
-    (view : parts rows table held stars grid ≡ v) (fit : FitTogether (parts rows table held stars grid)) (t : Merged) (m : Map) (it : IsMergedBy m (map_of v) t)
-    (rest : IsProper (map_of v) v.table.rows (kept_at v)) (first : Half) (others : List Half) (path_is : first ∷ others ≡ halves_of t.strings.now)
-    (gone : EndedParcel) (row_is : gone.row ≡ t.row.now) (place_is : gone.place ≡ t.place) (rows_are : rows_gone gone.strings.items ≡ rows_along t.strings.now t.chain.now)
-    (places_are : map (λ (g : PlacedString). g.place) gone.strings.items ≡ map (λ (s : ChainString). s.place) t.strings.now) where
+module _ {T : Type 0} (inside : Inside T) {v : Parts} (view : parts-in inside ≡ v) (fit : FitTogether (parts-in inside)) {t : Merged} {m : Map} (it : IsMergedBy m (map_of v) t)
+    (rest : IsProper (map_of v) v.table.rows (kept_at v)) {whole_path : List Half} (path_is : whole_path ≡ halves_of t.strings.now)
+    {first : Half} {others : List Half} (parted : whole_path ≡ first ∷ others) {gone : EndedParcel} (went : WentAlong t.row.now t.place t.strings.now t.chain.now gone) where
+  abbrev rows : MapRows
+  rows = inside.rows
+
+  abbrev table : Table
+  table = inside.table
+
+  abbrev held : Held Half
+  held = inside.kept
+
+  abbrev stars : Held Spoke
+  stars = inside.stars
+
+  abbrev grid : Grid
+  grid = inside.grid
+
   abbrev path : List Half
   path = halves_of t.strings.now
 
@@ -74,7 +86,7 @@ module _ (rows : MapRows) (table : Table) (held : Held Half) (stars : Held Spoke
     tried = it.tried;
     shared = is_it.shared;
     is = it.is;
-    numbers = ap numbers_of rows_are ∙ told.numbers-along t.strings.now t.chain.now it.held.gone.as_many;
+    numbers = ap numbers_of went.rows_are ∙ told.numbers-along t.strings.now t.chain.now it.held.gone.as_many;
   }
 
   fits : FitMap now rows table.rows held stars
@@ -89,13 +101,13 @@ module _ (rows : MapRows) (table : Table) (held : Held Half) (stars : Held Spoke
     is = is_it;
     fits = fits;
     new = taken.new after_it;
-    sides = ap (sides_led path) rows_are ∙ led-rows t.strings.now t.chain.now it.held.gone.as_many ∙ ap sides_of_chain it.held.shared.is;
+    sides = ap (sides_led path) went.rows_are ∙ led-rows t.strings.now t.chain.now it.held.gone.as_many ∙ ap sides_of_chain it.held.shared.is;
     start_on = told.start_on m t.kept t.row.now t.place t.chain.now t.strings.now t.start t.end t.moved.now it.tried it.held table.rows fits.fits.ends;
     end_on = told.end_on m t.kept t.row.now t.place t.chain.now t.strings.now t.start t.end t.moved.now it.tried it.held table.rows fits.fits.ends;
     moved_in = told.moved_in m t.kept t.row.now t.place t.chain.now t.strings.now t.start t.end t.moved.now it.tried it.held table.rows fits.fits.ends;
     moved_are = told.moved_are m t.kept t.row.now t.place t.chain.now t.strings.now t.start t.end t.moved.now it.tried it.held table.rows fits.fits.ends;
     numbers_are = taken.numbers_are after_it;
-    stood = subst (λ (q : List StringRow × List ℕ). AreAtPlaces m.strings q.0 q.1) (λ i. (sym rows_are i, sym places_are i)) it.held.gone.there;
+    stood = subst (λ (q : List StringRow × List ℕ). AreAtPlaces m.strings q.0 q.1) (λ i. (sym went.rows_are i, sym went.places_are i)) it.held.gone.there;
     at = it.held.gone.parcel;
   }
 
@@ -103,29 +115,26 @@ module _ (rows : MapRows) (table : Table) (held : Held Half) (stars : Held Spoke
   given = (gone.row, gone.place, first ∷ others)
 
   as-given : (t.row.now, t.place, path) ≡ given
-  as-given = λ i. (sym row_is i, sym place_is i, sym path_is i)
+  as-given = λ i. (sym went.row_is i, sym went.place_is i, (sym path_is ∙ parted) i)
 
   pub begins : Begins given
   begins = subst Begins as-given own
 
-  module _ (at : MapRows) (u : Table) (put : Held Half) (wide : Held Spoke) where
+  pub stay-work : table.work ≤ greatest → (u : Table) → (count : ℕ) × (count ≤ length gone.strings.items) × (u.work ≡ ticked count (ticked count table.work)) → TakesWork v.table u (work_bound m (map_of v))
+  stay-work within u = taken.stay-work after_it rows u held stars within
+
+  module _ {at : MapRows} (u : Table) {put : Held Half} {wide : Held Spoke} where
     -- where memory ran out
-    module _ (each : (c : Begins given) → FitMap (merged c.is) at u.rows put wide) (same : u.rows ≡ table.rows) where
+    module _ (each : (c : Begins given) → FitMap (merged c.is) at u.rows put wide) where
       stay : FitMap now at u.rows put wide
       unfolding own
       stay = subst (λ (q : ParcelRow × ℕ × List Half). ((c : Begins q) → FitMap (merged c.is) at u.rows put wide) → FitMap now at u.rows put wide) as-given (λ f. f own) each
 
-      pub stay-fit : FitTogether (parts at u put wide grid)
-      stay-fit = taken.stay-fit after_it at u put wide stay
+      pub stays : GoWith now at u put wide
+      stays = taken.stays after_it at u put wide stay
 
-      pub stay-map : map_of (parts at u put wide grid) ≡ map_of v
-      stay-map = taken.stay-map after_it at u put wide stay
-
-      pub stay-proper : IsProper (map_of (parts at u put wide grid)) u.rows (kept_at (parts at u put wide grid))
-      stay-proper = taken.stay-proper after_it at u put wide stay same
-
-    pub stay-work : table.work ≤ greatest → (count : ℕ) × (count ≤ length gone.strings.items) × (u.work ≡ ticked count (ticked count table.work)) → TakesWork v.table u (work_bound m (map_of v))
-    stay-work = taken.stay-work after_it at u put wide
+      pub stays-rest : u.rows ≡ table.rows → IsProper (map_of (parts at u put wide grid)) u.rows (kept_at (parts at u put wide grid))
+      stays-rest = taken.stays-rest after_it at u put wide stay
 
     -- where it is taken back
     module _ (each : (c : Begins given) → FitMap c.map at u.rows put wide) where
@@ -133,33 +142,30 @@ module _ (rows : MapRows) (table : Table) (held : Held Half) (stars : Held Spoke
       unfolding own
       in-fits = subst (λ (q : ParcelRow × ℕ × List Half). ((c : Begins q) → FitMap c.map at u.rows put wide) → FitMap m at u.rows put wide) as-given (λ f. f own) each
 
-      pub in-fit : FitTogether (parts at u put wide grid)
-      in-fit = taken.in-fit after_it at u put wide in-fits
+      pub gone-back : GoWith m at u put wide
+      gone-back = taken.gone-back after_it at u put wide in-fits
 
-      pub in-map : map_of (parts at u put wide grid) ≡ m
-      in-map = taken.in-map after_it at u put wide in-fits
-
-      pub in-proper : ((h : Half) → has u.rows h ≡ (if is_of (numbers_placed gone.strings.items) h then true else has table.rows h)) → IsProper (map_of (parts at u put wide grid)) u.rows (kept_at (parts at u put wide grid))
-      in-proper = taken.in-proper after_it at u put wide in-fits
+      pub back-rest : ((h : Half) → has u.rows h ≡ (if is_of (numbers_placed gone.strings.items) h then true else has table.rows h)) → IsProper (map_of (parts at u put wide grid)) u.rows (kept_at (parts at u put wide grid))
+      back-rest = taken.back-rest after_it at u put wide in-fits
 
       abbrev ticks : ℕ
       ticks = 2 + 2 * length others + (length others + 2) + (length (cycle u.rows first) + cycles_length u.rows t.moved.now)
 
       pub in-work : table.work ≤ greatest → u.work ≡ ticked ticks (ticked (length gone.strings.items) table.work) → TakesWork v.table u (work_bound m (map_of v))
       in-work within work =
-          let shared = subst (λ (l : List Half). HasSharedPath m u.rows t.kept t.row.now.number l t.start t.end t.moved.now) (sym path_is)
+          let shared = subst (λ (l : List Half). HasSharedPath m u.rows t.kept t.row.now.number l t.start t.end t.moved.now) (sym path_is ∙ parted)
           (told.shared-path m t.kept t.row.now t.place t.chain.now t.strings.now t.start t.end t.moved.now it.tried it.held u.rows in-fits.fits.ends) in
           let rings = path-rings m u.rows t.kept t.row.now.number first others t.moved.now shared.is in-fits.fits.local shared.leads shared.moved_are shared.once in
-          let long = ap length path_is in
+          let long = ap length (sym parted ∙ path_is) in
           taken.in-work after_it at u put wide within ticks (omega (arith, rings, long)) work
 
 -- ---- By its record
 
 -- the record leads from the map to the one after the merger that it tells
-pub by-record : (r : SmallRecord) (t : Merged) → GivesInRange (edit_of r) → edit_of r ≡ Merge t.kept (Parcel t.row.now.number)
+pub by-record : (r : SmallRecord) {t : Merged} → GivesInRange (edit_of r) → edit_of r ≡ Merge t.kept (Parcel t.row.now.number)
     → ((b : Map) → Holds r b → HeldMergedAlong b t.kept t.row.now t.place t.chain.now t.strings.now t.start t.end t.moved.now)
     → (m n : Map) → Belongs r m n → IsMergedBy m n t
-by-record r t given same held m n it = record {
+by-record r {t} given same held m n it = record {
   tried = told.record-tried r (Merge t.kept (Parcel t.row.now.number)) given same m n it;
   is = it.leads.is ∙ ap (after m) same;
   held = held m it.holds;

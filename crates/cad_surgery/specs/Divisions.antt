@@ -12,11 +12,13 @@ use Rattle.cad_map.specs.Division.{hole_placed}
 use Rattle.cad_map.specs.Effects.{after}
 use Rattle.cad_map.specs.Map.{Map}
 use Rattle.half_table.specs.declared.half.Half.{Half}
+use Rattle.half_table.specs.Half.{forward_of}
 use Rattle.half_table.specs.Rows.{HalfRows}
 use Rattle.half_paths.specs.Path.{AreIn}
 use Rattle.cad_laws.specs.Faces.{IsDividedIn, left_of_chain, uncut}
 use Rattle.cad_laws.specs.Tried.{IsTried, AreChosen}
 use Rattle.cad_surgery.specs.declared.edits.try_divide.Division.{Division}
+use Rattle.cad_surgery.specs.declared.edits.try_divide.Cut.{Cut}
 use Rattle.edit_records.specs.declared.record.SmallRecord.{SmallRecord}
 use Rattle.edit_records.specs.declared.record.SmallRecord.TheVariants as change
 use Rattle.map_parts.specs.Handing.{home_of}
@@ -53,6 +55,14 @@ pub record HasCrossing (m : Map) (rows : HalfRows) (d : Division) (start end : H
   pub once : IsPermutation (map (home_of (after m (divided_by d)) rows) moved)
       (filter (λ b. is_face (Parcel d.parcel) b.face)
       (map (hole_placed m d.face (Parcel d.parcel) (left_of_chain d.chain.now first last divided.cut.ring)) (uncut m first)))
+
+-- What comes with a division that is tried on the map: the rows, the halves of its strings, and
+-- where its chain crosses the face.
+pub record ComesAcross (m : Map) (rows : HalfRows) (d : Division) (cut : Cut) (strings : List StringRow) (parcel : ParcelRow) (path : List Half) : Type 0 where
+  pub strings_are : strings ≡ strings_across d
+  pub parcel_is : parcel ≡ parcel_across d
+  pub path_is : path ≡ map forward_of d.strings.now
+  pub crossing : HasCrossing m rows d cut.start cut.end cut.moved.now
 
 -- ---- A division that was made
 

@@ -1,5 +1,5 @@
 -- What an enclosure names and gives, and what its record tells.
-use Rattle.std.specs.Prelude.{List, [], ◌∷◌, ◌++◌}
+use Rattle.std.specs.Prelude.{◌≡◌, List, [], ◌∷◌, ◌++◌, map}
 use Rattle.cad_rows.specs.declared.edits.Edit.{Edit}
 use Rattle.cad_rows.specs.declared.edits.Edit.TheVariants.{Enclose}
 use Rattle.cad_rows.specs.declared.names.Face.TheVariants.{Parcel}
@@ -11,8 +11,11 @@ use Rattle.cad_map.specs.Map.{Map}
 use Rattle.cad_map.specs.Outcome.{LeadsTo}
 use Rattle.cad_map.specs.Valid.{IsValid}
 use Rattle.half_table.specs.declared.half.Half.{Half}
+use Rattle.half_table.specs.Half.{forward_of}
+use Rattle.half_table.specs.Rows.{HalfRows}
 use Rattle.cad_surgery.specs.declared.edits.try_enclose.Enclosure.{Enclosure}
 use Rattle.edit_records.specs.HeldChains.{HeldIsland}
+use Rattle.map_parts.specs.Placed.{AreOfHoles}
 
 -- the edit
 abbrev pub enclosed_by : Enclosure → Edit
@@ -25,6 +28,14 @@ strings_by e = strings_along (e.source ∷ []) e.strings.now (e.points.now ++ st
 -- the row of its parcel
 abbrev pub parcel_by : Enclosure → ParcelRow
 parcel_by e = record { number = e.parcel; label = e.label.now; sources = e.source ∷ [] }
+
+-- What comes with an enclosure that is tried on the map: the rows, the halves of its strings, and
+-- those that are kept of the holes that pass over.
+pub record ComesRound (m : Map) (rows : HalfRows) (e : Enclosure) (strings : List StringRow) (parcel : ParcelRow) (path moved : List Half) : Type 0 where
+  pub strings_are : strings ≡ strings_by e
+  pub parcel_is : parcel ≡ parcel_by e
+  pub path_is : path ≡ map forward_of e.strings.now
+  pub holes : AreOfHoles m rows e.face e.points.now moved
 
 -- one map leads to the other by it, and these halves name the rings that pass over
 pub record LeadsBy (e : Enclosure) (moved : List Half) (before now : Map) : Type 0 where

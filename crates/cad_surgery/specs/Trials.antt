@@ -28,20 +28,11 @@ pub record IsReadyFor (e : Edit) (d : Parts) (listed : Touched) : Type 0 where
   -- the table is the map's
   pub proper : IsProper (map_of d) d.table.rows (kept_at d)
 
--- The edit is made with its record, or it is refused and the map stays.
-pub record IsTrialOf (e : Edit) (old new : Parts) (result : Result SmallRecord Refusal)
-    : Type 0 where
+-- The edit is made, or there is an error and the map stays.
+pub record IsMade {A E : Type 0} (e : Edit) (old new : Parts) (result : Result A E) : Type 0 where
   -- the map is the one after the edit
-  pub made : OnOk result (map_of new ≡ after (map_of old) e)
-  -- which keeps the rules
-  pub valid : OnOk result (IsValid (map_of new))
-  -- the record is of the edit
-  pub edit : IfOk result (λ r. edit_of r ≡ e)
-  -- and of the map before it
-  pub holds : IfOk result (λ r. Holds r (map_of old))
-  -- a refusal has a reason
-  pub refused : IfErr result (MayRefuse (map_of old) e)
-  -- and leaves the map
+  pub becomes : OnOk result (map_of new ≡ after (map_of old) e)
+  -- an error leaves the map
   pub err : OnErr result (map_of new ≡ map_of old)
   -- the grid stays
   pub grid : new.grid ≡ old.grid
@@ -49,6 +40,29 @@ pub record IsTrialOf (e : Edit) (old new : Parts) (result : Result SmallRecord R
   pub proper : IsProper (map_of new) new.table.rows (kept_at new)
   -- the work on it stays within the bound of the edit
   pub work : TakesWork old.table new.table (work_bound (map_of old) (after (map_of old) e))
+
+-- The edit is made and the map keeps the rules, or it is refused and the map stays.
+pub record IsPlayed {A : Type 0} (e : Edit) (old new : Parts) (result : Result A Refusal)
+    : Type 0 where
+  pub made : IsMade e old new result
+  -- the map keeps the rules
+  pub valid : OnOk result (IsValid (map_of new))
+  -- a refusal has a reason
+  pub refused : IfErr result (MayRefuse (map_of old) e)
+
+-- It is played, and its record is given.
+pub record IsTrialOf (e : Edit) (old new : Parts) (result : Result SmallRecord Refusal)
+    : Type 0 where
+  pub played : IsPlayed e old new result
+  -- the record is of the edit
+  pub edit : IfOk result (λ r. edit_of r ≡ e)
+  -- and of the map before it
+  pub holds : IfOk result (λ r. Holds r (map_of old))
+
+-- There is such a map, before or after this one, and the table is this one's.
+pub record StandsBeside (Which : Map → Type 0) (d : Parts) : Type 0 where
+  pub made : (m : Map) × Which m
+  pub proper : IsProper (map_of d) d.table.rows (kept_at d)
 
 -- An edit is taken back, to whichever map it was made on, or there is no memory and the map stays.
 pub record IsTakenBack {A E : Type 0} (Was : Map → Type 0) (old new : Parts) (result : Result A E)

@@ -12,11 +12,10 @@ ghost use Rattle.cad_valid.specs.Near.{HoldsMap, touched_of};
 ghost use Rattle.cad_surgery.specs.AtRest.{IsAtRest};
 ghost use Rattle.edit_records.specs.GridEdits.{gone_by, come_by};
 ghost use Rattle.edit_records.specs.GridLists.{AreEntries, IsBeside};
-ghost use Rattle.map_parts.specs.Parts.{map_of, kept_at};
-ghost use Rattle.cad_surgery.specs.Proper.{IsProper};
+ghost use Rattle.map_parts.specs.Parts.{map_of};
 ghost use Rattle.edit_records.specs.Record.{edit_of, Holds, Belongs, IsPlaced};
 ghost use Rattle.cad_surgery.specs.RowEdits.{is_of_rows, KeepsBeside};
-ghost use Rattle.cad_surgery.specs.Trials.{IsReadyFor, IsTakenBack, IsTrialOf};
+ghost use Rattle.cad_surgery.specs.Trials.{IsReadyFor, IsTakenBack, IsTrialOf, IsMade, StandsBeside};
 ghost use Rattle.cad_surgery.specs.Work.{TakesWork};
 
 use crate::draft::Draft;
@@ -206,8 +205,7 @@ pub(crate) fn play<T: Tally>(draft: &mut Draft<T>, edit: &Edit) -> Result<SmallR
 // Takes an edit back. The grid stays.
 fn back_edit<T: Tally>(draft: &mut Draft<T>, change: &SmallRecord) -> Result<(), Memory>
     requires given { GivesInRange (edit_of change.now) }
-    requires made { (m : Map) × Belongs change.now m (map_of draft.old) }
-    requires proper { IsProper (map_of draft.old) draft.old.table.rows (kept_at draft.old) }
+    requires beside { StandsBeside (λ m. Belongs change.now m (map_of draft.old)) draft.old }
     ensures { IsTakenBack (λ m. Belongs change.now m (map_of draft.old)) draft.old draft.new
         result }
 {
@@ -258,14 +256,8 @@ fn back_edit<T: Tally>(draft: &mut Draft<T>, change: &SmallRecord) -> Result<(),
 // Makes an edit again. The grid stays.
 fn forward_edit<T: Tally>(draft: &mut Draft<T>, change: &SmallRecord) -> Result<(), Memory>
     requires given { GivesInRange (edit_of change.now) }
-    requires made { (n : Map) × Belongs change.now (map_of draft.old) n }
-    requires proper { IsProper (map_of draft.old) draft.old.table.rows (kept_at draft.old) }
-    ensures after { OnOk result (map_of draft.new ≡ after (map_of draft.old) (edit_of change.now)) }
-    ensures err { OnErr result (map_of draft.new ≡ map_of draft.old) }
-    ensures grid { draft.new.grid ≡ draft.old.grid }
-    ensures proper { IsProper (map_of draft.new) draft.new.table.rows (kept_at draft.new) }
-    ensures work { TakesWork draft.old.table draft.new.table
-        (work_bound (map_of draft.old) (after (map_of draft.old) (edit_of change.now))) }
+    requires beside { StandsBeside (Belongs change.now (map_of draft.old)) draft.old }
+    ensures { IsMade (edit_of change.now) draft.old draft.new result }
 {
     match change {
         SmallRecord::Split {

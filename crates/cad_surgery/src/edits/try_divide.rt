@@ -1,26 +1,20 @@
 //! A division on a map on half-edges: tried, taken back where it breaks a rule, and made again.
-ghost use Rattle.std.specs.Prelude.{◌≡◌, map as map_by, IfOk, IfErr, OnOk, OnErr};
+ghost use Rattle.std.specs.Prelude.{◌≡◌, map as map_by, IfOk};
 ghost use Rattle.cad_map.specs.Asked.{GivesInRange};
-ghost use Rattle.cad_map.specs.Costs.{work_bound};
 ghost use Rattle.cad_map.specs.Effects.{after};
 ghost use Rattle.cad_map.specs.Map.{Map};
-ghost use Rattle.cad_map.specs.Outcome.{MayRefuse};
-ghost use Rattle.cad_map.specs.Touched.{IsTouched};
-ghost use Rattle.cad_map.specs.Valid.{IsValid};
 ghost use Rattle.half_table.specs.Half.{forward_of};
 ghost use Rattle.cad_laws.specs.Tried.{IsTried};
-ghost use Rattle.cad_valid.specs.Near.{HoldsMap, touched_of};
 ghost use Rattle.cad_rows.specs.declared.edits.Edit.TheVariants.{Divide};
 ghost use Rattle.cad_rows.specs.declared.names.Face.TheVariants.{Parcel};
-ghost use Rattle.cad_surgery.specs.Divisions.{HasCrossing, IsDividedBy, IsOfDivide, divided_by};
+ghost use Rattle.cad_surgery.specs.Divisions.{HasCrossing, IsDividedBy, IsOfDivide, ComesAcross, divided_by};
 ghost use Rattle.cad_surgery.specs.Divisions.{strings_across, parcel_across};
 ghost use Rattle.edit_records.specs.declared.record.SmallRecord.TheVariants.{Divide as DivideRecord};
 ghost use Rattle.edit_records.specs.HeldChains.{HeldChain};
 ghost use Rattle.map_parts.specs.Parts.{map_of, kept_at};
 ghost use Rattle.cad_surgery.specs.Proper.{IsProper};
 ghost use Rattle.edit_records.specs.Record.{edit_of, Holds, Belongs};
-ghost use Rattle.cad_surgery.specs.Trials.{IsReadyFor, IsTakenBack, IsTrialOf};
-ghost use Rattle.cad_surgery.specs.Work.{TakesWork};
+ghost use Rattle.cad_surgery.specs.Trials.{IsReadyFor, IsTakenBack, IsTrialOf, IsMade, IsPlayed, StandsBeside};
 
 use crate::draft::Draft;
 use crate::edits::counted::is_work_in_range;
@@ -49,38 +43,29 @@ pub(crate) struct Division<'a> {
     pub(crate) source: SourceNo,
 }
 
-/// Divides a face with the rows that come, and takes it back where it breaks a rule. The halves
-/// that leave the two corners, and one half of each ring that passes over, are given.
+/// The halves that leave the two corners between which a division's chain leads, and one half of each
+/// ring that passes over.
+#[derive(Clone, Copy)]
+pub(crate) struct Cut<'a> {
+    pub(crate) start: Half,
+    pub(crate) end: Half,
+    pub(crate) moved: &'a [Half],
+}
+
+/// Divides a face with the rows that come, and takes it back where it breaks a rule.
 pub(crate) fn divide_within_rules<T: Tally>(
     draft: &mut Draft<T>,
     division: &Division<'_>,
+    cut: &Cut<'_>,
     strings: Vec<StringRow>,
     parcel: ParcelRow,
     path: &[Half],
-    start: &Half,
-    end: &Half,
-    moved: &[Half],
     touched: &Touched,
 ) -> Result<(), Refusal>
-    requires tried { IsTried (map_of draft.old) (divided_by division.now) }
-    requires strings { strings.items ≡ strings_across division.now }
-    requires parcel { parcel ≡ parcel_across division.now }
-    requires path { path.now ≡ map_by forward_of division.now.strings.now }
-    requires crossing { HasCrossing (map_of draft.old) draft.old.table.rows division.now start.now
-        end.now moved.now }
-    requires held { HoldsMap draft.old.grid (after (map_of draft.old) (divided_by division.now)) }
-    requires touched { IsTouched (map_of draft.old)
-        (after (map_of draft.old) (divided_by division.now)) (touched_of touched.now) }
-    requires proper { IsProper (map_of draft.old) draft.old.table.rows (kept_at draft.old) }
-    ensures made { OnOk result
-        (map_of draft.new ≡ after (map_of draft.old) (divided_by division.now)) }
-    ensures valid { OnOk result (IsValid (map_of draft.new)) }
-    ensures refused { IfErr result (MayRefuse (map_of draft.old) (divided_by division.now)) }
-    ensures err { OnErr result (map_of draft.new ≡ map_of draft.old) }
-    ensures grid { draft.new.grid ≡ draft.old.grid }
-    ensures proper { IsProper (map_of draft.new) draft.new.table.rows (kept_at draft.new) }
-    ensures work { TakesWork draft.old.table draft.new.table
-        (work_bound (map_of draft.old) (after (map_of draft.old) (divided_by division.now))) }
+    requires ready { IsReadyFor (divided_by division.now) draft.old touched.now }
+    requires comes { ComesAcross (map_of draft.old) draft.old.table.rows division.now cut.now
+        strings.items parcel path.now }
+    ensures { IsPlayed (divided_by division.now) draft.old draft.new result }
 {
     is_work_in_range(&draft.table);
     let (first, rest) = first_and_rest(path);
@@ -94,9 +79,9 @@ pub(crate) fn divide_within_rules<T: Tally>(
         parcel,
         first,
         rest,
-        start,
-        end,
-        moved,
+        &cut.start,
+        &cut.end,
+        cut.moved,
     ) else {
         return Err(Refusal::Memory);
     };
@@ -112,7 +97,7 @@ pub(crate) fn divide_within_rules<T: Tally>(
             division.parcel,
             first,
             rest,
-            moved,
+            cut.moved,
         );
         drop_hidden(draft, path);
         return Err(Refusal::Breaks(rule));
@@ -124,27 +109,16 @@ pub(crate) fn divide_within_rules<T: Tally>(
 pub(crate) fn divide_again<T: Tally>(
     draft: &mut Draft<T>,
     division: &Division<'_>,
+    cut: &Cut<'_>,
     strings: Vec<StringRow>,
     parcel: ParcelRow,
     path: &[Half],
-    start: &Half,
-    end: &Half,
-    moved: &[Half],
 ) -> Result<(), Memory>
     requires tried { IsTried (map_of draft.old) (divided_by division.now) }
-    requires strings { strings.items ≡ strings_across division.now }
-    requires parcel { parcel ≡ parcel_across division.now }
-    requires path { path.now ≡ map_by forward_of division.now.strings.now }
-    requires crossing { HasCrossing (map_of draft.old) draft.old.table.rows division.now start.now
-        end.now moved.now }
+    requires comes { ComesAcross (map_of draft.old) draft.old.table.rows division.now cut.now
+        strings.items parcel path.now }
     requires proper { IsProper (map_of draft.old) draft.old.table.rows (kept_at draft.old) }
-    ensures after { OnOk result
-        (map_of draft.new ≡ after (map_of draft.old) (divided_by division.now)) }
-    ensures err { OnErr result (map_of draft.new ≡ map_of draft.old) }
-    ensures grid { draft.new.grid ≡ draft.old.grid }
-    ensures proper { IsProper (map_of draft.new) draft.new.table.rows (kept_at draft.new) }
-    ensures work { TakesWork draft.old.table draft.new.table
-        (work_bound (map_of draft.old) (after (map_of draft.old) (divided_by division.now))) }
+    ensures { IsMade (divided_by division.now) draft.old draft.new result }
 {
     is_work_in_range(&draft.table);
     let (first, rest) = first_and_rest(path);
@@ -158,28 +132,26 @@ pub(crate) fn divide_again<T: Tally>(
         parcel,
         first,
         rest,
-        start,
-        end,
-        moved,
-    )
+        &cut.start,
+        &cut.end,
+        cut.moved,
+    )?;
+    Ok(())
 }
 
-// What the record of a division tells: the division, the halves that follow the chain's two ends,
-// and one half of each ring that passed over.
+// What the record of a division tells.
 #[derive(Clone, Copy)]
 struct Divided<'a> {
     division: Division<'a>,
-    start: Half,
-    end: Half,
-    moved: &'a [Half],
+    cut: Cut<'a>,
 }
 
 fn division_of(change: &SmallRecord) -> Divided<'_>
     requires { IsOfDivide change.now }
     ensures edit { edit_of change.now ≡ divided_by result.division }
     ensures held { (b : Map) → Holds change.now b → HeldChain (after b (edit_of change.now))
-        (Parcel result.division.parcel) result.division.chain.now result.start result.end
-        result.moved.now }
+        (Parcel result.division.parcel) result.division.chain.now result.cut.start
+        result.cut.end result.cut.moved.now }
 {
     let SmallRecord::Divide {
         face,
@@ -204,9 +176,11 @@ fn division_of(change: &SmallRecord) -> Divided<'_>
             label,
             source: *source,
         },
-        start: *start,
-        end: *end,
-        moved: moved.as_slice(),
+        cut: Cut {
+            start: *start,
+            end: *end,
+            moved: moved.as_slice(),
+        },
     }
 }
 
@@ -218,15 +192,10 @@ fn take_back<T: Tally>(
     moved: &[Half],
 ) -> Result<(), Memory>
     requires path { path.now ≡ map_by forward_of division.now.strings.now }
-    requires made { (m : Map) × IsDividedBy m (map_of draft.old) division.now moved.now }
-    requires proper { IsProper (map_of draft.old) draft.old.table.rows (kept_at draft.old) }
-    ensures before { OnOk result ((m : Map)
-        → IsDividedBy m (map_of draft.old) division.now moved.now → map_of draft.new ≡ m) }
-    ensures err { OnErr result (map_of draft.new ≡ map_of draft.old) }
-    ensures grid { draft.new.grid ≡ draft.old.grid }
-    ensures proper { IsProper (map_of draft.new) draft.new.table.rows (kept_at draft.new) }
-    ensures work { (m : Map) → IsDividedBy m (map_of draft.old) division.now moved.now
-        → TakesWork draft.old.table draft.new.table (work_bound m (map_of draft.old)) }
+    requires beside { StandsBeside (λ m. IsDividedBy m (map_of draft.old) division.now moved.now)
+        draft.old }
+    ensures { IsTakenBack (λ m. IsDividedBy m (map_of draft.old) division.now moved.now)
+        draft.old draft.new result }
 {
     is_work_in_range(&draft.table);
     let (first, rest) = first_and_rest(path);
@@ -254,15 +223,14 @@ pub(crate) fn back_divide<T: Tally>(
 ) -> Result<(), Memory>
     requires division { IsOfDivide change.now }
     requires given { GivesInRange (edit_of change.now) }
-    requires made { (m : Map) × Belongs change.now m (map_of draft.old) }
-    requires proper { IsProper (map_of draft.old) draft.old.table.rows (kept_at draft.old) }
+    requires beside { StandsBeside (λ m. Belongs change.now m (map_of draft.old)) draft.old }
     ensures { IsTakenBack (λ m. Belongs change.now m (map_of draft.old)) draft.old draft.new
         result }
 {
     let alloc = draft.rows.points.allocator();
     let told = division_of(change);
     let path = halves_of(alloc, told.division.strings)?;
-    take_back(draft, &told.division, path.as_slice(), told.moved)
+    take_back(draft, &told.division, path.as_slice(), told.cut.moved)
 }
 
 // The row of a division's parcel.
@@ -285,14 +253,8 @@ pub(crate) fn forward_divide<T: Tally>(
 ) -> Result<(), Memory>
     requires division { IsOfDivide change.now }
     requires given { GivesInRange (edit_of change.now) }
-    requires made { (n : Map) × Belongs change.now (map_of draft.old) n }
-    requires proper { IsProper (map_of draft.old) draft.old.table.rows (kept_at draft.old) }
-    ensures after { OnOk result (map_of draft.new ≡ after (map_of draft.old) (edit_of change.now)) }
-    ensures err { OnErr result (map_of draft.new ≡ map_of draft.old) }
-    ensures grid { draft.new.grid ≡ draft.old.grid }
-    ensures proper { IsProper (map_of draft.new) draft.new.table.rows (kept_at draft.new) }
-    ensures work { TakesWork draft.old.table draft.new.table
-        (work_bound (map_of draft.old) (after (map_of draft.old) (edit_of change.now))) }
+    requires beside { StandsBeside (Belongs change.now (map_of draft.old)) draft.old }
+    ensures { IsMade (edit_of change.now) draft.old draft.new result }
 {
     let alloc = draft.rows.points.allocator();
     let told = division_of(change);
@@ -303,12 +265,10 @@ pub(crate) fn forward_divide<T: Tally>(
     divide_again(
         draft,
         &division,
+        &told.cut,
         strings,
         parcel,
         path.as_slice(),
-        &told.start,
-        &told.end,
-        told.moved,
     )
 }
 
@@ -391,15 +351,18 @@ fn divide_recording<T: Tally>(
         path,
         crossing,
     } = coming;
+    let cut = Cut {
+        start: crossing.start,
+        end: crossing.end,
+        moved: crossing.moved.as_slice(),
+    };
     divide_within_rules(
         draft,
         division,
+        &cut,
         strings,
         parcel,
         path.as_slice(),
-        &crossing.start,
-        &crossing.end,
-        crossing.moved.as_slice(),
         touched,
     )?;
     Ok(record_of_division(

@@ -1,24 +1,16 @@
 //! An enclosure on a map on half-edges: tried, taken back, and made again.
-ghost use Rattle.std.specs.Prelude.{◌≡◌, ◌≤◌, ◌++◌, ◌∷◌, [], length, map as map_by, IfOk, IfErr, OnOk, OnErr};
+ghost use Rattle.std.specs.Prelude.{◌≡◌, ◌≤◌, ◌++◌, ◌∷◌, [], length, map as map_by, IfOk};
 ghost use Rattle.cad_map.specs.Asked.{GivesInRange};
 ghost use Rattle.cad_map.specs.Chain.{start_of};
-ghost use Rattle.cad_map.specs.Costs.{work_bound};
 ghost use Rattle.cad_map.specs.Effects.{after};
-ghost use Rattle.cad_map.specs.Map.{Map};
-ghost use Rattle.cad_map.specs.Outcome.{MayRefuse};
-ghost use Rattle.cad_map.specs.Touched.{IsTouched};
-ghost use Rattle.cad_map.specs.Valid.{IsValid};
 ghost use Rattle.cad_rows.specs.declared.edits.Edit.TheVariants.{Enclose};
 ghost use Rattle.half_table.specs.Half.{forward_of};
 ghost use Rattle.cad_laws.specs.Tried.{IsTried};
-ghost use Rattle.cad_valid.specs.Near.{HoldsMap, touched_of};
 ghost use Rattle.edit_records.specs.declared.record.SmallRecord.TheVariants.{Enclose as EncloseRecord};
-ghost use Rattle.cad_surgery.specs.Enclosures.{LeadsBy, enclosed_by, strings_by, parcel_by};
+ghost use Rattle.cad_surgery.specs.Enclosures.{LeadsBy, ComesRound, enclosed_by, strings_by, parcel_by};
 ghost use Rattle.map_parts.specs.Parts.{map_of, kept_at};
-ghost use Rattle.map_parts.specs.Placed.{AreOfHoles};
 ghost use Rattle.cad_surgery.specs.Proper.{IsProper};
-ghost use Rattle.cad_surgery.specs.Trials.{IsReadyFor, IsTrialOf};
-ghost use Rattle.cad_surgery.specs.Work.{TakesWork};
+ghost use Rattle.cad_surgery.specs.Trials.{IsReadyFor, IsTrialOf, IsMade, IsPlayed, StandsBeside, IsTakenBack};
 
 use crate::draft::Draft;
 use crate::edits::counted::is_work_in_range;
@@ -58,25 +50,10 @@ fn enclose_within_rules<T: Tally>(
     moved: &[Half],
     touched: &Touched,
 ) -> Result<(), Refusal>
-    requires tried { IsTried (map_of draft.old) (enclosed_by enclosure.now) }
-    requires strings { strings.items ≡ strings_by enclosure.now }
-    requires parcel { parcel ≡ parcel_by enclosure.now }
-    requires path { path.now ≡ map_by forward_of enclosure.now.strings.now }
-    requires holes { AreOfHoles (map_of draft.old) draft.old.table.rows enclosure.now.face
-        enclosure.now.points.now moved.now }
-    requires held { HoldsMap draft.old.grid (after (map_of draft.old) (enclosed_by enclosure.now)) }
-    requires touched { IsTouched (map_of draft.old)
-        (after (map_of draft.old) (enclosed_by enclosure.now)) (touched_of touched.now) }
-    requires proper { IsProper (map_of draft.old) draft.old.table.rows (kept_at draft.old) }
-    ensures made { OnOk result
-        (map_of draft.new ≡ after (map_of draft.old) (enclosed_by enclosure.now)) }
-    ensures valid { OnOk result (IsValid (map_of draft.new)) }
-    ensures refused { IfErr result (MayRefuse (map_of draft.old) (enclosed_by enclosure.now)) }
-    ensures err { OnErr result (map_of draft.new ≡ map_of draft.old) }
-    ensures grid { draft.new.grid ≡ draft.old.grid }
-    ensures proper { IsProper (map_of draft.new) draft.new.table.rows (kept_at draft.new) }
-    ensures work { TakesWork draft.old.table draft.new.table
-        (work_bound (map_of draft.old) (after (map_of draft.old) (enclosed_by enclosure.now))) }
+    requires ready { IsReadyFor (enclosed_by enclosure.now) draft.old touched.now }
+    requires comes { ComesRound (map_of draft.old) draft.old.table.rows enclosure.now strings.items
+        parcel path.now moved.now }
+    ensures { IsPlayed (enclosed_by enclosure.now) draft.old draft.new result }
 {
     is_work_in_range(&draft.table);
     let (first, rest) = first_and_rest(path);
@@ -124,19 +101,10 @@ fn enclose_again<T: Tally>(
     moved: &[Half],
 ) -> Result<(), Memory>
     requires tried { IsTried (map_of draft.old) (enclosed_by enclosure.now) }
-    requires strings { strings.items ≡ strings_by enclosure.now }
-    requires parcel { parcel ≡ parcel_by enclosure.now }
-    requires path { path.now ≡ map_by forward_of enclosure.now.strings.now }
-    requires holes { AreOfHoles (map_of draft.old) draft.old.table.rows enclosure.now.face
-        enclosure.now.points.now moved.now }
+    requires comes { ComesRound (map_of draft.old) draft.old.table.rows enclosure.now strings.items
+        parcel path.now moved.now }
     requires proper { IsProper (map_of draft.old) draft.old.table.rows (kept_at draft.old) }
-    ensures after { OnOk result
-        (map_of draft.new ≡ after (map_of draft.old) (enclosed_by enclosure.now)) }
-    ensures err { OnErr result (map_of draft.new ≡ map_of draft.old) }
-    ensures grid { draft.new.grid ≡ draft.old.grid }
-    ensures proper { IsProper (map_of draft.new) draft.new.table.rows (kept_at draft.new) }
-    ensures work { TakesWork draft.old.table draft.new.table
-        (work_bound (map_of draft.old) (after (map_of draft.old) (enclosed_by enclosure.now))) }
+    ensures { IsMade (enclosed_by enclosure.now) draft.old draft.new result }
 {
     is_work_in_range(&draft.table);
     let (first, rest) = first_and_rest(path);
@@ -151,7 +119,8 @@ fn enclose_again<T: Tally>(
         first,
         rest,
         moved,
-    )
+    )?;
+    Ok(())
 }
 
 // Takes an enclosure back, with the halves along its strings.
@@ -163,15 +132,10 @@ fn open_along<T: Tally>(
 ) -> Result<(), Memory>
     requires path { path.now ≡ map_by forward_of enclosure.now.strings.now }
     requires given { GivesInRange (enclosed_by enclosure.now) }
-    requires made { (m : Map) × LeadsBy enclosure.now moved.now m (map_of draft.old) }
-    requires proper { IsProper (map_of draft.old) draft.old.table.rows (kept_at draft.old) }
-    ensures before { OnOk result ((m : Map) → LeadsBy enclosure.now moved.now m (map_of draft.old)
-        → map_of draft.new ≡ m) }
-    ensures err { OnErr result (map_of draft.new ≡ map_of draft.old) }
-    ensures grid { draft.new.grid ≡ draft.old.grid }
-    ensures proper { IsProper (map_of draft.new) draft.new.table.rows (kept_at draft.new) }
-    ensures work { (m : Map) → LeadsBy enclosure.now moved.now m (map_of draft.old)
-        → TakesWork draft.old.table draft.new.table (work_bound m (map_of draft.old)) }
+    requires beside { StandsBeside (λ m. LeadsBy enclosure.now moved.now m (map_of draft.old))
+        draft.old }
+    ensures { IsTakenBack (λ m. LeadsBy enclosure.now moved.now m (map_of draft.old))
+        draft.old draft.new result }
 {
     is_work_in_range(&draft.table);
     let (first, rest) = first_and_rest(path);
@@ -199,15 +163,10 @@ pub(crate) fn back_enclose<T: Tally>(
     moved: &[Half],
 ) -> Result<(), Memory>
     requires given { GivesInRange (enclosed_by enclosure.now) }
-    requires made { (m : Map) × LeadsBy enclosure.now moved.now m (map_of draft.old) }
-    requires proper { IsProper (map_of draft.old) draft.old.table.rows (kept_at draft.old) }
-    ensures before { OnOk result ((m : Map) → LeadsBy enclosure.now moved.now m (map_of draft.old)
-        → map_of draft.new ≡ m) }
-    ensures err { OnErr result (map_of draft.new ≡ map_of draft.old) }
-    ensures grid { draft.new.grid ≡ draft.old.grid }
-    ensures proper { IsProper (map_of draft.new) draft.new.table.rows (kept_at draft.new) }
-    ensures work { (m : Map) → LeadsBy enclosure.now moved.now m (map_of draft.old)
-        → TakesWork draft.old.table draft.new.table (work_bound m (map_of draft.old)) }
+    requires beside { StandsBeside (λ m. LeadsBy enclosure.now moved.now m (map_of draft.old))
+        draft.old }
+    ensures { IsTakenBack (λ m. LeadsBy enclosure.now moved.now m (map_of draft.old))
+        draft.old draft.new result }
 {
     is_work_in_range(&draft.table);
     let path = halves_of(draft.rows.points.allocator(), enclosure.strings)?;
@@ -264,11 +223,8 @@ struct Coming {
 
 fn coming_by<T: Tally>(draft: &Draft<T>, enclosure: &Enclosure<'_>) -> Result<Coming, Memory>
     requires { IsTried (map_of draft.now) (enclosed_by enclosure.now) }
-    ensures strings { IfOk result (λ c. c.strings.items ≡ strings_by enclosure.now) }
-    ensures parcel { IfOk result (λ c. c.parcel ≡ parcel_by enclosure.now) }
-    ensures path { IfOk result (λ c. c.path.items ≡ map_by forward_of enclosure.now.strings.now) }
-    ensures holes { IfOk result (λ c. AreOfHoles (map_of draft.now) draft.now.table.rows
-        enclosure.now.face enclosure.now.points.now c.moved.items) }
+    ensures { IfOk result (λ c. ComesRound (map_of draft.now) draft.now.table.rows enclosure.now
+        c.strings.items c.parcel c.path.items c.moved.items) }
 {
     let alloc = draft.rows.points.allocator();
     let strings = rows_round(alloc, enclosure)?;
@@ -291,13 +247,7 @@ pub(crate) fn forward_enclose<T: Tally>(
 ) -> Result<(), Memory>
     requires tried { IsTried (map_of draft.old) (enclosed_by enclosure.now) }
     requires proper { IsProper (map_of draft.old) draft.old.table.rows (kept_at draft.old) }
-    ensures after { OnOk result
-        (map_of draft.new ≡ after (map_of draft.old) (enclosed_by enclosure.now)) }
-    ensures err { OnErr result (map_of draft.new ≡ map_of draft.old) }
-    ensures grid { draft.new.grid ≡ draft.old.grid }
-    ensures proper { IsProper (map_of draft.new) draft.new.table.rows (kept_at draft.new) }
-    ensures work { TakesWork draft.old.table draft.new.table
-        (work_bound (map_of draft.old) (after (map_of draft.old) (enclosed_by enclosure.now))) }
+    ensures { IsMade (enclosed_by enclosure.now) draft.old draft.new result }
 {
     is_work_in_range(&draft.table);
     let coming = coming_by(draft, enclosure)?;

@@ -1,24 +1,16 @@
 //! A join on a map on half-edges: tried, taken back, and made again.
-ghost use Rattle.std.specs.Prelude.{◌≡◌, ◌∷◌, [], IfOk, IfErr, OnOk, OnErr};
+ghost use Rattle.std.specs.Prelude.{◌≡◌, IfOk};
 ghost use Rattle.cad_map.specs.Asked.{GivesInRange};
-ghost use Rattle.cad_map.specs.Changes.{by_number};
-ghost use Rattle.cad_map.specs.Costs.{work_bound};
 ghost use Rattle.cad_map.specs.Effects.{after};
-ghost use Rattle.cad_map.specs.Map.{Map, strings_at};
-ghost use Rattle.cad_map.specs.Outcome.{MayRefuse};
-ghost use Rattle.cad_map.specs.Touched.{IsTouched};
 ghost use Rattle.cad_map.specs.Valid.{IsValid};
 ghost use Rattle.cad_laws.specs.Joining.{FarEndsAreApart};
 ghost use Rattle.cad_laws.specs.Tried.{IsTried};
 ghost use Rattle.cad_rows.specs.declared.edits.Edit.TheVariants.{Join};
-ghost use Rattle.cad_rows.specs.declared.rows.StringRow.{StringRow as StringOf};
-ghost use Rattle.cad_valid.specs.Near.{HoldsMap, touched_of};
-ghost use Rattle.cad_surgery.specs.Joinings.{IsOfJoin, joining_of, join_record};
+ghost use Rattle.cad_surgery.specs.Joinings.{IsOfJoin, IsJoiningAt, join_record};
 ghost use Rattle.map_parts.specs.Parts.{map_of, kept_at};
 ghost use Rattle.cad_surgery.specs.Proper.{IsProper};
 ghost use Rattle.edit_records.specs.Record.{edit_of, Holds, Belongs};
-ghost use Rattle.cad_surgery.specs.Trials.{IsReadyFor, IsTrialOf};
-ghost use Rattle.cad_surgery.specs.Work.{TakesWork};
+ghost use Rattle.cad_surgery.specs.Trials.{IsReadyFor, IsTrialOf, IsMade, IsPlayed, StandsBeside, IsTakenBack};
 
 use crate::draft::Draft;
 use crate::edits::counted::is_work_in_range;
@@ -38,25 +30,12 @@ fn join_within_rules<T: Tally>(
     joining: Joining,
     touched: &Touched,
 ) -> Result<JoinedRows, Refusal>
-    requires tried { IsTried (map_of draft.old) (Join point joining.row.number) }
+    requires ready { IsReadyFor (Join point joining.row.number) draft.old touched.now }
     requires apart { FarEndsAreApart (map_of draft.old) (Join point joining.row.number) }
-    requires rows { (s t : StringOf) → by_number (strings_at (map_of draft.old) point) ≡ s ∷ t ∷ []
-        → joining ≡ joining_of point joining.row.number s t }
-    requires held { HoldsMap draft.old.grid (after (map_of draft.old) (Join point joining.row.number)) }
-    requires touched { IsTouched (map_of draft.old)
-        (after (map_of draft.old) (Join point joining.row.number)) (touched_of touched.now) }
-    requires proper { IsProper (map_of draft.old) draft.old.table.rows (kept_at draft.old) }
-    ensures made { OnOk result (map_of draft.new
-        ≡ after (map_of draft.old) (Join point joining.row.number)) }
-    ensures valid { OnOk result (IsValid (map_of draft.new)) }
+    requires rows { IsJoiningAt (map_of draft.old) point joining }
+    ensures played { IsPlayed (Join point joining.row.number) draft.old draft.new result }
     ensures point { IfOk result (λ r. r.point.number ≡ point) }
     ensures holds { IfOk result (λ r. Holds (join_record r joining.row.number) (map_of draft.old)) }
-    ensures refused { IfErr result (MayRefuse (map_of draft.old) (Join point joining.row.number)) }
-    ensures err { OnErr result (map_of draft.new ≡ map_of draft.old) }
-    ensures grid { draft.new.grid ≡ draft.old.grid }
-    ensures proper { IsProper (map_of draft.new) draft.new.table.rows (kept_at draft.new) }
-    ensures work { TakesWork draft.old.table draft.new.table
-        (work_bound (map_of draft.old) (after (map_of draft.old) (Join point joining.row.number))) }
 {
     is_work_in_range(&draft.table);
     let Joining { first, second, row } = joining;
@@ -166,15 +145,9 @@ fn rows_of_join(change: &SmallRecord) -> Result<(JoinedRows, StringNo), Memory>
 pub(crate) fn back_join<T: Tally>(draft: &mut Draft<T>, change: &SmallRecord) -> Result<(), Memory>
     requires join { IsOfJoin change.now }
     requires given { GivesInRange (edit_of change.now) }
-    requires made { (m : Map) × Belongs change.now m (map_of draft.old) }
-    requires proper { IsProper (map_of draft.old) draft.old.table.rows (kept_at draft.old) }
-    ensures before { OnOk result ((m : Map) → Belongs change.now m (map_of draft.old)
-        → map_of draft.new ≡ m) }
-    ensures err { OnErr result (map_of draft.new ≡ map_of draft.old) }
-    ensures grid { draft.new.grid ≡ draft.old.grid }
-    ensures proper { IsProper (map_of draft.new) draft.new.table.rows (kept_at draft.new) }
-    ensures work { (m : Map) → Belongs change.now m (map_of draft.old)
-        → TakesWork draft.old.table draft.new.table (work_bound m (map_of draft.old)) }
+    requires beside { StandsBeside (λ m. Belongs change.now m (map_of draft.old)) draft.old }
+    ensures { IsTakenBack (λ m. Belongs change.now m (map_of draft.old))
+        draft.old draft.new result }
 {
     is_work_in_range(&draft.table);
     let (joined, string) = rows_of_join(change)?;
@@ -198,16 +171,9 @@ fn join_again<T: Tally>(
 ) -> Result<(), Memory>
     requires tried { IsTried (map_of draft.old) (Join point joining.row.number) }
     requires apart { FarEndsAreApart (map_of draft.old) (Join point joining.row.number) }
-    requires rows { (s t : StringOf) → by_number (strings_at (map_of draft.old) point) ≡ s ∷ t ∷ []
-        → joining ≡ joining_of point joining.row.number s t }
+    requires rows { IsJoiningAt (map_of draft.old) point joining }
     requires proper { IsProper (map_of draft.old) draft.old.table.rows (kept_at draft.old) }
-    ensures after { OnOk result (map_of draft.new
-        ≡ after (map_of draft.old) (Join point joining.row.number)) }
-    ensures err { OnErr result (map_of draft.new ≡ map_of draft.old) }
-    ensures grid { draft.new.grid ≡ draft.old.grid }
-    ensures proper { IsProper (map_of draft.new) draft.new.table.rows (kept_at draft.new) }
-    ensures work { TakesWork draft.old.table draft.new.table
-        (work_bound (map_of draft.old) (after (map_of draft.old) (Join point joining.row.number))) }
+    ensures { IsMade (Join point joining.row.number) draft.old draft.new result }
 {
     is_work_in_range(&draft.table);
     let joined = begin_join(
@@ -235,12 +201,7 @@ pub(crate) fn forward_join<T: Tally>(
     requires tried { IsTried (map_of draft.old) (Join point string) }
     requires leads { IsValid (after (map_of draft.old) (Join point string)) }
     requires proper { IsProper (map_of draft.old) draft.old.table.rows (kept_at draft.old) }
-    ensures after { OnOk result (map_of draft.new ≡ after (map_of draft.old) (Join point string)) }
-    ensures err { OnErr result (map_of draft.new ≡ map_of draft.old) }
-    ensures grid { draft.new.grid ≡ draft.old.grid }
-    ensures proper { IsProper (map_of draft.new) draft.new.table.rows (kept_at draft.new) }
-    ensures work { TakesWork draft.old.table draft.new.table
-        (work_bound (map_of draft.old) (after (map_of draft.old) (Join point string))) }
+    ensures { IsMade (Join point string) draft.old draft.new result }
 {
     let joining = joining_at(draft, point, string)?;
     join_again(draft, point, joining)

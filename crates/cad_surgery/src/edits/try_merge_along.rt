@@ -1,38 +1,32 @@
 //! A merger along a chain on a map on half-edges: made, taken back where it breaks a rule, and taken
 //! back and made again by its record.
-ghost use Rattle.std.specs.Prelude.{◌≡◌, ◌<◌, ◌≤◌, ◌+◌, ◌∷◌, [], Some, length, slice_get};
+ghost use Rattle.std.specs.Prelude.{◌≡◌, ◌<◌, ◌≤◌, ◌+◌, [], Some, length};
 ghost use Rattle.std.specs.Prelude.{map as map_by};
 ghost use Rattle.std.specs.Vec.{vec_len, vec_capacity};
-ghost use Rattle.std.specs.Prelude.{IfOk, IfErr, OnOk, OnErr};
+ghost use Rattle.std.specs.Prelude.{IfOk};
 ghost use Rattle.cad_rows.specs.declared.edits.Edit.TheVariants.{Merge};
 ghost use Rattle.cad_rows.specs.declared.names.Face.TheVariants.{Parcel};
 ghost use Rattle.cad_map.specs.Asked.{GivesInRange};
-ghost use Rattle.cad_map.specs.Costs.{work_bound};
 ghost use Rattle.cad_map.specs.Effects.{after};
 ghost use Rattle.cad_map.specs.Map.{Map};
-ghost use Rattle.cad_map.specs.Outcome.{MayRefuse};
 ghost use Rattle.cad_map.specs.SharedChains.{IsSharedChain};
 ghost use Rattle.cad_map.specs.declared.shared_chain.SharedChain.TheVariants.{Along};
-ghost use Rattle.cad_map.specs.Touched.{IsTouched};
-ghost use Rattle.cad_map.specs.Valid.{IsValid};
 ghost use Rattle.half_paths.specs.Path.{strings_of};
-ghost use Rattle.cad_valid.specs.Near.{HoldsMap, touched_of};
 ghost use Rattle.cad_laws.specs.Tried.{IsTried};
-ghost use Rattle.cad_surgery.specs.Mergers.{HasFoundPath, HasSharedPath, IsMergedBy, IsOfMergeAlong};
+ghost use Rattle.cad_surgery.specs.Mergers.{HasFoundPath, HasSharedPath, IsMergedBy, IsOfMergeAlong, WentAlong};
 ghost use Rattle.cad_surgery.specs.Mergers.{halves_of, merged_by};
 ghost use Rattle.cad_surgery.specs.Proper.{IsProper};
-ghost use Rattle.cad_surgery.specs.Trials.{IsReadyFor, IsTakenBack, IsTrialOf};
-ghost use Rattle.cad_surgery.specs.Work.{TakesWork};
+ghost use Rattle.cad_surgery.specs.Trials.{IsReadyFor, IsTakenBack, IsTrialOf, IsMade, IsPlayed, StandsBeside};
 ghost use Rattle.edit_records.specs.HeldChains.{row_between, rows_along};
 ghost use Rattle.edit_records.specs.Record.{edit_of, Holds, Belongs, HeldMergedAlong};
 ghost use Rattle.edit_records.specs.declared.record.SmallRecord.TheVariants.{MergeAlong as MergeAlongRecord};
-ghost use Rattle.map_parts.specs.Merging.{rows_gone};
+ghost use Rattle.map_parts.specs.Merging.{HaveGone, rows_gone};
 ghost use Rattle.map_parts.specs.Parts.{map_of, kept_at};
-ghost use Rattle.map_parts.specs.PlacedStrings.{numbers_placed, StoodIn};
 
 use crate::draft::Draft;
 use crate::edits::chain_strings::chain_strings;
 use crate::edits::counted::is_work_in_range;
+use crate::edits::given::first_and_rest;
 use crate::edits::hidden::drop_hidden;
 use crate::edits::shared_path::{SharedPath, shared_path};
 use cad_rows::{Face, Memory, Numbers, ParcelNo, ParcelRow, PointNo, Refusal, StringNo, StringRow};
@@ -55,14 +49,6 @@ pub(crate) struct Merger<'a> {
     pub(crate) moved: &'a [Half],
 }
 
-// The first half of a path, and the others.
-fn first_and_rest(path: &[Half]) -> (&Half, &[Half])
-    requires { 0 < length path.now }
-    ensures { path.now ≡ result.0.now ∷ result.1.now }
-{
-    (&path[0], &path[1..])
-}
-
 /// Merges a parcel into a face along their chain, and takes it back where it breaks a rule. Gives
 /// what went.
 pub(crate) fn merge_along_within_rules<T: Tally>(
@@ -73,23 +59,10 @@ pub(crate) fn merge_along_within_rules<T: Tally>(
     requires path { HasSharedPath (map_of draft.old) draft.old.table.rows merger.now.kept
         merger.now.ended merger.now.path.now merger.now.start merger.now.end merger.now.moved.now }
     requires strings { merger.now.strings.now ≡ strings_of merger.now.path.now }
-    requires held { HoldsMap draft.old.grid (after (map_of draft.old) (merged_by merger.now)) }
-    requires touched { IsTouched (map_of draft.old)
-        (after (map_of draft.old) (merged_by merger.now)) (touched_of touched.now) }
-    requires proper { IsProper (map_of draft.old) draft.old.table.rows (kept_at draft.old) }
-    ensures made { OnOk result (map_of draft.new ≡ after (map_of draft.old) (merged_by merger.now)) }
-    ensures valid { OnOk result (IsValid (map_of draft.new)) }
-    ensures row { IfOk result (λ r. slice_get (map_of draft.old).parcels r.place ≡ Some r.row) }
-    ensures number { IfOk result (λ r. r.row.number ≡ merger.now.ended) }
-    ensures gone { IfOk result
-        (λ r. numbers_placed r.strings.items ≡ strings_of merger.now.path.now) }
-    ensures stood { IfOk result (λ r. StoodIn (map_of draft.old).strings r.strings.items) }
-    ensures refused { IfErr result (MayRefuse (map_of draft.old) (merged_by merger.now)) }
-    ensures err { OnErr result (map_of draft.new ≡ map_of draft.old) }
-    ensures grid { draft.new.grid ≡ draft.old.grid }
-    ensures proper { IsProper (map_of draft.new) draft.new.table.rows (kept_at draft.new) }
-    ensures work { TakesWork draft.old.table draft.new.table
-        (work_bound (map_of draft.old) (after (map_of draft.old) (merged_by merger.now))) }
+    requires ready { IsReadyFor (merged_by merger.now) draft.old touched.now }
+    ensures played { IsPlayed (merged_by merger.now) draft.old draft.new result }
+    ensures gone { IfOk result (λ r. HaveGone (map_of draft.old) merger.now.ended
+        merger.now.strings.now r.row r.place r.strings.items) }
 {
     is_work_in_range(&draft.table);
     let (first, rest) = first_and_rest(merger.path);
@@ -248,12 +221,7 @@ fn merge_along_again<T: Tally>(draft: &mut Draft<T>, merger: &Merger<'_>) -> Res
         merger.now.ended merger.now.path.now merger.now.start merger.now.end merger.now.moved.now }
     requires strings { merger.now.strings.now ≡ strings_of merger.now.path.now }
     requires proper { IsProper (map_of draft.old) draft.old.table.rows (kept_at draft.old) }
-    ensures after { OnOk result (map_of draft.new ≡ after (map_of draft.old) (merged_by merger.now)) }
-    ensures err { OnErr result (map_of draft.new ≡ map_of draft.old) }
-    ensures grid { draft.new.grid ≡ draft.old.grid }
-    ensures proper { IsProper (map_of draft.new) draft.new.table.rows (kept_at draft.new) }
-    ensures work { TakesWork draft.old.table draft.new.table
-        (work_bound (map_of draft.old) (after (map_of draft.old) (merged_by merger.now))) }
+    ensures { IsMade (merged_by merger.now) draft.old draft.new result }
 {
     is_work_in_range(&draft.table);
     let (first, rest) = first_and_rest(merger.path);
@@ -347,14 +315,8 @@ pub(crate) fn forward_merge_along<T: Tally>(
 ) -> Result<(), Memory>
     requires merger { IsOfMergeAlong change.now }
     requires given { GivesInRange (edit_of change.now) }
-    requires made { (n : Map) × Belongs change.now (map_of draft.old) n }
-    requires proper { IsProper (map_of draft.old) draft.old.table.rows (kept_at draft.old) }
-    ensures after { OnOk result (map_of draft.new ≡ after (map_of draft.old) (edit_of change.now)) }
-    ensures err { OnErr result (map_of draft.new ≡ map_of draft.old) }
-    ensures grid { draft.new.grid ≡ draft.old.grid }
-    ensures proper { IsProper (map_of draft.new) draft.new.table.rows (kept_at draft.new) }
-    ensures work { TakesWork draft.old.table draft.new.table
-        (work_bound (map_of draft.old) (after (map_of draft.old) (edit_of change.now))) }
+    requires beside { StandsBeside (Belongs change.now (map_of draft.old)) draft.old }
+    ensures { IsMade (edit_of change.now) draft.old draft.new result }
 {
     let alloc = draft.rows.points.allocator();
     let told = merger_of(change);
@@ -426,12 +388,7 @@ pub(crate) fn ended_by(
     chain: &[PointNo],
 ) -> Result<EndedParcel, Memory>
     requires { length chain.now ≡ length strings.now + 1 }
-    ensures row { IfOk result (λ e. e.row ≡ row.now) }
-    ensures place { IfOk result (λ e. e.place ≡ place) }
-    ensures rows { IfOk result
-        (λ e. rows_gone e.strings.items ≡ rows_along strings.now chain.now) }
-    ensures places { IfOk result (λ e. map_by (λ g. g.place) e.strings.items
-        ≡ map_by (λ s. s.place) strings.now) }
+    ensures { IfOk result (WentAlong row.now place strings.now chain.now) }
 {
     let strings = strings_back(alloc, strings, chain)?;
     let row = row.copy()?;
@@ -450,21 +407,11 @@ fn unmerge_with<T: Tally>(
     gone: EndedParcel,
 ) -> Result<(), Memory>
     requires path { path.now ≡ halves_of told.now.strings.now }
-    requires row { gone.row ≡ told.now.row.now }
-    requires place { gone.place ≡ told.now.place }
-    requires rows { rows_gone gone.strings.items
-        ≡ rows_along told.now.strings.now told.now.chain.now }
-    requires places { map_by (λ g. g.place) gone.strings.items
-        ≡ map_by (λ s. s.place) told.now.strings.now }
-    requires made { (m : Map) × IsMergedBy m (map_of draft.old) told.now }
-    requires proper { IsProper (map_of draft.old) draft.old.table.rows (kept_at draft.old) }
-    ensures before { OnOk result ((m : Map) → IsMergedBy m (map_of draft.old) told.now
-        → map_of draft.new ≡ m) }
-    ensures err { OnErr result (map_of draft.new ≡ map_of draft.old) }
-    ensures grid { draft.new.grid ≡ draft.old.grid }
-    ensures proper { IsProper (map_of draft.new) draft.new.table.rows (kept_at draft.new) }
-    ensures work { (m : Map) → IsMergedBy m (map_of draft.old) told.now
-        → TakesWork draft.old.table draft.new.table (work_bound m (map_of draft.old)) }
+    requires gone { WentAlong told.now.row.now told.now.place told.now.strings.now
+        told.now.chain.now gone }
+    requires beside { StandsBeside (λ m. IsMergedBy m (map_of draft.old) told.now) draft.old }
+    ensures { IsTakenBack (λ m. IsMergedBy m (map_of draft.old) told.now)
+        draft.old draft.new result }
 {
     is_work_in_range(&draft.table);
     let (first, rest) = first_and_rest(path);
@@ -492,8 +439,7 @@ pub(crate) fn back_merge_along<T: Tally>(
 ) -> Result<(), Memory>
     requires merger { IsOfMergeAlong change.now }
     requires given { GivesInRange (edit_of change.now) }
-    requires made { (m : Map) × Belongs change.now m (map_of draft.old) }
-    requires proper { IsProper (map_of draft.old) draft.old.table.rows (kept_at draft.old) }
+    requires beside { StandsBeside (λ m. Belongs change.now m (map_of draft.old)) draft.old }
     ensures { IsTakenBack (λ m. Belongs change.now m (map_of draft.old)) draft.old draft.new
         result }
 {

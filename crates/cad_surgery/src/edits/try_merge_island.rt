@@ -1,37 +1,31 @@
 //! A merger round an island on a map on half-edges: tried, taken back where it breaks a rule, and
 //! taken back and made again by its record.
-ghost use Rattle.std.specs.Prelude.{◌≡◌, ◌<◌, ◌≤◌, ◌+◌, ◌∷◌, [], Some, length, slice_get, map as map_by, IfOk, IfErr, OnOk, OnErr};
+ghost use Rattle.std.specs.Prelude.{◌≡◌, ◌<◌, ◌≤◌, ◌+◌, [], Some, length, map as map_by, IfOk};
 ghost use Rattle.std.specs.Vec.{vec_len, vec_capacity};
 ghost use Rattle.cad_map.specs.Asked.{GivesInRange};
-ghost use Rattle.cad_map.specs.Costs.{work_bound};
 ghost use Rattle.cad_map.specs.Effects.{after};
 ghost use Rattle.cad_map.specs.Map.{Map};
-ghost use Rattle.cad_map.specs.Outcome.{MayRefuse};
 ghost use Rattle.cad_map.specs.SharedChains.{IsSharedChain};
 ghost use Rattle.cad_map.specs.declared.shared_chain.SharedChain.TheVariants.{Around};
-ghost use Rattle.cad_map.specs.Touched.{IsTouched};
-ghost use Rattle.cad_map.specs.Valid.{IsValid};
 ghost use Rattle.cad_rows.specs.declared.edits.Edit.TheVariants.{Merge};
 ghost use Rattle.cad_rows.specs.declared.names.Face.TheVariants.{Parcel};
-ghost use Rattle.edit_records.specs.HeldChains.{closed, rows_along};
+ghost use Rattle.edit_records.specs.HeldChains.{closed};
 ghost use Rattle.edit_records.specs.Record.{edit_of, Holds, Belongs, HeldMergedIsland};
 ghost use Rattle.edit_records.specs.declared.record.SmallRecord.TheVariants.{MergeIsland as MergeIslandRecord};
 ghost use Rattle.half_table.specs.Rows.{origin_of};
 ghost use Rattle.half_paths.specs.Path.{AreIn, strings_of};
 ghost use Rattle.cad_laws.specs.Tried.{IsTried};
-ghost use Rattle.cad_valid.specs.Near.{HoldsMap, touched_of};
 ghost use Rattle.cad_surgery.specs.IslandMergers.{HasSharedRing, IsMergedRound, IsOfMergeIsland, merged_round};
-ghost use Rattle.cad_surgery.specs.Mergers.{halves_of};
+ghost use Rattle.cad_surgery.specs.Mergers.{WentAlong, halves_of};
 ghost use Rattle.cad_surgery.specs.Proper.{IsProper};
-ghost use Rattle.cad_surgery.specs.Trials.{IsReadyFor, IsTakenBack, IsTrialOf};
-ghost use Rattle.cad_surgery.specs.Work.{TakesWork};
-ghost use Rattle.map_parts.specs.Merging.{rows_gone};
+ghost use Rattle.cad_surgery.specs.Trials.{IsReadyFor, IsTakenBack, IsTrialOf, IsMade, IsPlayed, StandsBeside};
+ghost use Rattle.map_parts.specs.Merging.{HaveGone};
 ghost use Rattle.map_parts.specs.Parts.{map_of, kept_at};
-ghost use Rattle.map_parts.specs.PlacedStrings.{numbers_placed, StoodIn};
 
 use crate::draft::Draft;
 use crate::edits::chain_strings::chain_strings;
 use crate::edits::counted::is_work_in_range;
+use crate::edits::given::first_and_rest;
 use crate::edits::hidden::drop_hidden;
 use crate::edits::shared_ring::{SharedRing, shared_ring};
 use crate::edits::try_merge_along::{ended_by, numbers_of, path_of};
@@ -53,14 +47,6 @@ pub(crate) struct IslandMerger<'a> {
     pub(crate) moved: &'a [Half],
 }
 
-// The first half of a path, and the others.
-fn first_and_rest(path: &[Half]) -> (&Half, &[Half])
-    requires { 0 < length path.now }
-    ensures { path.now ≡ result.0.now ∷ result.1.now }
-{
-    (&path[0], &path[1..])
-}
-
 /// Merges a parcel into a face round the ring that they share, and takes it back where it breaks a
 /// rule. Gives what went.
 pub(crate) fn merge_island_within_rules<T: Tally>(
@@ -71,23 +57,10 @@ pub(crate) fn merge_island_within_rules<T: Tally>(
     requires ring { HasSharedRing (map_of draft.old) draft.old.table.rows merger.now.kept
         merger.now.ended merger.now.path.now merger.now.moved.now }
     requires strings { merger.now.strings.now ≡ strings_of merger.now.path.now }
-    requires held { HoldsMap draft.old.grid (after (map_of draft.old) (merged_round merger.now)) }
-    requires touched { IsTouched (map_of draft.old)
-        (after (map_of draft.old) (merged_round merger.now)) (touched_of touched.now) }
-    requires proper { IsProper (map_of draft.old) draft.old.table.rows (kept_at draft.old) }
-    ensures made { OnOk result (map_of draft.new ≡ after (map_of draft.old) (merged_round merger.now)) }
-    ensures valid { OnOk result (IsValid (map_of draft.new)) }
-    ensures row { IfOk result (λ r. slice_get (map_of draft.old).parcels r.place ≡ Some r.row) }
-    ensures number { IfOk result (λ r. r.row.number ≡ merger.now.ended) }
-    ensures gone { IfOk result
-        (λ r. numbers_placed r.strings.items ≡ strings_of merger.now.path.now) }
-    ensures stood { IfOk result (λ r. StoodIn (map_of draft.old).strings r.strings.items) }
-    ensures refused { IfErr result (MayRefuse (map_of draft.old) (merged_round merger.now)) }
-    ensures err { OnErr result (map_of draft.new ≡ map_of draft.old) }
-    ensures grid { draft.new.grid ≡ draft.old.grid }
-    ensures proper { IsProper (map_of draft.new) draft.new.table.rows (kept_at draft.new) }
-    ensures work { TakesWork draft.old.table draft.new.table
-        (work_bound (map_of draft.old) (after (map_of draft.old) (merged_round merger.now))) }
+    requires ready { IsReadyFor (merged_round merger.now) draft.old touched.now }
+    ensures played { IsPlayed (merged_round merger.now) draft.old draft.new result }
+    ensures gone { IfOk result (λ r. HaveGone (map_of draft.old) merger.now.ended
+        merger.now.strings.now r.row r.place r.strings.items) }
 {
     is_work_in_range(&draft.table);
     let (first, rest) = first_and_rest(merger.path);
@@ -141,12 +114,7 @@ fn merge_island_again<T: Tally>(
         merger.now.ended merger.now.path.now merger.now.moved.now }
     requires strings { merger.now.strings.now ≡ strings_of merger.now.path.now }
     requires proper { IsProper (map_of draft.old) draft.old.table.rows (kept_at draft.old) }
-    ensures after { OnOk result (map_of draft.new ≡ after (map_of draft.old) (merged_round merger.now)) }
-    ensures err { OnErr result (map_of draft.new ≡ map_of draft.old) }
-    ensures grid { draft.new.grid ≡ draft.old.grid }
-    ensures proper { IsProper (map_of draft.new) draft.new.table.rows (kept_at draft.new) }
-    ensures work { TakesWork draft.old.table draft.new.table
-        (work_bound (map_of draft.old) (after (map_of draft.old) (merged_round merger.now))) }
+    ensures { IsMade (merged_round merger.now) draft.old draft.new result }
 {
     is_work_in_range(&draft.table);
     let (first, rest) = first_and_rest(merger.path);
@@ -223,21 +191,11 @@ fn unmerge_round_with<T: Tally>(
     gone: EndedParcel,
 ) -> Result<(), Memory>
     requires path { path.now ≡ halves_of told.now.strings.now }
-    requires row { gone.row ≡ told.now.row.now }
-    requires place { gone.place ≡ told.now.place }
-    requires rows { rows_gone gone.strings.items
-        ≡ rows_along told.now.strings.now (closed told.now.points.now) }
-    requires places { map_by (λ g. g.place) gone.strings.items
-        ≡ map_by (λ s. s.place) told.now.strings.now }
-    requires made { (m : Map) × IsMergedRound m (map_of draft.old) told.now }
-    requires proper { IsProper (map_of draft.old) draft.old.table.rows (kept_at draft.old) }
-    ensures before { OnOk result ((m : Map) → IsMergedRound m (map_of draft.old) told.now
-        → map_of draft.new ≡ m) }
-    ensures err { OnErr result (map_of draft.new ≡ map_of draft.old) }
-    ensures grid { draft.new.grid ≡ draft.old.grid }
-    ensures proper { IsProper (map_of draft.new) draft.new.table.rows (kept_at draft.new) }
-    ensures work { (m : Map) → IsMergedRound m (map_of draft.old) told.now
-        → TakesWork draft.old.table draft.new.table (work_bound m (map_of draft.old)) }
+    requires gone { WentAlong told.now.row.now told.now.place told.now.strings.now
+        (closed told.now.points.now) gone }
+    requires beside { StandsBeside (λ m. IsMergedRound m (map_of draft.old) told.now) draft.old }
+    ensures { IsTakenBack (λ m. IsMergedRound m (map_of draft.old) told.now)
+        draft.old draft.new result }
 {
     is_work_in_range(&draft.table);
     let (first, rest) = first_and_rest(path);
@@ -263,8 +221,7 @@ pub(crate) fn back_merge_island<T: Tally>(
 ) -> Result<(), Memory>
     requires merger { IsOfMergeIsland change.now }
     requires given { GivesInRange (edit_of change.now) }
-    requires made { (m : Map) × Belongs change.now m (map_of draft.old) }
-    requires proper { IsProper (map_of draft.old) draft.old.table.rows (kept_at draft.old) }
+    requires beside { StandsBeside (λ m. Belongs change.now m (map_of draft.old)) draft.old }
     ensures { IsTakenBack (λ m. Belongs change.now m (map_of draft.old)) draft.old draft.new
         result }
 {
@@ -285,14 +242,8 @@ pub(crate) fn forward_merge_island<T: Tally>(
 ) -> Result<(), Memory>
     requires merger { IsOfMergeIsland change.now }
     requires given { GivesInRange (edit_of change.now) }
-    requires made { (n : Map) × Belongs change.now (map_of draft.old) n }
-    requires proper { IsProper (map_of draft.old) draft.old.table.rows (kept_at draft.old) }
-    ensures after { OnOk result (map_of draft.new ≡ after (map_of draft.old) (edit_of change.now)) }
-    ensures err { OnErr result (map_of draft.new ≡ map_of draft.old) }
-    ensures grid { draft.new.grid ≡ draft.old.grid }
-    ensures proper { IsProper (map_of draft.new) draft.new.table.rows (kept_at draft.new) }
-    ensures work { TakesWork draft.old.table draft.new.table
-        (work_bound (map_of draft.old) (after (map_of draft.old) (edit_of change.now))) }
+    requires beside { StandsBeside (Belongs change.now (map_of draft.old)) draft.old }
+    ensures { IsMade (edit_of change.now) draft.old draft.new result }
 {
     let alloc = draft.rows.points.allocator();
     let told = merger_of(change);

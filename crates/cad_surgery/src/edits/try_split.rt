@@ -1,22 +1,15 @@
 //! A split on a map on half-edges: tried, taken back, and made again.
-ghost use Rattle.std.specs.Prelude.{◌≡◌, Some, IsSome, slice_get, IfOk, IfErr, OnOk, OnErr};
+ghost use Rattle.std.specs.Prelude.{◌≡◌, Some, IsSome, slice_get, IfOk};
 ghost use Rattle.cad_map.specs.Asked.{GivesInRange};
-ghost use Rattle.cad_map.specs.Costs.{work_bound};
 ghost use Rattle.cad_map.specs.Effects.{after};
-ghost use Rattle.cad_map.specs.Map.{Map, string_of};
-ghost use Rattle.cad_map.specs.Outcome.{MayRefuse};
-ghost use Rattle.cad_map.specs.Touched.{IsTouched};
-ghost use Rattle.cad_map.specs.Valid.{IsValid};
+ghost use Rattle.cad_map.specs.Map.{string_of};
 ghost use Rattle.cad_laws.specs.Tried.{IsTried};
 ghost use Rattle.cad_rows.specs.declared.rows.StringRow.{StringRow as StringRowOf};
-ghost use Rattle.cad_valid.specs.Near.{HoldsMap, touched_of};
 ghost use Rattle.map_parts.specs.Parts.{map_of, kept_at};
 ghost use Rattle.cad_surgery.specs.Proper.{IsProper};
-ghost use Rattle.edit_records.specs.Record.{IsMadeOf};
 ghost use Rattle.map_parts.specs.Rows.{map_in};
-ghost use Rattle.cad_surgery.specs.Halvings.{split_by, split_record, split_rows};
-ghost use Rattle.cad_surgery.specs.Trials.{IsReadyFor, IsTrialOf};
-ghost use Rattle.cad_surgery.specs.Work.{TakesWork};
+ghost use Rattle.cad_surgery.specs.Halvings.{IsSplitFrom, split_by, split_rows};
+ghost use Rattle.cad_surgery.specs.Trials.{IsReadyFor, IsTrialOf, IsMade, IsPlayed, StandsBeside, IsTakenBack};
 
 use crate::draft::Draft;
 use crate::edits::counted::is_work_in_range;
@@ -82,25 +75,12 @@ fn split_within_rules<T: Tally>(
     coming: SplitRows,
     touched: &Touched,
 ) -> Result<(usize, StringRow), Refusal>
-    requires tried { IsTried (map_of draft.old) (split_by string halving.now) }
+    requires ready { IsReadyFor (split_by string halving.now) draft.old touched.now }
     requires rows { (row : StringRowOf) → string_of (map_of draft.old) string ≡ Some row
         → coming ≡ split_rows row halving.now }
-    requires held { HoldsMap draft.old.grid
-        (after (map_of draft.old) (split_by string halving.now)) }
-    requires touched { IsTouched (map_of draft.old)
-        (after (map_of draft.old) (split_by string halving.now)) (touched_of touched.now) }
-    requires proper { IsProper (map_of draft.old) draft.old.table.rows (kept_at draft.old) }
-    ensures made { OnOk result (map_of draft.new
-        ≡ after (map_of draft.old) (split_by string halving.now)) }
-    ensures valid { OnOk result (IsValid (map_of draft.new)) }
+    ensures played { IsPlayed (split_by string halving.now) draft.old draft.new result }
     ensures row { IfOk result (λ r. slice_get (map_of draft.old).strings r.0 ≡ Some r.1) }
     ensures found { IfOk result (λ r. string_of (map_of draft.old) string ≡ Some r.1) }
-    ensures refused { IfErr result (MayRefuse (map_of draft.old) (split_by string halving.now)) }
-    ensures err { OnErr result (map_of draft.new ≡ map_of draft.old) }
-    ensures grid { draft.new.grid ≡ draft.old.grid }
-    ensures proper { IsProper (map_of draft.new) draft.new.table.rows (kept_at draft.new) }
-    ensures work { TakesWork draft.old.table draft.new.table
-        (work_bound (map_of draft.old) (after (map_of draft.old) (split_by string halving.now))) }
 {
     is_work_in_range(&draft.table);
     let Ok((place, row)) = begin_split(
@@ -168,17 +148,10 @@ pub(crate) fn back_split<T: Tally>(
     halving: &Halving,
 ) -> Result<(), Memory>
     requires given { GivesInRange (split_by row.now.number halving.now) }
-    requires made { (m : Map) × IsMadeOf (split_record row.now place halving.now) m
-        × (map_of draft.old ≡ after m (split_by row.now.number halving.now)) }
-    requires proper { IsProper (map_of draft.old) draft.old.table.rows (kept_at draft.old) }
-    ensures before { OnOk result ((m : Map) → IsMadeOf (split_record row.now place halving.now) m
-        → map_of draft.old ≡ after m (split_by row.now.number halving.now) → map_of draft.new ≡ m) }
-    ensures err { OnErr result (map_of draft.new ≡ map_of draft.old) }
-    ensures grid { draft.new.grid ≡ draft.old.grid }
-    ensures proper { IsProper (map_of draft.new) draft.new.table.rows (kept_at draft.new) }
-    ensures work { (m : Map) → IsMadeOf (split_record row.now place halving.now) m
-        → map_of draft.old ≡ after m (split_by row.now.number halving.now)
-        → TakesWork draft.old.table draft.new.table (work_bound m (map_of draft.old)) }
+    requires beside { StandsBeside (IsSplitFrom row.now place halving.now (map_of draft.old))
+        draft.old }
+    ensures { IsTakenBack (IsSplitFrom row.now place halving.now (map_of draft.old)) draft.old
+        draft.new result }
 {
     is_work_in_range(&draft.table);
     begin_unsplit(
@@ -204,13 +177,7 @@ pub(crate) fn forward_split<T: Tally>(
 ) -> Result<(), Memory>
     requires tried { IsTried (map_of draft.old) (split_by string halving.now) }
     requires proper { IsProper (map_of draft.old) draft.old.table.rows (kept_at draft.old) }
-    ensures after { OnOk result (map_of draft.new
-        ≡ after (map_of draft.old) (split_by string halving.now)) }
-    ensures err { OnErr result (map_of draft.new ≡ map_of draft.old) }
-    ensures grid { draft.new.grid ≡ draft.old.grid }
-    ensures proper { IsProper (map_of draft.new) draft.new.table.rows (kept_at draft.new) }
-    ensures work { TakesWork draft.old.table draft.new.table
-        (work_bound (map_of draft.old) (after (map_of draft.old) (split_by string halving.now))) }
+    ensures { IsMade (split_by string halving.now) draft.old draft.new result }
 {
     let coming = rows_of_split(&draft.rows, &string, halving)?;
     is_work_in_range(&draft.table);

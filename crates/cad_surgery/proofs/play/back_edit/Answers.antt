@@ -4,17 +4,17 @@ use Rattle.cad_map.specs.Asked.{GivesInRange}
 use Rattle.map_parts.specs.Parts.{map_of}
 use Rattle.cad_surgery.proofs.GridSteps.{idle, made-by}
 use Rattle.cad_surgery.proofs.LeadsBy.{leads-by, same-lists}
-use Rattle.cad_surgery.proofs.Trials.{rows-of}
+use Rattle.cad_surgery.proofs.Trials.{rows-of, taken-so}
 use Rattle.cad_surgery.proofs.play.back_edit.Goals as goal
 
 pub back_split-requires-clause-given : goal.back_split-requires-clause-given
 back_split-requires-clause-given g c =
     rw c.in-Split.is at c.requires.given
 
-pub back_split-requires-clause-made : goal.back_split-requires-clause-made
-back_split-requires-clause-made g c =
-    let b = rw c.in-Split.is at c.requires.made in
-    (b.0, made-by _ b.0 _ b.1, b.1.leads.is)
+pub back_split-requires-clause-beside : goal.back_split-requires-clause-beside
+back_split-requires-clause-beside g c =
+    let b = rw c.in-Split.is at c.requires.beside.made in
+    record { made = (b.0, (made-by _ b.0 _ b.1, b.1.leads.is)); proper = c.requires.beside.proper }
 
 pub back_join-requires-clause-join : goal.back_join-requires-clause-join
 back_join-requires-clause-join g c =
@@ -37,10 +37,13 @@ back_enclose-requires-clause-given g c =
     let same = same-lists c.in-Enclose.face c.in-Enclose.parcel c.in-Enclose.label c.in-Enclose.source _ _ _ _ c.as_slice.ensures c.as_slice-in-Enclose.ensures in
     subst GivesInRange (sym same) (rw c.in-Enclose.is at c.requires.given)
 
-pub back_enclose-requires-clause-made : goal.back_enclose-requires-clause-made
-back_enclose-requires-clause-made g c =
-    let b = rw c.in-Enclose.is at c.requires.made in
-    (b.0, leads-by _ _ _ _ _ b.0 _ c.as_slice.ensures c.as_slice-in-Enclose.ensures c.as_slice-in-Enclose-2.ensures.value b.1)
+pub back_enclose-requires-clause-beside : goal.back_enclose-requires-clause-beside
+back_enclose-requires-clause-beside g c =
+    let b = rw c.in-Enclose.is at c.requires.beside.made in
+    record {
+      made = (b.0, leads-by _ _ _ _ _ b.0 _ c.as_slice.ensures c.as_slice-in-Enclose.ensures c.as_slice-in-Enclose-2.ensures.value b.1);
+      proper = c.requires.beside.proper;
+    }
 
 pub unmake_rows-requires-clause-alone : goal.unmake_rows-requires-clause-alone
 unmake_rows-requires-clause-alone g c =
@@ -49,43 +52,22 @@ unmake_rows-requires-clause-alone g c =
 
 pub unmake_rows-requires-clause-made : goal.unmake_rows-requires-clause-made
 unmake_rows-requires-clause-made g c =
-    let b = c.requires.made in
+    let b = c.requires.beside.made in
     (b.0, made-by c.args.change.now b.0 (map_of c.args.draft.now) b.1, b.1.leads.is)
 
 pub returns-in-Split : goal.returns-in-Split
-returns-in-Split g c = record {
-  before = rw c.in-Split.is (on_ok_weaker c.back_split.result (λ f m belongs. f m (made-by _ m _ belongs) belongs.leads.is) c.back_split.ensures.before);
-  err = c.back_split.ensures.err;
-  grid = c.back_split.ensures.grid;
-  proper = c.back_split.ensures.proper;
-  work = rw c.in-Split.is (λ m belongs. c.back_split.ensures.work m (made-by _ m _ belongs) belongs.leads.is);
-}
+returns-in-Split g c = rw c.in-Split.is (taken-so (λ m belongs. (made-by _ m _ belongs, belongs.leads.is)) c.back_split.ensures)
 
 pub returns-in-Enclose : goal.returns-in-Enclose
-returns-in-Enclose g c = record {
-  before = rw c.in-Enclose.is (on_ok_weaker c.back_enclose.result
-      (λ f m belongs. f m (leads-by _ _ _ _ _ m _ c.as_slice.ensures c.as_slice-in-Enclose.ensures c.as_slice-in-Enclose-2.ensures.value belongs)) c.back_enclose.ensures.before);
-  err = c.back_enclose.ensures.err;
-  grid = c.back_enclose.ensures.grid;
-  proper = c.back_enclose.ensures.proper;
-  work = rw c.in-Enclose.is (λ m belongs. c.back_enclose.ensures.work m
-      (leads-by _ _ _ _ _ m _ c.as_slice.ensures c.as_slice-in-Enclose.ensures c.as_slice-in-Enclose-2.ensures.value belongs));
-}
+returns-in-Enclose g c =
+    rw c.in-Enclose.is (taken-so
+    (λ m belongs. leads-by _ _ _ _ _ m _ c.as_slice.ensures c.as_slice-in-Enclose.ensures c.as_slice-in-Enclose-2.ensures.value belongs) c.back_enclose.ensures)
 
 pub returns-in_default : goal.returns-in_default
 returns-in_default g c = record {
   before = on_ok_weaker c.unmake_rows.result (λ f m belongs. f m (made-by c.args.change.now m (map_of c.args.draft.now) belongs) belongs.leads.is) c.unmake_rows.ensures.before;
   err = c.unmake_rows.ensures.err;
   grid = c.unmake_rows.ensures.beside.grid;
-  proper = c.unmake_rows.ensures.beside.proper c.requires.proper;
+  proper = c.unmake_rows.ensures.beside.proper c.requires.beside.proper;
   work = λ m belongs. idle c.args.draft.now c.unmake_rows.new.self _ c.unmake_rows.ensures.beside.table;
-}
-
-pub returns-in-Join : goal.returns-in-Join
-returns-in-Join g c = record {
-  before = c.back_join.ensures.before;
-  err = c.back_join.ensures.err;
-  grid = c.back_join.ensures.grid;
-  proper = c.back_join.ensures.proper;
-  work = c.back_join.ensures.work;
 }

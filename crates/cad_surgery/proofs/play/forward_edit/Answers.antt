@@ -10,36 +10,20 @@ use Rattle.cad_surgery.proofs.play.forward_edit.Goals as goal
 pub forward_split-requires-clause-tried : goal.forward_split-requires-clause-tried
 forward_split-requires-clause-tried g c =
     let m = map_of c.args.draft.now in
-    let tried = tried-of c.args.change.now m (made-by c.args.change.now m c.requires.made.0 c.requires.made.1) c.requires.given in
+    let tried = tried-of c.args.change.now m (made-by c.args.change.now m c.requires.beside.made.0 c.requires.beside.made.1) c.requires.given in
     rw c.in-Split.is at tried
 
 pub forward_join-requires-clause-tried : goal.forward_join-requires-clause-tried
 forward_join-requires-clause-tried g c =
     let m = map_of c.args.draft.now in
-    let tried = tried-of c.args.change.now m (made-by c.args.change.now m c.requires.made.0 c.requires.made.1) c.requires.given in
+    let tried = tried-of c.args.change.now m (made-by c.args.change.now m c.requires.beside.made.0 c.requires.beside.made.1) c.requires.given in
     rw c.in-Join.is at tried
 
 pub forward_join-requires-clause-leads : goal.forward_join-requires-clause-leads
 forward_join-requires-clause-leads g c =
-    let belongs = c.requires.made.1 in
+    let belongs = c.requires.beside.made.1 in
     let valid = subst IsValid belongs.leads.is belongs.leads.valid in
     rw c.in-Join.is at valid
-
-pub returns-in-Split-clause-after : goal.returns-in-Split-clause-after
-returns-in-Split-clause-after g c =
-    rw c.in-Split.is c.forward_split.ensures.after
-
-pub returns-in-Join-clause-after : goal.returns-in-Join-clause-after
-returns-in-Join-clause-after g c =
-    rw c.in-Join.is c.forward_join.ensures.after
-
-pub returns-in-Split-clause-work : goal.returns-in-Split-clause-work
-returns-in-Split-clause-work g c =
-    rw c.in-Split.is c.forward_split.ensures.work
-
-pub returns-in-Join-clause-work : goal.returns-in-Join-clause-work
-returns-in-Join-clause-work g c =
-    rw c.in-Join.is c.forward_join.ensures.work
 
 pub forward_divide-requires-clause-division : goal.forward_divide-requires-clause-division
 forward_divide-requires-clause-division g c =
@@ -56,17 +40,9 @@ forward_merge_island-requires-clause-merger g c =
 pub forward_enclose-requires-clause-tried : goal.forward_enclose-requires-clause-tried
 forward_enclose-requires-clause-tried g c =
     let m = map_of c.args.draft.now in
-    let tried = tried-of c.args.change.now m (made-by c.args.change.now m c.requires.made.0 c.requires.made.1) c.requires.given in
+    let tried = tried-of c.args.change.now m (made-by c.args.change.now m c.requires.beside.made.0 c.requires.beside.made.1) c.requires.given in
     let same = same-lists c.in-Enclose.face c.in-Enclose.parcel c.in-Enclose.label c.in-Enclose.source _ _ _ _ c.as_slice.ensures c.as_slice-in-Enclose.ensures in
     subst (IsTried m) (sym same) (rw c.in-Enclose.is at tried)
-
-pub returns-in-Enclose-clause-after : goal.returns-in-Enclose-clause-after
-returns-in-Enclose-clause-after g c =
-    rw c.in-Enclose.is (rw (c.as_slice.ensures, c.as_slice-in-Enclose.ensures) at c.forward_enclose.ensures.after)
-
-pub returns-in-Enclose-clause-work : goal.returns-in-Enclose-clause-work
-returns-in-Enclose-clause-work g c =
-    rw c.in-Enclose.is (rw (c.as_slice.ensures, c.as_slice-in-Enclose.ensures) at c.forward_enclose.ensures.work)
 
 pub remake_rows-requires-clause-alone : goal.remake_rows-requires-clause-alone
 remake_rows-requires-clause-alone g c =
@@ -75,16 +51,22 @@ remake_rows-requires-clause-alone g c =
 
 pub remake_rows-requires-clause-made : goal.remake_rows-requires-clause-made
 remake_rows-requires-clause-made g c =
-    made-by c.args.change.now (map_of c.args.draft.now) c.requires.made.0 c.requires.made.1
+    made-by c.args.change.now (map_of c.args.draft.now) c.requires.beside.made.0 c.requires.beside.made.1
 
-pub returns-in_default-clause-grid : goal.returns-in_default-clause-grid
-returns-in_default-clause-grid g c =
-    c.remake_rows.ensures.beside.grid
+pub returns-in-Split : goal.returns-in-Split
+returns-in-Split g c = rw c.in-Split.is c.forward_split.ensures
 
-pub returns-in_default-clause-proper : goal.returns-in_default-clause-proper
-returns-in_default-clause-proper g c =
-    c.remake_rows.ensures.beside.proper c.requires.proper
+pub returns-in-Join : goal.returns-in-Join
+returns-in-Join g c = rw c.in-Join.is c.forward_join.ensures
 
-pub returns-in_default-clause-work : goal.returns-in_default-clause-work
-returns-in_default-clause-work g c =
-    idle c.args.draft.now c.remake_rows.new.self _ c.remake_rows.ensures.beside.table
+pub returns-in-Enclose : goal.returns-in-Enclose
+returns-in-Enclose g c = rw c.in-Enclose.is (rw (c.as_slice.ensures, c.as_slice-in-Enclose.ensures) at c.forward_enclose.ensures)
+
+pub returns-in_default : goal.returns-in_default
+returns-in_default g c = record {
+  becomes = c.remake_rows.ensures.after;
+  err = c.remake_rows.ensures.err;
+  grid = c.remake_rows.ensures.beside.grid;
+  proper = c.remake_rows.ensures.beside.proper c.requires.beside.proper;
+  work = idle c.args.draft.now c.remake_rows.new.self _ c.remake_rows.ensures.beside.table;
+}

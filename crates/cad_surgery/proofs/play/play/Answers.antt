@@ -54,16 +54,16 @@ withdraw-requires g c =
     let lists = c.in-Ok.plan.exchange in
     let x = listed m e c.requires.tried lists.gone lists.come c.in-Ok.ensures.gone c.in-Ok.ensures.come in
     let both = c.in-Ok-enter.ensures.both m (after m e) lists.gone c.requires.rest.grid x in
-    (m, lists.come, after m e, subst (λ grid. IsGridOfBoth grid m (after m e)) (sym c.try_edit.ensures.grid) both, x)
+    (m, lists.come, after m e, subst (λ grid. IsGridOfBoth grid m (after m e)) (sym c.try_edit.ensures.played.made.grid) both, x)
 
 pub returns-in-Ok-try_edit-clause-made : goal.returns-in-Ok-try_edit-clause-made
 returns-in-Ok-try_edit-clause-made g c =
-    same-map c.try_edit.new.draft c.withdraw.new.self c.withdraw.ensures.beside ∙ c.in-Ok-try_edit.ensures.made
+    same-map c.try_edit.new.draft c.withdraw.new.self c.withdraw.ensures.beside ∙ c.in-Ok-try_edit.ensures.played.made.becomes
     ∙ ap (λ m. after m c.args.edit.now) (same-map c.args.draft.now c.enter.new.self c.enter.ensures.beside)
 
 pub returns-in-Ok-try_edit-clause-valid : goal.returns-in-Ok-try_edit-clause-valid
 returns-in-Ok-try_edit-clause-valid g c =
-    subst IsValid (sym (same-map c.try_edit.new.draft c.withdraw.new.self c.withdraw.ensures.beside)) c.in-Ok-try_edit.ensures.valid
+    subst IsValid (sym (same-map c.try_edit.new.draft c.withdraw.new.self c.withdraw.ensures.beside)) c.in-Ok-try_edit.ensures.played.valid
 
 pub returns-in-Ok-try_edit-clause-rest : goal.returns-in-Ok-try_edit-clause-rest
 returns-in-Ok-try_edit-clause-rest g c =
@@ -73,9 +73,9 @@ returns-in-Ok-try_edit-clause-rest g c =
     let x = listed m e c.requires.tried lists.gone lists.come c.in-Ok.ensures.gone c.in-Ok.ensures.come in
     let both = c.in-Ok-enter.ensures.both m (after m e) lists.gone c.requires.rest.grid x in
     rests c.try_edit.new.draft c.withdraw.new.self c.withdraw.ensures.beside
-    c.try_edit.ensures.proper
-    (after m e) (c.in-Ok-try_edit.ensures.made ∙ ap (λ q. after q e) (same-map c.args.draft.now c.enter.new.self c.enter.ensures.beside))
-    (c.withdraw.ensures.left m (after m e) lists.come (subst (λ grid. IsGridOfBoth grid m (after m e)) (sym c.try_edit.ensures.grid) both) x)
+    c.try_edit.ensures.played.made.proper
+    (after m e) (c.in-Ok-try_edit.ensures.played.made.becomes ∙ ap (λ q. after q e) (same-map c.args.draft.now c.enter.new.self c.enter.ensures.beside))
+    (c.withdraw.ensures.left m (after m e) lists.come (subst (λ grid. IsGridOfBoth grid m (after m e)) (sym c.try_edit.ensures.played.made.grid) both) x)
 
 pub withdraw-requires-in-Err : goal.withdraw-requires-in-Err
 withdraw-requires-in-Err g c =
@@ -87,13 +87,13 @@ withdraw-requires-in-Err g c =
       after m e,
       lists.gone,
       m,
-      both-back c.try_edit.new.draft.grid m (after m e) (subst (λ grid. IsGridOfBoth grid m (after m e)) (sym c.try_edit.ensures.grid) both),
+      both-back c.try_edit.new.draft.grid m (after m e) (subst (λ grid. IsGridOfBoth grid m (after m e)) (sym c.try_edit.ensures.played.made.grid) both),
       exchange-back m (after m e) lists.gone lists.come x,
     )
 
 pub returns-clause-err : goal.returns-clause-err
 returns-clause-err g c =
-    same-map c.try_edit.new.draft c.withdraw-in-Err.new.self c.withdraw-in-Err.ensures.beside ∙ c.in-Err.ensures.err
+    same-map c.try_edit.new.draft c.withdraw-in-Err.new.self c.withdraw-in-Err.ensures.beside ∙ c.in-Err.ensures.played.made.err
     ∙ same-map c.args.draft.now c.enter.new.self c.enter.ensures.beside
 
 pub returns-clause-rest : goal.returns-clause-rest
@@ -104,10 +104,10 @@ returns-clause-rest g c =
     let x = listed m e c.requires.tried lists.gone lists.come c.in-Ok.ensures.gone c.in-Ok.ensures.come in
     let both = c.in-Ok-enter.ensures.both m (after m e) lists.gone c.requires.rest.grid x in
     rests c.try_edit.new.draft c.withdraw-in-Err.new.self c.withdraw-in-Err.ensures.beside
-    c.try_edit.ensures.proper
-    m (c.in-Err.ensures.err ∙ same-map c.args.draft.now c.enter.new.self c.enter.ensures.beside)
+    c.try_edit.ensures.played.made.proper
+    m (c.in-Err.ensures.played.made.err ∙ same-map c.args.draft.now c.enter.new.self c.enter.ensures.beside)
     (c.withdraw-in-Err.ensures.left (after m e) m lists.gone
-    (both-back c.try_edit.new.draft.grid m (after m e) (subst (λ grid. IsGridOfBoth grid m (after m e)) (sym c.try_edit.ensures.grid) both))
+    (both-back c.try_edit.new.draft.grid m (after m e) (subst (λ grid. IsGridOfBoth grid m (after m e)) (sym c.try_edit.ensures.played.made.grid) both))
     (exchange-back m (after m e) lists.gone lists.come x))
 
 pub returns-in_default-clause-work : goal.returns-in_default-clause-work
@@ -121,11 +121,11 @@ returns-in-Ok-try_edit-clause-work g c =
     let same = same-map c.args.draft.now c.enter.new.self c.enter.ensures.beside in
     worked c.args.draft.now c.enter.new.self c.try_edit.new.draft c.withdraw.new.self _ _
     (same-table c.args.draft.now c.enter.new.self c.enter.ensures.beside) (same-table c.try_edit.new.draft c.withdraw.new.self c.withdraw.ensures.beside)
-    (λ i. work_bound (same i) (after (same i) c.args.edit.now)) c.try_edit.ensures.work
+    (λ i. work_bound (same i) (after (same i) c.args.edit.now)) c.try_edit.ensures.played.made.work
 
 pub returns-clause-work : goal.returns-clause-work
 returns-clause-work g c =
     let same = same-map c.args.draft.now c.enter.new.self c.enter.ensures.beside in
     worked c.args.draft.now c.enter.new.self c.try_edit.new.draft c.withdraw-in-Err.new.self _ _
     (same-table c.args.draft.now c.enter.new.self c.enter.ensures.beside) (same-table c.try_edit.new.draft c.withdraw-in-Err.new.self c.withdraw-in-Err.ensures.beside)
-    (λ i. work_bound (same i) (after (same i) c.args.edit.now)) c.try_edit.ensures.work
+    (λ i. work_bound (same i) (after (same i) c.args.edit.now)) c.try_edit.ensures.played.made.work

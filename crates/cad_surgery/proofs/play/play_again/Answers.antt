@@ -28,13 +28,13 @@ exchange_of-requires g c =
     let m = map_of c.args.draft.now in
     (m, record { tried = tried-of c.args.change.now m (made-by c.args.change.now m c.requires.made.0 c.requires.made.1) c.requires.given; is = inl refl }, c.requires.made.1.holds)
 
-pub forward_edit-requires-clause-made : goal.forward_edit-requires-clause-made
-forward_edit-requires-clause-made g c =
+pub forward_edit-requires-clause-beside : goal.forward_edit-requires-clause-beside
+forward_edit-requires-clause-beside g c =
     let n = c.requires.made.0 in
-    (n, subst (λ (m : Map). Belongs c.args.change.now m n) (sym (same-map c.args.draft.now c.enter.new.self c.enter.ensures.beside)) c.requires.made.1)
-
-pub forward_edit-requires-clause-proper : goal.forward_edit-requires-clause-proper
-forward_edit-requires-clause-proper g c = same-proper c.args.draft.now c.enter.new.self c.enter.ensures.beside c.requires.rest.proper
+    record {
+      made = (n, subst (λ (m : Map). Belongs c.args.change.now m n) (sym (same-map c.args.draft.now c.enter.new.self c.enter.ensures.beside)) c.requires.made.1);
+      proper = same-proper c.args.draft.now c.enter.new.self c.enter.ensures.beside c.requires.rest.proper;
+    }
 
 pub returns-in_err-exchange-clause-work : goal.returns-in_err-exchange-clause-work
 returns-in_err-exchange-clause-work g c = idle c.args.draft.now c.args.draft.now _ refl
@@ -67,7 +67,7 @@ withdraw-requires g c =
 
 pub returns-in-Ok-clause-after : goal.returns-in-Ok-clause-after
 returns-in-Ok-clause-after g c =
-    same-map c.forward_edit.new.draft c.withdraw.new.self c.withdraw.ensures.beside ∙ c.in-Ok.ensures.after
+    same-map c.forward_edit.new.draft c.withdraw.new.self c.withdraw.ensures.beside ∙ c.in-Ok.ensures.becomes
     ∙ ap (λ m. after m (edit_of c.args.change.now)) (same-map c.args.draft.now c.enter.new.self c.enter.ensures.beside)
 
 pub returns-in-Ok-clause-rest : goal.returns-in-Ok-clause-rest
@@ -79,7 +79,7 @@ returns-in-Ok-clause-rest g c =
     let both = c.in_ok-enter.ensures.both m (after m e) lists.gone c.requires.rest.grid x in
     rests c.forward_edit.new.draft c.withdraw.new.self c.withdraw.ensures.beside
     c.forward_edit.ensures.proper
-    (after m e) (c.in-Ok.ensures.after ∙ ap (λ q. after q e) (same-map c.args.draft.now c.enter.new.self c.enter.ensures.beside))
+    (after m e) (c.in-Ok.ensures.becomes ∙ ap (λ q. after q e) (same-map c.args.draft.now c.enter.new.self c.enter.ensures.beside))
     (c.withdraw.ensures.left m (after m e) lists.come (subst (λ grid. IsGridOfBoth grid m (after m e)) (sym c.forward_edit.ensures.grid) both) x)
 
 pub withdraw-requires-in-Err : goal.withdraw-requires-in-Err

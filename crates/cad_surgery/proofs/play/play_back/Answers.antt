@@ -111,13 +111,13 @@ exchange_of-requires g c =
     let belongs = c.requires.made.1 in
     (b, record { tried = tried-of c.args.change.now b (made-by c.args.change.now b (map_of c.args.draft.now) belongs) c.requires.given; is = inr belongs.leads.is }, belongs.holds)
 
-pub back_edit-requires-clause-made : goal.back_edit-requires-clause-made
-back_edit-requires-clause-made g c =
+pub back_edit-requires-clause-beside : goal.back_edit-requires-clause-beside
+back_edit-requires-clause-beside g c =
     let b = c.requires.made.0 in
-    (b, subst (Belongs c.args.change.now b) (sym (same-map c.args.draft.now c.enter.new.self c.enter.ensures.beside)) c.requires.made.1)
-
-pub back_edit-requires-clause-proper : goal.back_edit-requires-clause-proper
-back_edit-requires-clause-proper g c = same-proper c.args.draft.now c.enter.new.self c.enter.ensures.beside c.requires.rest.proper
+    record {
+      made = (b, subst (Belongs c.args.change.now b) (sym (same-map c.args.draft.now c.enter.new.self c.enter.ensures.beside)) c.requires.made.1);
+      proper = same-proper c.args.draft.now c.enter.new.self c.enter.ensures.beside c.requires.rest.proper;
+    }
 
 pub returns-in_err-exchange-clause-work : goal.returns-in_err-exchange-clause-work
 returns-in_err-exchange-clause-work g c m belongs = idle c.args.draft.now c.args.draft.now _ refl

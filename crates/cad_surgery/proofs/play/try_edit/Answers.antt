@@ -55,13 +55,17 @@ try_rows-requires-clause-alone g c =
 
 pub returns-in_default : goal.returns-in_default
 returns-in_default g c = record {
-  made = c.try_rows.ensures.made;
-  valid = c.try_rows.ensures.valid;
+  played = record {
+    made = record {
+      becomes = c.try_rows.ensures.made;
+      err = c.try_rows.ensures.err;
+      grid = c.try_rows.ensures.beside.grid;
+      proper = c.try_rows.ensures.beside.proper c.requires.proper;
+      work = idle c.args.draft.now c.try_rows.new.draft _ c.try_rows.ensures.beside.table;
+    };
+    valid = c.try_rows.ensures.valid;
+    refused = c.try_rows.ensures.refused;
+  };
   edit = c.try_rows.ensures.edit;
   holds = c.try_rows.ensures.holds;
-  refused = c.try_rows.ensures.refused;
-  err = c.try_rows.ensures.err;
-  grid = c.try_rows.ensures.beside.grid;
-  proper = c.try_rows.ensures.beside.proper c.requires.proper;
-  work = idle c.args.draft.now c.try_rows.new.draft _ c.try_rows.ensures.beside.table;
 }

@@ -1,336 +1,179 @@
-use Rattle.std.proofs.Common.{◌∙◌, sym}
+use Rattle.std.proofs.Common.{◌∙◌, ap, refl, sym, subst}
 use Rattle.cad_map.specs.Outcome.{out_of_memory}
-use Rattle.cad_valid.specs.Near.{touched_of}
-use Rattle.map_parts.specs.Parts.{map_of}
+use Rattle.map_parts.specs.Parts.{Parts}
+use Rattle.half_table.specs.Rows.{next}
+use Rattle.half_paths.specs.Loose.{AreLoose}
 use Rattle.cad_surgery.proofs.DividedDraft as draft
+use Rattle.cad_surgery.proofs.DividedBack.{path-some}
+use Rattle.cad_surgery.proofs.FitParts.{together, stand-for, still-whole}
+use Rattle.cad_surgery.proofs.LooseBeside.{hidden-in, hidden-off, hidden-gone}
+use Rattle.cad_surgery.proofs.NearTried as near
+use Rattle.cad_surgery.proofs.Trials.{is-left, is-made}
 use Rattle.cad_surgery.proofs.edits.try_divide.divide_within_rules.Goals as goal
 
 pub first_and_rest-requires : goal.first_and_rest-requires
-first_and_rest-requires g c =
-    draft.path-some (map_of c.args.draft.now) c.args.division.now c.requires.tried
-    c.args.path.now c.requires.path
+first_and_rest-requires g c = path-some c.args.division.now c.requires.ready.tried c.requires.comes.path_is
 
 pub begin_divide-requires : goal.begin_divide-requires
 begin_divide-requires g c =
-    draft.begins c.draft.inside.rows c.draft.inside.table c.draft.inside.kept
-    c.draft.inside.stars c.draft.inside.grid c.args.draft.now c.draft.view_is c.draft.invariant
-    c.args.division.now c.requires.tried c.requires.proper c.args.strings.items
-    c.requires.strings c.args.parcel c.requires.parcel
-    c.first_and_rest.result.0.now c.first_and_rest.result.1.now (sym c.first_and_rest.ensures ∙
-    c.requires.path) c.args.start.now c.args.end.now c.args.moved.now c.requires.crossing
+    draft.begins c.draft.inside c.draft.view_is c.draft.invariant c.requires.ready.tried
+    c.requires.ready.proper c.requires.comes c.first_and_rest.ensures
 
 pub invariant_of-draft : goal.invariant_of-draft
 invariant_of-draft g c =
-    draft.left-fit c.draft.inside.rows c.draft.inside.table c.draft.inside.kept
-    c.draft.inside.stars c.draft.inside.grid c.args.draft.now c.draft.view_is c.draft.invariant
-    c.args.division.now c.requires.tried c.requires.proper c.args.strings.items
-    c.requires.strings c.args.parcel c.requires.parcel
-    c.first_and_rest.result.0.now c.first_and_rest.result.1.now (sym c.first_and_rest.ensures ∙
-    c.requires.path) c.args.start.now c.args.end.now c.args.moved.now c.requires.crossing
-    c.begin_divide.new.rows c.begin_divide.new.table c.begin_divide.new.kept
-    c.begin_divide.new.stars c.in_default.ensures.err c.in_default.ensures.err_table
+    together c.draft.inside.grid (draft.left c.draft.inside c.draft.view_is c.draft.invariant c.requires.ready.tried
+    c.requires.ready.proper c.requires.comes c.first_and_rest.ensures c.begin_divide.new.table
+    c.in_default.ensures.err)
 
-pub returns-in_default-clause-refused : goal.returns-in_default-clause-refused
-returns-in_default-clause-refused g c =
-    out_of_memory c.requires.tried.allowed
-
-pub returns-in_default-clause-err : goal.returns-in_default-clause-err
-returns-in_default-clause-err g c =
-    draft.left-map c.draft.inside.rows c.draft.inside.table c.draft.inside.kept
-    c.draft.inside.stars c.draft.inside.grid c.args.draft.now c.draft.view_is c.draft.invariant
-    c.args.division.now c.requires.tried c.requires.proper c.args.strings.items
-    c.requires.strings c.args.parcel c.requires.parcel
-    c.first_and_rest.result.0.now c.first_and_rest.result.1.now (sym c.first_and_rest.ensures ∙
-    c.requires.path) c.args.start.now c.args.end.now c.args.moved.now c.requires.crossing
-    c.begin_divide.new.rows c.begin_divide.new.table c.begin_divide.new.kept
-    c.begin_divide.new.stars c.in_default.ensures.err c.in_default.ensures.err_table
-
-pub returns-in_default-clause-proper : goal.returns-in_default-clause-proper
-returns-in_default-clause-proper g c =
-    draft.left-proper c.draft.inside.rows c.draft.inside.table c.draft.inside.kept
-    c.draft.inside.stars c.draft.inside.grid c.args.draft.now c.draft.view_is c.draft.invariant
-    c.args.division.now c.requires.tried c.requires.proper c.args.strings.items
-    c.requires.strings c.args.parcel c.requires.parcel
-    c.first_and_rest.result.0.now c.first_and_rest.result.1.now (sym c.first_and_rest.ensures ∙
-    c.requires.path) c.args.start.now c.args.end.now c.args.moved.now c.requires.crossing
-    c.begin_divide.new.rows c.begin_divide.new.table c.begin_divide.new.kept
-    c.begin_divide.new.stars c.in_default.ensures.err c.in_default.ensures.err_table
+pub returns-in_default : goal.returns-in_default
+returns-in_default g c = record {
+  made = is-left (ap (λ (d : Parts). d.grid) c.draft.view_is)
+      (draft.left-rest c.draft.inside c.draft.view_is c.draft.invariant c.requires.ready.tried
+      c.requires.ready.proper c.requires.comes c.first_and_rest.ensures c.begin_divide.new.table
+      c.in_default.ensures.err c.in_default.ensures.err_table)
+      (draft.left-work c.draft.inside c.draft.view_is c.draft.invariant c.requires.ready.tried
+      c.requires.ready.proper c.requires.comes c.first_and_rest.ensures c.begin_divide.new.table
+      c.is_work_in_range.ensures c.in_default.ensures.err_work)
+      (stand-for c.draft.inside.grid (draft.left c.draft.inside c.draft.view_is c.draft.invariant c.requires.ready.tried
+      c.requires.ready.proper c.requires.comes c.first_and_rest.ensures c.begin_divide.new.table
+      c.in_default.ensures.err));
+  valid = tt;
+  refused = out_of_memory c.requires.ready.tried.allowed;
+}
 
 pub invariant_of-draft-2 : goal.invariant_of-draft-2
 invariant_of-draft-2 g c =
-    draft.made-fit c.draft.inside.rows c.draft.inside.table c.draft.inside.kept
-    c.draft.inside.stars c.draft.inside.grid c.args.draft.now c.draft.view_is c.draft.invariant
-    c.args.division.now c.requires.tried c.requires.proper c.args.strings.items
-    c.requires.strings c.args.parcel c.requires.parcel
-    c.first_and_rest.result.0.now c.first_and_rest.result.1.now (sym c.first_and_rest.ensures ∙
-    c.requires.path) c.args.start.now c.args.end.now c.args.moved.now c.requires.crossing
-    c.begin_divide.new.rows c.begin_divide.new.table c.begin_divide.new.kept
-    c.begin_divide.new.stars c.in-Ok.ensures.fits c.in-Ok.ensures.has
+    together c.draft.inside.grid (draft.gone-through c.draft.inside c.draft.view_is c.draft.invariant c.requires.ready.tried
+    c.requires.ready.proper c.requires.comes c.first_and_rest.ensures c.begin_divide.new.table
+    c.in-Ok.ensures.fits)
 
 pub invariant_of-draft-3 : goal.invariant_of-draft-3
 invariant_of-draft-3 g c =
-    draft.made-fit c.draft.inside.rows c.draft.inside.table c.draft.inside.kept
-    c.draft.inside.stars c.draft.inside.grid c.args.draft.now c.draft.view_is c.draft.invariant
-    c.args.division.now c.requires.tried c.requires.proper c.args.strings.items
-    c.requires.strings c.args.parcel c.requires.parcel
-    c.first_and_rest.result.0.now c.first_and_rest.result.1.now (sym c.first_and_rest.ensures ∙
-    c.requires.path) c.args.start.now c.args.end.now c.args.moved.now c.requires.crossing
-    c.begin_divide.new.rows c.begin_divide.new.table c.begin_divide.new.kept
-    c.begin_divide.new.stars c.in-Ok.ensures.fits c.in-Ok.ensures.has
+    together c.draft.inside.grid (draft.gone-through c.draft.inside c.draft.view_is c.draft.invariant c.requires.ready.tried
+    c.requires.ready.proper c.requires.comes c.first_and_rest.ensures c.begin_divide.new.table
+    c.in-Ok.ensures.fits)
 
 pub first_broken_near-requires-clause-tested : goal.first_broken_near-requires-clause-tested
 first_broken_near-requires-clause-tested g c =
-    draft.near-tested c.draft.inside.rows c.draft.inside.table c.draft.inside.kept
-    c.draft.inside.stars c.draft.inside.grid c.args.draft.now c.draft.view_is c.draft.invariant
-    c.args.division.now c.requires.tried c.requires.proper c.args.strings.items
-    c.requires.strings c.args.parcel c.requires.parcel
-    c.first_and_rest.result.0.now c.first_and_rest.result.1.now (sym c.first_and_rest.ensures ∙
-    c.requires.path) c.args.start.now c.args.end.now c.args.moved.now c.requires.crossing
-    c.begin_divide.new.rows c.begin_divide.new.table c.begin_divide.new.kept
-    c.begin_divide.new.stars c.in-Ok.ensures.fits c.in-Ok.ensures.has
+    near.near-tested c.requires.ready (stand-for c.draft.inside.grid (draft.gone-through c.draft.inside c.draft.view_is c.draft.invariant c.requires.ready.tried
+    c.requires.ready.proper c.requires.comes c.first_and_rest.ensures c.begin_divide.new.table
+    c.in-Ok.ensures.fits))
 
 pub first_broken_near-requires-clause-held : goal.first_broken_near-requires-clause-held
 first_broken_near-requires-clause-held g c =
-    draft.near-held c.draft.inside.rows c.draft.inside.table c.draft.inside.kept
-    c.draft.inside.stars c.draft.inside.grid c.args.draft.now c.draft.view_is c.draft.invariant
-    c.args.division.now c.requires.tried c.requires.proper c.args.strings.items
-    c.requires.strings c.args.parcel c.requires.parcel
-    c.first_and_rest.result.0.now c.first_and_rest.result.1.now (sym c.first_and_rest.ensures ∙
-    c.requires.path) c.args.start.now c.args.end.now c.args.moved.now c.requires.crossing
-    c.begin_divide.new.rows c.begin_divide.new.table c.begin_divide.new.kept
-    c.begin_divide.new.stars c.in-Ok.ensures.fits c.in-Ok.ensures.has c.grid.result.now
-    c.grid.ensures c.requires.held
+    near.near-held c.requires.ready (stand-for c.draft.inside.grid (draft.gone-through c.draft.inside c.draft.view_is c.draft.invariant c.requires.ready.tried
+    c.requires.ready.proper c.requires.comes c.first_and_rest.ensures c.begin_divide.new.table
+    c.in-Ok.ensures.fits))
+    _ _ c.grid.ensures (ap (λ (d : Parts). d.grid) c.draft.view_is)
 
 pub first_broken_near-requires-clause-touched : goal.first_broken_near-requires-clause-touched
 first_broken_near-requires-clause-touched g c =
-    draft.near-touched c.draft.inside.rows c.draft.inside.table c.draft.inside.kept
-    c.draft.inside.stars c.draft.inside.grid c.args.draft.now c.draft.view_is c.draft.invariant
-    c.args.division.now c.requires.tried c.requires.proper c.args.strings.items
-    c.requires.strings c.args.parcel c.requires.parcel
-    c.first_and_rest.result.0.now c.first_and_rest.result.1.now (sym c.first_and_rest.ensures ∙
-    c.requires.path) c.args.start.now c.args.end.now c.args.moved.now c.requires.crossing
-    c.begin_divide.new.rows c.begin_divide.new.table c.begin_divide.new.kept
-    c.begin_divide.new.stars c.in-Ok.ensures.fits c.in-Ok.ensures.has (touched_of
-    c.args.touched.now) c.requires.touched
+    near.near-touched c.requires.ready (stand-for c.draft.inside.grid (draft.gone-through c.draft.inside c.draft.view_is c.draft.invariant c.requires.ready.tried
+    c.requires.ready.proper c.requires.comes c.first_and_rest.ensures c.begin_divide.new.table
+    c.in-Ok.ensures.fits))
 
 pub undivide-requires : goal.undivide-requires
 undivide-requires g c =
-    draft.undo c.draft.inside.rows c.draft.inside.table c.draft.inside.kept c.draft.inside.stars
-    c.draft.inside.grid c.args.draft.now c.draft.view_is c.draft.invariant
-    c.args.division.now c.requires.tried c.requires.proper c.args.strings.items
-    c.requires.strings c.args.parcel c.requires.parcel
-    c.first_and_rest.result.0.now c.first_and_rest.result.1.now (sym c.first_and_rest.ensures ∙
-    c.requires.path) c.args.start.now c.args.end.now c.args.moved.now c.requires.crossing
-    c.begin_divide.new.rows c.begin_divide.new.table c.begin_divide.new.kept
-    c.begin_divide.new.stars c.in-Ok.ensures.fits c.in-Ok.ensures.has c.in-Ok.ensures.moved
-    c.in-Ok.ensures.inner_room c.in-Ok.ensures.outer_room
+    draft.undo c.draft.inside c.draft.view_is c.draft.invariant c.requires.ready.tried
+    c.requires.ready.proper c.requires.comes c.first_and_rest.ensures c.begin_divide.new.table
+    c.in-Ok.ensures.fits c.in-Ok.ensures.moved c.in-Ok.ensures.inner_room c.in-Ok.ensures.outer_room
 
 pub invariant_of-draft-in-Some : goal.invariant_of-draft-in-Some
 invariant_of-draft-in-Some g c =
-    draft.undo-fit c.draft.inside.rows c.draft.inside.table c.draft.inside.kept
-    c.draft.inside.stars c.draft.inside.grid c.args.draft.now c.draft.view_is c.draft.invariant
-    c.args.division.now c.requires.tried c.requires.proper c.args.strings.items
-    c.requires.strings c.args.parcel c.requires.parcel
-    c.first_and_rest.result.0.now c.first_and_rest.result.1.now (sym c.first_and_rest.ensures ∙
-    c.requires.path) c.args.start.now c.args.end.now c.args.moved.now c.requires.crossing
-    c.begin_divide.new.rows c.begin_divide.new.table c.begin_divide.new.kept
-    c.begin_divide.new.stars c.in-Ok.ensures.fits c.in-Ok.ensures.has c.in-Ok.ensures.moved
-    c.in-Ok.ensures.inner_room c.in-Ok.ensures.outer_room
-    c.undivide.new.rows c.undivide.new.table c.undivide.new.kept c.undivide.new.stars
-    c.undivide.ensures.fits c.undivide.ensures.has
+    together c.draft.inside.grid (draft.gone-back c.draft.inside c.draft.view_is c.draft.invariant c.requires.ready.tried
+    c.requires.ready.proper c.requires.comes c.first_and_rest.ensures c.begin_divide.new.table
+    c.in-Ok.ensures.fits c.in-Ok.ensures.moved c.in-Ok.ensures.inner_room c.in-Ok.ensures.outer_room
+    c.undivide.new.table c.undivide.ensures.fits c.undivide.ensures.has)
 
 pub drop_hidden-requires-clause-whole : goal.drop_hidden-requires-clause-whole
 drop_hidden-requires-clause-whole g c =
-    draft.undo-whole c.draft.inside.rows c.draft.inside.table c.draft.inside.kept
-    c.draft.inside.stars c.draft.inside.grid c.args.draft.now c.draft.view_is c.draft.invariant
-    c.args.division.now c.requires.tried c.requires.proper c.args.strings.items
-    c.requires.strings c.args.parcel c.requires.parcel
-    c.first_and_rest.result.0.now c.first_and_rest.result.1.now (sym c.first_and_rest.ensures ∙
-    c.requires.path) c.args.start.now c.args.end.now c.args.moved.now c.requires.crossing
-    c.begin_divide.new.rows c.begin_divide.new.table c.begin_divide.new.kept
-    c.begin_divide.new.stars c.in-Ok.ensures.fits c.in-Ok.ensures.has c.in-Ok.ensures.moved
-    c.in-Ok.ensures.inner_room c.in-Ok.ensures.outer_room
-    c.undivide.new.rows c.undivide.new.table c.undivide.new.kept c.undivide.new.stars
-    c.undivide.ensures.fits c.undivide.ensures.has
+    still-whole c.draft.inside.grid (draft.gone-back c.draft.inside c.draft.view_is c.draft.invariant c.requires.ready.tried
+    c.requires.ready.proper c.requires.comes c.first_and_rest.ensures c.begin_divide.new.table
+    c.in-Ok.ensures.fits c.in-Ok.ensures.moved c.in-Ok.ensures.inner_room c.in-Ok.ensures.outer_room
+    c.undivide.new.table c.undivide.ensures.fits c.undivide.ensures.has)
 
 pub drop_hidden-requires-clause-within : goal.drop_hidden-requires-clause-within
 drop_hidden-requires-clause-within g c =
-    draft.back-in c.draft.inside.rows c.draft.inside.table c.draft.inside.kept
-    c.draft.inside.stars c.draft.inside.grid c.args.draft.now c.draft.view_is c.draft.invariant
-    c.args.division.now c.requires.tried c.requires.proper c.args.strings.items
-    c.requires.strings c.args.parcel c.requires.parcel
-    c.first_and_rest.result.0.now c.first_and_rest.result.1.now (sym c.first_and_rest.ensures ∙
-    c.requires.path) c.args.start.now c.args.end.now c.args.moved.now c.requires.crossing
-    c.begin_divide.new.rows c.begin_divide.new.table c.begin_divide.new.kept
-    c.begin_divide.new.stars c.in-Ok.ensures.fits c.in-Ok.ensures.has c.in-Ok.ensures.moved
-    c.in-Ok.ensures.inner_room c.in-Ok.ensures.outer_room
-    c.undivide.new.rows c.undivide.new.table c.undivide.new.kept c.undivide.new.stars
-    c.undivide.ensures.fits c.undivide.ensures.has c.args.path.now c.first_and_rest.ensures
+    hidden-in _ (draft.gone-back c.draft.inside c.draft.view_is c.draft.invariant c.requires.ready.tried
+    c.requires.ready.proper c.requires.comes c.first_and_rest.ensures c.begin_divide.new.table
+    c.in-Ok.ensures.fits c.in-Ok.ensures.moved c.in-Ok.ensures.inner_room c.in-Ok.ensures.outer_room
+    c.undivide.new.table c.undivide.ensures.fits c.undivide.ensures.has) (draft.strings-beside c.draft.inside c.draft.view_is c.draft.invariant c.requires.ready.tried
+    c.requires.ready.proper c.requires.comes c.first_and_rest.ensures c.begin_divide.new.table
+    c.in-Ok.ensures.fits c.in-Ok.ensures.moved c.in-Ok.ensures.inner_room c.in-Ok.ensures.outer_room
+    c.undivide.new.table c.undivide.ensures.fits c.undivide.ensures.has c.in-Ok.ensures.has)
 
 pub drop_hidden-requires-clause-different : goal.drop_hidden-requires-clause-different
 drop_hidden-requires-clause-different g c =
-    draft.back-different c.draft.inside.rows c.draft.inside.table c.draft.inside.kept
-    c.draft.inside.stars c.draft.inside.grid c.args.draft.now c.draft.view_is c.draft.invariant
-    c.args.division.now c.requires.tried c.requires.proper c.args.strings.items
-    c.requires.strings c.args.parcel c.requires.parcel
-    c.first_and_rest.result.0.now c.first_and_rest.result.1.now (sym c.first_and_rest.ensures ∙
-    c.requires.path) c.args.start.now c.args.end.now c.args.moved.now c.requires.crossing
-    c.begin_divide.new.rows c.begin_divide.new.table c.begin_divide.new.kept
-    c.begin_divide.new.stars c.in-Ok.ensures.fits c.in-Ok.ensures.has c.in-Ok.ensures.moved
-    c.in-Ok.ensures.inner_room c.in-Ok.ensures.outer_room
-    c.undivide.new.rows c.undivide.new.table c.undivide.new.kept c.undivide.new.stars
-    c.undivide.ensures.fits c.undivide.ensures.has c.args.path.now c.first_and_rest.ensures
+    draft.strings-differ c.draft.inside c.draft.view_is c.draft.invariant c.requires.ready.tried
+    c.requires.ready.proper c.requires.comes c.first_and_rest.ensures
 
 pub drop_hidden-requires-clause-loose : goal.drop_hidden-requires-clause-loose
 drop_hidden-requires-clause-loose g c =
-    draft.back-loose c.draft.inside.rows c.draft.inside.table c.draft.inside.kept
-    c.draft.inside.stars c.draft.inside.grid c.args.draft.now c.draft.view_is c.draft.invariant
-    c.args.division.now c.requires.tried c.requires.proper c.args.strings.items
-    c.requires.strings c.args.parcel c.requires.parcel
-    c.first_and_rest.result.0.now c.first_and_rest.result.1.now (sym c.first_and_rest.ensures ∙
-    c.requires.path) c.args.start.now c.args.end.now c.args.moved.now c.requires.crossing
-    c.begin_divide.new.rows c.begin_divide.new.table c.begin_divide.new.kept
-    c.begin_divide.new.stars c.in-Ok.ensures.fits c.in-Ok.ensures.has c.in-Ok.ensures.moved
-    c.in-Ok.ensures.inner_room c.in-Ok.ensures.outer_room
-    c.undivide.new.rows c.undivide.new.table c.undivide.new.kept c.undivide.new.stars
-    c.undivide.ensures.fits c.undivide.ensures.has c.args.path.now c.first_and_rest.ensures
-    c.undivide.ensures.loose
+    subst (AreLoose (next c.undivide.new.table.rows)) (sym c.first_and_rest.ensures) c.undivide.ensures.loose
 
 pub drop_hidden-requires-clause-hidden : goal.drop_hidden-requires-clause-hidden
 drop_hidden-requires-clause-hidden g c =
-    draft.back-hidden c.draft.inside.rows c.draft.inside.table c.draft.inside.kept
-    c.draft.inside.stars c.draft.inside.grid c.args.draft.now c.draft.view_is c.draft.invariant
-    c.args.division.now c.requires.tried c.requires.proper c.args.strings.items
-    c.requires.strings c.args.parcel c.requires.parcel
-    c.first_and_rest.result.0.now c.first_and_rest.result.1.now (sym c.first_and_rest.ensures ∙
-    c.requires.path) c.args.start.now c.args.end.now c.args.moved.now c.requires.crossing
-    c.begin_divide.new.rows c.begin_divide.new.table c.begin_divide.new.kept
-    c.begin_divide.new.stars c.in-Ok.ensures.fits c.in-Ok.ensures.has c.in-Ok.ensures.moved
-    c.in-Ok.ensures.inner_room c.in-Ok.ensures.outer_room
-    c.undivide.new.rows c.undivide.new.table c.undivide.new.kept c.undivide.new.stars
-    c.undivide.ensures.fits c.undivide.ensures.has c.args.path.now c.first_and_rest.ensures
+    hidden-off _ (draft.gone-back c.draft.inside c.draft.view_is c.draft.invariant c.requires.ready.tried
+    c.requires.ready.proper c.requires.comes c.first_and_rest.ensures c.begin_divide.new.table
+    c.in-Ok.ensures.fits c.in-Ok.ensures.moved c.in-Ok.ensures.inner_room c.in-Ok.ensures.outer_room
+    c.undivide.new.table c.undivide.ensures.fits c.undivide.ensures.has)
+    (draft.strings-beside c.draft.inside c.draft.view_is c.draft.invariant c.requires.ready.tried
+    c.requires.ready.proper c.requires.comes c.first_and_rest.ensures c.begin_divide.new.table
+    c.in-Ok.ensures.fits c.in-Ok.ensures.moved c.in-Ok.ensures.inner_room c.in-Ok.ensures.outer_room
+    c.undivide.new.table c.undivide.ensures.fits c.undivide.ensures.has c.in-Ok.ensures.has)
+    (draft.strings-new c.draft.inside c.draft.view_is c.draft.invariant c.requires.ready.tried
+    c.requires.ready.proper c.requires.comes c.first_and_rest.ensures) c.draft.inside.grid
 
-pub returns-in-Some-clause-refused : goal.returns-in-Some-clause-refused
-returns-in-Some-clause-refused g c =
-    draft.near-refused c.draft.inside.rows c.draft.inside.table c.draft.inside.kept
-    c.draft.inside.stars c.draft.inside.grid c.args.draft.now c.draft.view_is c.draft.invariant
-    c.args.division.now c.requires.tried c.requires.proper c.args.strings.items
-    c.requires.strings c.args.parcel c.requires.parcel
-    c.first_and_rest.result.0.now c.first_and_rest.result.1.now (sym c.first_and_rest.ensures ∙
-    c.requires.path) c.args.start.now c.args.end.now c.args.moved.now c.requires.crossing
-    c.begin_divide.new.rows c.begin_divide.new.table c.begin_divide.new.kept
-    c.begin_divide.new.stars c.in-Ok.ensures.fits c.in-Ok.ensures.has c.in-Some.rule
-    c.in-Some.ensures.broken
-
-pub returns-in-Some-clause-err : goal.returns-in-Some-clause-err
-returns-in-Some-clause-err g c =
-    c.drop_hidden.ensures.map ∙ draft.undo-map c.draft.inside.rows c.draft.inside.table
-    c.draft.inside.kept c.draft.inside.stars c.draft.inside.grid c.args.draft.now c.draft.view_is
-    c.draft.invariant
-    c.args.division.now c.requires.tried c.requires.proper c.args.strings.items
-    c.requires.strings c.args.parcel c.requires.parcel
-    c.first_and_rest.result.0.now c.first_and_rest.result.1.now (sym c.first_and_rest.ensures ∙
-    c.requires.path) c.args.start.now c.args.end.now c.args.moved.now c.requires.crossing
-    c.begin_divide.new.rows c.begin_divide.new.table c.begin_divide.new.kept
-    c.begin_divide.new.stars c.in-Ok.ensures.fits c.in-Ok.ensures.has c.in-Ok.ensures.moved
-    c.in-Ok.ensures.inner_room c.in-Ok.ensures.outer_room
-    c.undivide.new.rows c.undivide.new.table c.undivide.new.kept c.undivide.new.stars
-    c.undivide.ensures.fits c.undivide.ensures.has
-
-pub returns-in-Some-clause-proper : goal.returns-in-Some-clause-proper
-returns-in-Some-clause-proper g c =
-    draft.back-proper c.draft.inside.rows c.draft.inside.table c.draft.inside.kept
-    c.draft.inside.stars c.draft.inside.grid c.args.draft.now c.draft.view_is c.draft.invariant
-    c.args.division.now c.requires.tried c.requires.proper c.args.strings.items
-    c.requires.strings c.args.parcel c.requires.parcel
-    c.first_and_rest.result.0.now c.first_and_rest.result.1.now (sym c.first_and_rest.ensures ∙
-    c.requires.path) c.args.start.now c.args.end.now c.args.moved.now c.requires.crossing
-    c.begin_divide.new.rows c.begin_divide.new.table c.begin_divide.new.kept
-    c.begin_divide.new.stars c.in-Ok.ensures.fits c.in-Ok.ensures.has c.in-Ok.ensures.moved
-    c.in-Ok.ensures.inner_room c.in-Ok.ensures.outer_room
-    c.undivide.new.rows c.undivide.new.table c.undivide.new.kept c.undivide.new.stars
-    c.undivide.ensures.fits c.undivide.ensures.has c.args.path.now c.first_and_rest.ensures
-    c.drop_hidden.new.draft c.drop_hidden.ensures.fit c.drop_hidden.ensures.map
-    c.drop_hidden.ensures.drops
+pub returns-in-Some : goal.returns-in-Some
+returns-in-Some g c = record {
+  made = is-left (ap (λ (d : Parts). d.grid) c.drop_hidden.ensures.parts ∙ ap (λ (d : Parts). d.grid) c.draft.view_is)
+      (hidden-gone _ (draft.gone-back c.draft.inside c.draft.view_is c.draft.invariant c.requires.ready.tried
+      c.requires.ready.proper c.requires.comes c.first_and_rest.ensures c.begin_divide.new.table
+      c.in-Ok.ensures.fits c.in-Ok.ensures.moved c.in-Ok.ensures.inner_room c.in-Ok.ensures.outer_room
+      c.undivide.new.table c.undivide.ensures.fits c.undivide.ensures.has)
+      (draft.strings-beside c.draft.inside c.draft.view_is c.draft.invariant c.requires.ready.tried
+      c.requires.ready.proper c.requires.comes c.first_and_rest.ensures c.begin_divide.new.table
+      c.in-Ok.ensures.fits c.in-Ok.ensures.moved c.in-Ok.ensures.inner_room c.in-Ok.ensures.outer_room
+      c.undivide.new.table c.undivide.ensures.fits c.undivide.ensures.has c.in-Ok.ensures.has)
+      (draft.strings-new c.draft.inside c.draft.view_is c.draft.invariant c.requires.ready.tried
+      c.requires.ready.proper c.requires.comes c.first_and_rest.ensures) c.draft.inside.grid _ c.drop_hidden.ensures.fit c.drop_hidden.ensures.map c.drop_hidden.ensures.drops)
+      (draft.back-work c.draft.inside c.draft.view_is c.draft.invariant c.requires.ready.tried
+      c.requires.ready.proper c.requires.comes c.first_and_rest.ensures c.begin_divide.new.table
+      c.in-Ok.ensures.fits c.in-Ok.ensures.moved c.in-Ok.ensures.origin c.is_work_in_range.ensures
+      c.in-Ok.ensures.work c.undivide.new.table c.drop_hidden.new.draft.table
+      c.undivide.ensures.work c.drop_hidden.ensures.work)
+      (c.drop_hidden.ensures.map ∙ stand-for c.draft.inside.grid (draft.gone-back c.draft.inside c.draft.view_is c.draft.invariant c.requires.ready.tried
+      c.requires.ready.proper c.requires.comes c.first_and_rest.ensures c.begin_divide.new.table
+      c.in-Ok.ensures.fits c.in-Ok.ensures.moved c.in-Ok.ensures.inner_room c.in-Ok.ensures.outer_room
+      c.undivide.new.table c.undivide.ensures.fits c.undivide.ensures.has));
+  valid = tt;
+  refused = near.near-refused c.requires.ready (stand-for c.draft.inside.grid (draft.gone-through c.draft.inside c.draft.view_is c.draft.invariant c.requires.ready.tried
+      c.requires.ready.proper c.requires.comes c.first_and_rest.ensures c.begin_divide.new.table
+      c.in-Ok.ensures.fits)) c.in-Some.ensures.broken;
+}
 
 pub invariant_of-draft-in_default-first_broken_near : goal.invariant_of-draft-in_default-first_broken_near
 invariant_of-draft-in_default-first_broken_near g c =
-    draft.made-fit c.draft.inside.rows c.draft.inside.table c.draft.inside.kept
-    c.draft.inside.stars c.draft.inside.grid c.args.draft.now c.draft.view_is c.draft.invariant
-    c.args.division.now c.requires.tried c.requires.proper c.args.strings.items
-    c.requires.strings c.args.parcel c.requires.parcel
-    c.first_and_rest.result.0.now c.first_and_rest.result.1.now (sym c.first_and_rest.ensures ∙
-    c.requires.path) c.args.start.now c.args.end.now c.args.moved.now c.requires.crossing
-    c.begin_divide.new.rows c.begin_divide.new.table c.begin_divide.new.kept
-    c.begin_divide.new.stars c.in-Ok.ensures.fits c.in-Ok.ensures.has
+    together c.draft.inside.grid (draft.gone-through c.draft.inside c.draft.view_is c.draft.invariant c.requires.ready.tried
+    c.requires.ready.proper c.requires.comes c.first_and_rest.ensures c.begin_divide.new.table
+    c.in-Ok.ensures.fits)
 
-pub returns-clause-made : goal.returns-clause-made
-returns-clause-made g c =
-    draft.made-map c.draft.inside.rows c.draft.inside.table c.draft.inside.kept
-    c.draft.inside.stars c.draft.inside.grid c.args.draft.now c.draft.view_is c.draft.invariant
-    c.args.division.now c.requires.tried c.requires.proper c.args.strings.items
-    c.requires.strings c.args.parcel c.requires.parcel
-    c.first_and_rest.result.0.now c.first_and_rest.result.1.now (sym c.first_and_rest.ensures ∙
-    c.requires.path) c.args.start.now c.args.end.now c.args.moved.now c.requires.crossing
-    c.begin_divide.new.rows c.begin_divide.new.table c.begin_divide.new.kept
-    c.begin_divide.new.stars c.in-Ok.ensures.fits c.in-Ok.ensures.has
-
-pub returns-clause-valid : goal.returns-clause-valid
-returns-clause-valid g c =
-    draft.near-valid c.draft.inside.rows c.draft.inside.table c.draft.inside.kept
-    c.draft.inside.stars c.draft.inside.grid c.args.draft.now c.draft.view_is c.draft.invariant
-    c.args.division.now c.requires.tried c.requires.proper c.args.strings.items
-    c.requires.strings c.args.parcel c.requires.parcel
-    c.first_and_rest.result.0.now c.first_and_rest.result.1.now (sym c.first_and_rest.ensures ∙
-    c.requires.path) c.args.start.now c.args.end.now c.args.moved.now c.requires.crossing
-    c.begin_divide.new.rows c.begin_divide.new.table c.begin_divide.new.kept
-    c.begin_divide.new.stars c.in-Ok.ensures.fits c.in-Ok.ensures.has
-    c.in_default-first_broken_near.ensures.kept
-
-pub returns-clause-proper : goal.returns-clause-proper
-returns-clause-proper g c =
-    draft.made-proper c.draft.inside.rows c.draft.inside.table c.draft.inside.kept
-    c.draft.inside.stars c.draft.inside.grid c.args.draft.now c.draft.view_is c.draft.invariant
-    c.args.division.now c.requires.tried c.requires.proper c.args.strings.items
-    c.requires.strings c.args.parcel c.requires.parcel
-    c.first_and_rest.result.0.now c.first_and_rest.result.1.now (sym c.first_and_rest.ensures ∙
-    c.requires.path) c.args.start.now c.args.end.now c.args.moved.now c.requires.crossing
-    c.begin_divide.new.rows c.begin_divide.new.table c.begin_divide.new.kept
-    c.begin_divide.new.stars c.in-Ok.ensures.fits c.in-Ok.ensures.has
-
-pub returns-in_default-clause-work : goal.returns-in_default-clause-work
-returns-in_default-clause-work g c =
-    draft.left-work c.draft.inside.rows c.draft.inside.table c.draft.inside.kept
-    c.draft.inside.stars c.draft.inside.grid c.args.draft.now c.draft.view_is c.draft.invariant
-    c.args.division.now c.requires.tried c.requires.proper c.args.strings.items
-    c.requires.strings c.args.parcel c.requires.parcel
-    c.first_and_rest.result.0.now c.first_and_rest.result.1.now (sym c.first_and_rest.ensures ∙
-    c.requires.path) c.args.start.now c.args.end.now c.args.moved.now c.requires.crossing
-    c.begin_divide.new.rows c.begin_divide.new.table c.begin_divide.new.kept
-    c.begin_divide.new.stars c.is_work_in_range.ensures c.in_default.ensures.err_work
-
-pub returns-in-Some-clause-work : goal.returns-in-Some-clause-work
-returns-in-Some-clause-work g c =
-    draft.back-work c.draft.inside.rows c.draft.inside.table c.draft.inside.kept
-    c.draft.inside.stars c.draft.inside.grid c.args.draft.now c.draft.view_is c.draft.invariant
-    c.args.division.now c.requires.tried c.requires.proper c.args.strings.items
-    c.requires.strings c.args.parcel c.requires.parcel
-    c.first_and_rest.result.0.now c.first_and_rest.result.1.now (sym c.first_and_rest.ensures ∙
-    c.requires.path) c.args.start.now c.args.end.now c.args.moved.now c.requires.crossing
-    c.begin_divide.new.rows c.begin_divide.new.table c.begin_divide.new.kept
-    c.begin_divide.new.stars c.in-Ok.ensures.fits c.in-Ok.ensures.has c.in-Ok.ensures.moved
-    c.in-Ok.ensures.origin c.is_work_in_range.ensures c.in-Ok.ensures.work
-    c.undivide.new.table c.drop_hidden.new.draft.table c.args.path.now c.first_and_rest.ensures
-    c.undivide.ensures.work c.drop_hidden.ensures.work
-
-pub returns-clause-work : goal.returns-clause-work
-returns-clause-work g c =
-    draft.made-work c.draft.inside.rows c.draft.inside.table c.draft.inside.kept
-    c.draft.inside.stars c.draft.inside.grid c.args.draft.now c.draft.view_is c.draft.invariant
-    c.args.division.now c.requires.tried c.requires.proper c.args.strings.items
-    c.requires.strings c.args.parcel c.requires.parcel
-    c.first_and_rest.result.0.now c.first_and_rest.result.1.now (sym c.first_and_rest.ensures ∙
-    c.requires.path) c.args.start.now c.args.end.now c.args.moved.now c.requires.crossing
-    c.begin_divide.new.rows c.begin_divide.new.table c.begin_divide.new.kept
-    c.begin_divide.new.stars c.in-Ok.ensures.fits c.in-Ok.ensures.has c.in-Ok.ensures.moved
-    c.in-Ok.ensures.origin c.is_work_in_range.ensures c.in-Ok.ensures.work
+pub returns : goal.returns
+returns g c = record {
+  made = is-made (ap (λ (d : Parts). d.grid) c.draft.view_is)
+      (draft.made-rest c.draft.inside c.draft.view_is c.draft.invariant c.requires.ready.tried
+      c.requires.ready.proper c.requires.comes c.first_and_rest.ensures c.begin_divide.new.table
+      c.in-Ok.ensures.fits c.in-Ok.ensures.has)
+      (draft.made-work c.draft.inside c.draft.view_is c.draft.invariant c.requires.ready.tried
+      c.requires.ready.proper c.requires.comes c.first_and_rest.ensures c.begin_divide.new.table
+      c.in-Ok.ensures.fits c.in-Ok.ensures.moved c.in-Ok.ensures.origin c.is_work_in_range.ensures
+      c.in-Ok.ensures.work)
+      (stand-for c.draft.inside.grid (draft.gone-through c.draft.inside c.draft.view_is c.draft.invariant c.requires.ready.tried
+      c.requires.ready.proper c.requires.comes c.first_and_rest.ensures c.begin_divide.new.table
+      c.in-Ok.ensures.fits));
+  valid = near.near-valid c.requires.ready (stand-for c.draft.inside.grid (draft.gone-through c.draft.inside c.draft.view_is c.draft.invariant c.requires.ready.tried
+      c.requires.ready.proper c.requires.comes c.first_and_rest.ensures c.begin_divide.new.table
+      c.in-Ok.ensures.fits))
+      c.in_default-first_broken_near.ensures.kept refl;
+  refused = tt;
+}

@@ -22,7 +22,11 @@ from_points-requires g c =
 pub moved_halves-requires : goal.moved_halves-requires
 moved_halves-requires g c = whole_valid (map_of c.args.draft.now) c.requires.valid
 
-pub returns-clause-holes : goal.returns-clause-holes
-returns-clause-holes g c =
-    subst (λ (r : Ring). AreOfHoles (map_of c.args.draft.now) c.args.draft.now.table.rows c.args.enclosure.now.face r c.in_ok-moved.moved.items)
-    c.in_ok-ring.ensures c.in_ok-moved.ensures.holes
+pub returns : goal.returns
+returns g c = record {
+  strings_are = c.in_ok-strings.ensures;
+  parcel_is = c.in_ok-parcel.ensures;
+  path_is = c.in_ok-path.ensures;
+  holes = subst (λ (r : Ring). AreOfHoles (map_of c.args.draft.now) c.args.draft.now.table.rows c.args.enclosure.now.face r c.in_ok-moved.moved.items)
+      c.in_ok-ring.ensures c.in_ok-moved.ensures.holes;
+}

@@ -1,13 +1,11 @@
-use Rattle.std.proofs.Common.{◌≡◌, ℕ, sym, subst}
-use Rattle.std.specs.Prelude.{OnOk}
+use Rattle.std.proofs.Common.{ℕ, sym, subst}
 use Rattle.cad_rows.specs.declared.edits.Edit.TheVariants.{Join}
-use Rattle.cad_map.specs.Costs.{work_bound}
-use Rattle.cad_map.specs.Effects.{after}
 use Rattle.cad_laws.specs.Tried.{IsTried}
 use Rattle.map_parts.specs.Parts.{map_of}
-use Rattle.cad_surgery.specs.Work.{TakesWork}
 use Rattle.cad_surgery.proofs.FarEnds.{leads-apart}
+use Rattle.cad_surgery.specs.Trials.{IsMade}
 use Rattle.cad_surgery.proofs.JoinDraft as draft
+use Rattle.cad_surgery.proofs.Trials.{is-idle}
 use Rattle.cad_surgery.proofs.edits.try_join.forward_join.Goals as goal
 
 pub joining_at-requires-clause-two : goal.joining_at-requires-clause-two
@@ -30,16 +28,11 @@ join_again-requires-clause-rows g c =
     draft.joining-told (map_of c.args.draft.now) c.args.point c.args.string c.requires.tried
     c.in_ok-joining.joining c.in_ok-joining.ensures
 
-pub returns-clause-after : goal.returns-clause-after
-returns-clause-after g c =
-    subst (λ (i : ℕ). OnOk c.join_again.result (map_of c.join_again.new.draft ≡ (after (map_of
-    c.args.draft.now) (Join c.args.point i))))
-    (draft.joining-number (map_of c.args.draft.now) c.args.point c.args.string c.requires.tried
-    c.in_ok-joining.joining c.in_ok-joining.ensures) c.join_again.ensures.after
+pub returns-in_err-joining : goal.returns-in_err-joining
+returns-in_err-joining g c = is-idle c.from_residual.ensures.0 c.requires.proper
 
-pub returns-clause-work : goal.returns-clause-work
-returns-clause-work g c =
-    subst (λ (i : ℕ). TakesWork c.args.draft.now.table c.join_again.new.draft.table (work_bound
-    (map_of c.args.draft.now) (after (map_of c.args.draft.now) (Join c.args.point i))))
+pub returns : goal.returns
+returns g c =
+    subst (λ (i : ℕ). IsMade (Join c.args.point i) c.args.draft.now c.join_again.new.draft c.join_again.result)
     (draft.joining-number (map_of c.args.draft.now) c.args.point c.args.string c.requires.tried
-    c.in_ok-joining.joining c.in_ok-joining.ensures) c.join_again.ensures.work
+    c.in_ok-joining.joining c.in_ok-joining.ensures) c.join_again.ensures

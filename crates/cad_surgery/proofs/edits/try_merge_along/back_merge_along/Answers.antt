@@ -1,41 +1,33 @@
 use Rattle.std.proofs.Common.{◌∙◌}
 use Rattle.map_parts.specs.Parts.{map_of}
-use Rattle.cad_surgery.proofs.DividedBack.{ok-then}
 use Rattle.cad_surgery.proofs.UnmergedDraft.{by-record}
-use Rattle.cad_surgery.proofs.Trials.{stays-whole}
+use Rattle.cad_surgery.proofs.Trials.{stays-whole, taken-so}
 use Rattle.cad_surgery.proofs.edits.try_merge_along.back_merge_along.Goals as goal
 
 pub ended_by-requires : goal.ended_by-requires
 ended_by-requires g c =
-    (c.merger_of-told.ensures.held c.requires.made.0 c.requires.made.1.holds).gone.as_many
+    (c.merger_of-told.ensures.held c.requires.beside.made.0 c.requires.beside.made.1.holds).gone.as_many
 
 pub unmerge_with-requires-clause-path : goal.unmerge_with-requires-clause-path
 unmerge_with-requires-clause-path g c = c.as_slice.ensures.value ∙ c.in_ok-path.ensures
 
-pub unmerge_with-requires-clause-made : goal.unmerge_with-requires-clause-made
-unmerge_with-requires-clause-made g c = (
-  c.requires.made.0,
-  by-record c.args.change.now c.merger_of-told.result c.requires.given c.merger_of-told.ensures.edit
-      c.merger_of-told.ensures.held c.requires.made.0
-      (map_of c.args.draft.now) c.requires.made.1,
-)
+pub unmerge_with-requires-clause-beside : goal.unmerge_with-requires-clause-beside
+unmerge_with-requires-clause-beside g c = record {
+  made = (
+    c.requires.beside.made.0,
+    by-record c.args.change.now c.requires.given c.merger_of-told.ensures.edit c.merger_of-told.ensures.held
+        c.requires.beside.made.0 (map_of c.args.draft.now) c.requires.beside.made.1,
+  );
+  proper = c.requires.beside.proper;
+}
 
 pub returns-in_err-path : goal.returns-in_err-path
-returns-in_err-path g c = stays-whole _ _ _ c.from_residual.ensures.0 c.requires.proper
+returns-in_err-path g c = stays-whole _ _ _ c.from_residual.ensures.0 c.requires.beside.proper
 
 pub returns-in_err-gone : goal.returns-in_err-gone
-returns-in_err-gone g c = stays-whole _ _ _ c.from_residual-in_err-gone.ensures.0 c.requires.proper
+returns-in_err-gone g c = stays-whole _ _ _ c.from_residual-in_err-gone.ensures.0 c.requires.beside.proper
 
 pub returns : goal.returns
-returns g c = record {
-  before = ok-then c.unmerge_with.result c.unmerge_with.ensures.before (λ back m it.
-      back m (by-record c.args.change.now c.merger_of-told.result c.requires.given c.merger_of-told.ensures.edit
-      c.merger_of-told.ensures.held m
-      (map_of c.args.draft.now) it));
-  err = c.unmerge_with.ensures.err;
-  grid = c.unmerge_with.ensures.grid;
-  proper = c.unmerge_with.ensures.proper;
-  work = λ m it. c.unmerge_with.ensures.work m (by-record c.args.change.now c.merger_of-told.result c.requires.given c.merger_of-told.ensures.edit
-      c.merger_of-told.ensures.held m
-      (map_of c.args.draft.now) it);
-}
+returns g c =
+    taken-so (λ m belongs. by-record c.args.change.now c.requires.given c.merger_of-told.ensures.edit c.merger_of-told.ensures.held
+    m (map_of c.args.draft.now) belongs) c.unmerge_with.ensures

@@ -1,0 +1,50 @@
+-- Loose strings beside a map's own in a table that goes with it: no look at the map sees them, and
+-- when they are out the table is at rest.
+use Rattle.std.proofs.Common.{◌≡◌, ◌∙◌, refl, ap, subst, List, Bool, true, false, ◌||◌, if◌then◌else◌, true≢false}
+use Rattle.std.specs.Prelude.{nat_eq}
+use Rattle.std.proofs.lemmas.Cmp.{nat_eq_equiv}
+use Rattle.cad_map.specs.Map.{Map, has_string}
+use Rattle.cad_map.proofs.CallerLemmas.{All-from_each, Contains-map, list_any-Contains}
+use Rattle.cell_grid.specs.Grid.{Grid}
+use Rattle.half_table.specs.declared.half.Half.{Half}
+use Rattle.half_table.specs.Rows.{Table, has}
+use Rattle.half_paths.specs.Path.{AreIn, strings_of}
+use Rattle.half_paths.specs.Loose.{is_of, DropsStrings}
+use Rattle.key_lists.specs.Held.{Held}
+use Rattle.cad_laws.specs.Local.{IsShown}
+use Rattle.map_parts.specs.declared.map_rows.MapRows.{MapRows}
+use Rattle.map_parts.specs.declared.stars.Spoke.{Spoke}
+use Rattle.map_parts.specs.Parts.{Parts, FitTogether, map_of, kept_at}
+use Rattle.cad_surgery.specs.Proper.{IsProper}
+use Rattle.cad_surgery.proofs.DraftFits.{settled}
+use Rattle.cad_surgery.proofs.FitParts.{parts, GoWith, stand-for}
+
+-- what comes and goes again leaves what there was
+pub come-and-gone : (b has : Bool) → (has ≡ true → b ≡ false) → (if b then false else (if b then true else has)) ≡ has
+come-and-gone true true none = absurd (true≢false (none refl))
+come-and-gone true false none = refl
+come-and-gone false has none = refl
+
+pub either : (b has : Bool) → (if b then true else has) ≡ (b || has)
+either true has = refl
+either false has = refl
+
+module _ (path : List Half) {m : Map} {rows : MapRows} {table : Table} {held : Held Half} {stars : Held Spoke} (it : GoWith m rows table held stars)
+    (halves : (g : Half) → has table.rows g ≡ (if is_of (strings_of path) g then true else has_string m g.string)) where
+  -- the table has them
+  pub hidden-in : AreIn table.rows path
+  hidden-in = All-from_each (λ h. has table.rows h ≡ true) path (λ h among.
+      halves h ∙ ap (λ (b : Bool). if b then true else has_string m h.string)
+      (list_any-Contains (nat_eq h.string) (strings_of path) h.string (Contains-map (λ (h : Half). h.string) path h among) (nat_eq_equiv.refl h.string)))
+
+  module _ (new : (g : Half) → IsShown m g → is_of (strings_of path) g ≡ false) (grid : Grid) where
+    -- no half of the map is theirs
+    pub hidden-off : (g : Half) → IsShown (map_of (parts rows table held stars grid)) g → is_of (strings_of path) g ≡ false
+    hidden-off g shown = new g (subst (λ (q : Map). IsShown q g) (stand-for grid it) shown)
+
+    pub hidden-gone : (p : Parts) → FitTogether p → map_of p ≡ map_of (parts rows table held stars grid) → DropsStrings path table.rows p.table.rows
+        → IsProper (map_of p) p.table.rows (kept_at p)
+    hidden-gone p fit same drops =
+        settled p m fit (same ∙ stand-for grid it) it.whole (λ g.
+        drops.has g ∙ ap (λ (b : Bool). if is_of (strings_of path) g then false else b) (halves g)
+        ∙ come-and-gone (is_of (strings_of path) g) (has_string m g.string) (new g))
