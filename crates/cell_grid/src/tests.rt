@@ -71,30 +71,14 @@ fn is_point_candidate(grid: &CellGrid, no: PointNo, a: Pt, b: Pt) -> bool
 fn strings_near(rt: &impl Abort, grid: &CellGrid, from: Place, to: Place) -> [bool; 7] {
     let a = position(rt, from);
     let b = position(rt, to);
-    [
-        is_candidate(grid, string(rt, 11), a, b),
-        is_candidate(grid, string(rt, 12), a, b),
-        is_candidate(grid, string(rt, 13), a, b),
-        is_candidate(grid, string(rt, 14), a, b),
-        is_candidate(grid, string(rt, 31), a, b),
-        is_candidate(grid, string(rt, 32), a, b),
-        is_candidate(grid, string(rt, 33), a, b),
-    ]
+    [11, 12, 13, 14, 31, 32, 33].map(|no| is_candidate(grid, string(rt, no), a, b))
 }
 
 // And which points.
 fn points_near(rt: &impl Abort, grid: &CellGrid, from: Place, to: Place) -> [bool; 7] {
     let a = position(rt, from);
     let b = position(rt, to);
-    [
-        is_point_candidate(grid, point(rt, 1), a, b),
-        is_point_candidate(grid, point(rt, 2), a, b),
-        is_point_candidate(grid, point(rt, 3), a, b),
-        is_point_candidate(grid, point(rt, 4), a, b),
-        is_point_candidate(grid, point(rt, 6), a, b),
-        is_point_candidate(grid, point(rt, 7), a, b),
-        is_point_candidate(grid, point(rt, 8), a, b),
-    ]
+    [1, 2, 3, 4, 6, 7, 8].map(|no| is_point_candidate(grid, point(rt, no), a, b))
 }
 
 const SOUTHWEST: Place = (0, 0);
