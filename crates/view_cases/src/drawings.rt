@@ -3,7 +3,7 @@
 //! 2350 to 27350 down.
 ghost use Rattle.cad_files.specs.Building.{IsBuilt};
 
-use crate::plans::{FENCED, FIELD, STRIPS, plan};
+use crate::plans::{FENCED, FIELD, Parts, STRIPS, plan};
 use cad_views::{Plan, draw};
 use std::alloc::Global;
 use std::test::Fail;
@@ -92,7 +92,7 @@ const OF_STRIPS: [(&str, usize); 9] = [
 ];
 
 // A drawing of a plan, with what changed since an older one where there is one; `None` where there is none.
-fn drawing(alloc: Global, text: &str, older: Option<&str>) -> Option<Vec<u8>> {
+fn drawing(alloc: Global, text: Parts, older: Option<Parts>) -> Option<Vec<u8>> {
     let Ok(now) = plan(alloc, text) else {
         return None;
     };
@@ -103,7 +103,7 @@ fn drawing(alloc: Global, text: &str, older: Option<&str>) -> Option<Vec<u8>> {
 }
 
 // A drawing of a plan, with what changed since an older one; `None` where there is none.
-fn drawing_since(alloc: Global, now: &Plan, older: &str) -> Option<Vec<u8>>
+fn drawing_since(alloc: Global, now: &Plan, older: Parts) -> Option<Vec<u8>>
     requires { IsBuilt now.now.rows now.now.map }
 {
     let Ok(old) = plan(alloc, older) else {

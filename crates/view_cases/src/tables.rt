@@ -1,12 +1,12 @@
 //! Tables and differences.
-use crate::plans::{FENCED, FIELD, plan};
+use crate::plans::{FENCED, FIELD, Parts, plan};
 use cad_views::{Plan, difference_text, metres_text, parcel_table, point_table, string_table};
 use std::alloc::Global;
 use std::test::Fail;
 
 // The table of a layer of a plan; `None` where there is none.
-fn table(alloc: Global, text: &str, layer: &str) -> Option<Vec<u8>> {
-    let Ok(plan) = plan(alloc, text) else {
+fn table(alloc: Global, parts: Parts, layer: &str) -> Option<Vec<u8>> {
+    let Ok(plan) = plan(alloc, parts) else {
         return None;
     };
     match layer {
@@ -17,13 +17,13 @@ fn table(alloc: Global, text: &str, layer: &str) -> Option<Vec<u8>> {
 }
 
 // What differs between two plans; `None` where they can't be read.
-fn differences(alloc: Global, old: &str, new: &str) -> Option<Vec<u8>> {
+fn differences(alloc: Global, old: Parts, new: Parts) -> Option<Vec<u8>> {
     let old = plan(alloc, old).ok()?;
     differences_from(alloc, &old, new)
 }
 
 // What differs between a plan and a newer one; `None` where that can't be read.
-fn differences_from(alloc: Global, old: &Plan, new: &str) -> Option<Vec<u8>> {
+fn differences_from(alloc: Global, old: &Plan, new: Parts) -> Option<Vec<u8>> {
     let new = plan(alloc, new).ok()?;
     difference_text(alloc, &old.map, &new.map).ok()
 }
