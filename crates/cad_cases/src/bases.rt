@@ -5,16 +5,27 @@ pub(crate) const SQUARE: &str =
     "source,1,Plan 7; point,1,0,0,1; point,2,1000,0; point,3,1000,1000; point,4,0,1000; \
     parcel,1,A; string,11,1,2,1,0; string,12,2,3,1,0; string,13,3,4,1,0; string,14,4,1,1,0";
 
+/// The source and the corners of the square.
+pub(crate) const CORNERS: &str =
+    "source,1,Plan 7; point,1,0,0,1; point,2,1000,0; point,3,1000,1000; point,4,0,1000";
+
+/// The sides of the square.
+pub(crate) const SIDES: &str =
+    "string,11,1,2,1,0; string,12,2,3,1,0; string,13,3,4,1,0; string,14,4,1,1,0";
+
 /// The rows of an island in the square.
 pub(crate) const ISLAND: &str =
     "point,6,700,300; point,7,800,300; point,8,800,500; parcel,2,B; string,31,6,7,2,1; \
     string,32,7,8,2,1; string,33,8,6,2,1";
 
+/// The corners of the island.
+pub(crate) const ISLAND_CORNERS: &str = "point,6,700,300; point,7,800,300; point,8,800,500";
+
+/// The sides of the island.
+pub(crate) const ISLAND_SIDES: &str = "string,31,6,7,2,1; string,32,7,8,2,1; string,33,8,6,2,1";
+
 /// The first record of a plan that is read.
 pub(crate) const PLAN: &str = "plan,1";
-
-/// The first record of a plan that is printed.
-pub(crate) const PRINTED: &str = "plan,2";
 
 /// The last record of a plan.
 pub(crate) const OPEN: &str = "open";

@@ -1,59 +1,27 @@
 //! A worked job, and what becomes of it.
+use crate::bases::{CORNERS, ISLAND, ISLAND_CORNERS, ISLAND_SIDES, PINCH, SIDES, SQUARE};
 use crate::stores::run_plain;
-use cad_files::{MemSink, PlanFault};
+use cad_files::{MemSink, Sink};
 use cad_history::Depth;
 use cad_job::{JobFault, run_job};
-use cad_rows::Number;
 use number_hash::NumberHash;
 use std::alloc::Global;
+use std::io::Read;
 use std::process::Abort;
 use std::test::Fail;
 
-/// A worked job and its answers, each in parts, one after another, so that a plan is written once for many jobs. In a
-/// part records are parted by a semicolon and a space, and written without the commas that fill them up to seven
-/// fields.
+/// A worked job, and its answers or the fault of its plan.
 #[derive(Drop)]
-pub(crate) struct Case {
-    name: &'static str,
-    job: &'static [&'static str],
-    answers: &'static [&'static str],
-    end: Result<(), JobFault>,
-}
-
-/// A job that is read to its end, and its answers.
-pub(crate) fn answered(
-    name: &'static str,
-    job: &'static [&'static str],
-    answers: &'static [&'static str],
-) -> Case {
-    let end = Ok(());
-    Case {
-        name,
-        job,
-        answers,
-        end,
-    }
-}
-
-/// A job whose plan has a fault, and that writes nothing.
-pub(crate) fn faulty(name: &'static str, job: &'static [&'static str], fault: PlanFault) -> Case {
-    let end = Err(JobFault::Plan(fault));
-    Case {
-        name,
-        job,
-        answers: &[],
-        end,
-    }
+struct Case<'a> {
+    name: &'a str,
+    job: Vec<u8>,
+    answers: Vec<u8>,
+    fault: &'a str,
 }
 
 /// The depth of history that cases have but those on depth.
 pub(crate) fn deep<R: Abort>(rt: &R) -> Depth {
     Depth::new(AMPLE_DEPTH).expect(rt, "a depth")
-}
-
-/// A number of any kind.
-pub(crate) fn number<Kind, R: Abort>(rt: &R, no: u32) -> Number<Kind> {
-    Number::new(no).expect(rt, "a number")
 }
 
 /// A depth of history that no case but those on depth reaches.
@@ -62,13 +30,8 @@ pub(crate) const AMPLE_DEPTH: usize = 100;
 /// How many commas a record has outside quotes.
 fn commas(record: &str) -> usize {
     let mut count = 0usize;
-    let mut quoted = false;
-    for byte in record.as_bytes() {
-        if *byte == b'"' {
-            quoted = !quoted;
-        } else if *byte == b',' && !quoted {
-            count = count.saturating_add(1);
-        }
+    for outside in record.split('"').step_by(2) {
+        count = count.saturating_add(outside.matches(',').count());
     }
     count
 }
@@ -83,65 +46,151 @@ fn append_line(text: &mut Vec<u8>, record: &str) -> Result<(), Fail> {
     Ok(())
 }
 
-/// The records of all parts as lines, each filled up to seven fields.
+/// The rows that a name in capitals stands for in a part; any other record stands for itself.
+fn rows_named(record: &str) -> &str {
+    match record {
+        "SQUARE" => SQUARE,
+        "CORNERS" => CORNERS,
+        "SIDES" => SIDES,
+        "ISLAND" => ISLAND,
+        "ISLAND_CORNERS" => ISLAND_CORNERS,
+        "ISLAND_SIDES" => ISLAND_SIDES,
+        "PINCH" => PINCH,
+        _ => record,
+    }
+}
+
+/// Appends the records of a part as lines.
+fn append_part(text: &mut Vec<u8>, part: &str) -> Result<(), Fail> {
+    for record in part.split("; ") {
+        for row in rows_named(record).split("; ") {
+            append_line(text, row)?;
+        }
+    }
+    Ok(())
+}
+
+/// The records of all parts as lines, each filled up to seven fields. In a part records are parted by a semicolon and a
+/// space, and written without the commas that fill them.
 pub(crate) fn lines(alloc: Global, parts: &[&str]) -> Result<Vec<u8>, Fail> {
     let mut text = Vec::new(alloc);
     for part in parts {
-        for record in part.split("; ") {
-            append_line(&mut text, record)?;
-        }
+        append_part(&mut text, part)?;
     }
     Ok(text)
 }
 
-/// Runs a case at a depth, on half-edges as the program does and on the plain store, and compares what each wrote and
-/// how it ended.
-fn check_case<R: Abort + AllocGlobal>(rt: &R, depth: Depth, case: &Case) -> Result<(), Fail> {
-    let job = lines(rt.alloc(), case.job)?;
-    let answers = lines(rt.alloc(), case.answers)?;
+/// The case of a text: its name, parts of the job behind `>`, and parts of the answers behind `<`, or behind `!` the fault
+/// of a plan, where nothing is written.
+fn case_of(alloc: Global, text: &str) -> Result<Case<'_>, Fail> {
+    let mut case = Case {
+        name: "",
+        job: Vec::new(alloc),
+        answers: Vec::new(alloc),
+        fault: "",
+    };
+    for line in text.lines() {
+        if let Some(part) = line.strip_prefix("> ") {
+            append_part(&mut case.job, part)?;
+        } else if let Some(part) = line.strip_prefix("< ") {
+            append_part(&mut case.answers, part)?;
+        } else if let Some(fault) = line.strip_prefix("! ") {
+            case.fault = fault;
+        } else {
+            case.name = line;
+        }
+    }
+    Ok(case)
+}
+
+/// Runs a job on half-edges at a depth, as the program does.
+fn run_at<R: Read + Drop, S: Sink>(
+    alloc: Global,
+    job: R,
+    sink: &mut S,
+    depth: Depth,
+) -> Result<(), JobFault> {
+    run_job(alloc, NumberHash::fixed(), job, sink, depth)
+}
+
+/// Runs a job on half-edges with ample depth.
+pub(crate) fn run_deep<A: Abort + AllocGlobal, R: Read + Drop, S: Sink>(
+    rt: &A,
+    job: R,
+    sink: &mut S,
+) -> Result<(), JobFault> {
+    run_at(rt.alloc(), job, sink, deep(rt))
+}
+
+/// Runs a job with ample depth, and compares what it writes and how it ends.
+pub(crate) fn check_bytes<R: Abort + AllocGlobal>(
+    rt: &R,
+    job: &[u8],
+    answers: &[u8],
+    end: &Result<(), JobFault>,
+) -> Result<(), Fail> {
     let mut sink = MemSink::new(rt.alloc(), u64::MAX);
-    let ended = run_job(
-        rt.alloc(),
-        NumberHash::fixed(),
-        job.as_slice(),
-        &mut sink,
-        depth,
-    );
-    assert!(rt; ended == case.end, "how {} ends", case.name);
+    assert_eq!(rt; run_deep(rt, job, &mut sink), *end);
+    assert!(rt; sink.bytes() == answers);
+    Ok(())
+}
+
+/// The text of the fault of a plan that a job ended with; empty where it was read to its end.
+fn text_of_end(alloc: Global, end: &Result<(), JobFault>) -> Result<String, Fail> {
+    match end {
+        Ok(()) => Ok(String::new(alloc)),
+        Err(JobFault::Plan(fault)) => Ok(fault.to_string(alloc)?),
+        Err(_) => Err(Fail::from("a job that is read to its end")),
+    }
+}
+
+/// Compares what a case wrote and how it ended on a store.
+fn check_end<R: Abort + AllocGlobal>(
+    rt: &R,
+    case: &Case<'_>,
+    store: &str,
+    written: &[u8],
+    end: &Result<(), JobFault>,
+) -> Result<(), Fail> {
+    let fault = text_of_end(rt.alloc(), end)?;
     assert!(rt;
-        sink.bytes() == answers.as_slice(),
-        "what {} writes",
+        fault.as_str() == case.fault,
+        "how {} ends on {store}",
         case.name
     );
-    let mut plain = MemSink::new(rt.alloc(), u64::MAX);
-    let ended = run_plain(rt.alloc(), job.as_slice(), &mut plain, depth);
     assert!(rt;
-        ended == case.end,
-        "how {} ends on the plain store",
-        case.name
-    );
-    assert!(rt;
-        plain.bytes() == answers.as_slice(),
-        "what {} writes on the plain store",
+        written == case.answers.as_slice(),
+        "what {} writes on {store}",
         case.name
     );
     Ok(())
 }
 
-/// Runs each case at a depth.
+/// Runs a case at a depth, on half-edges as the program does and on the plain store.
+fn check_case<R: Abort + AllocGlobal>(rt: &R, depth: Depth, case: &Case<'_>) -> Result<(), Fail> {
+    let mut sink = MemSink::new(rt.alloc(), u64::MAX);
+    let end = run_at(rt.alloc(), case.job.as_slice(), &mut sink, depth);
+    check_end(rt, case, "half-edges", sink.bytes(), &end)?;
+    let mut plain = MemSink::new(rt.alloc(), u64::MAX);
+    let end = run_plain(rt.alloc(), case.job.as_slice(), &mut plain, depth);
+    check_end(rt, case, "the plain store", plain.bytes(), &end)
+}
+
+/// Runs each case of a text at a depth. Cases are parted by a blank line.
 pub(crate) fn check_at<R: Abort + AllocGlobal>(
     rt: &R,
     depth: usize,
-    cases: &[Case],
+    cases: &str,
 ) -> Result<(), Fail> {
     let depth = Depth::new(depth).expect(rt, "a depth");
-    for case in cases {
-        check_case(rt, depth, case)?;
+    for text in cases.split("\n\n") {
+        let case = case_of(rt.alloc(), text)?;
+        check_case(rt, depth, &case)?;
     }
     Ok(())
 }
 
-/// Runs each case with ample depth.
-pub(crate) fn check<R: Abort + AllocGlobal>(rt: &R, cases: &[Case]) -> Result<(), Fail> {
+/// Runs each case of a text with ample depth.
+pub(crate) fn check<R: Abort + AllocGlobal>(rt: &R, cases: &str) -> Result<(), Fail> {
     check_at(rt, AMPLE_DEPTH, cases)
 }

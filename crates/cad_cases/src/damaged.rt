@@ -1,11 +1,9 @@
 //! Jobs that are cut off, mistyped or hostile, each answered as the formats say.
-use crate::bases::{ISLAND, OPEN, PLAN, SQUARE};
-use crate::cases::{answered, check, deep, faulty, lines};
-use cad_files::{MemSink, PlanFault};
-use cad_job::{JobFault, run_job};
-use number_hash::NumberHash;
+use crate::bases::{OPEN, PLAN, SQUARE};
+use crate::cases::{check, check_bytes, lines};
+use cad_files::PlanFault;
+use cad_job::JobFault;
 use std::alloc::Global;
-use std::process::Abort;
 use std::test::Fail;
 
 /// The first so many lines of a text.
@@ -26,20 +24,6 @@ pub(crate) fn first_lines(text: &[u8], count: usize) -> &[u8] {
 fn later_lines(text: &[u8], count: usize) -> &[u8] {
     let front = first_lines(text, count).len();
     text.split_at(front.min(text.len())).1
-}
-
-/// Runs a job, and compares what it writes and how it ends.
-fn check_bytes<R: Abort + AllocGlobal>(
-    rt: &R,
-    job: &[u8],
-    answers: &[u8],
-    end: &Result<(), JobFault>,
-) -> Result<(), Fail> {
-    let mut sink = MemSink::new(rt.alloc(), u64::MAX);
-    let ended = run_job(rt.alloc(), NumberHash::fixed(), job, &mut sink, deep(rt));
-    assert_eq!(rt; ended, *end);
-    assert!(rt; sink.bytes() == answers);
-    Ok(())
 }
 
 #[test]
@@ -127,42 +111,26 @@ fn texts_in_a_script_that_are_none(rt: HostRuntime) -> Result<(), Fail> {
 
 #[test]
 fn records_in_other_places_and_forms(rt: HostRuntime) -> Result<(), Fail> {
-    let cases = [
-        faulty(
-            "a second plan record",
-            &[
-                PLAN,
-                "source,1,Plan 7; point,1,0,0,1; point,2,1000,0",
-                PLAN,
-                "point,3,1000,1000",
-                ISLAND,
-                OPEN,
-            ],
-            PlanFault::Syntax(5),
-        ),
-        answered(
-            "coordinates of the right form, and of another",
-            &[
-                PLAN,
-                SQUARE,
-                OPEN,
-                "add-point,5,999999999999999999,0; add-point,5,1000000000000000000,0",
-                "add-point,5,-0,0; add-point,1000000000,5,5",
-            ],
-            &["refused,1,range; syntax; syntax; syntax"],
-        ),
-        answered(
-            "two spaces in a list",
-            &[PLAN, SQUARE, OPEN, "divide,1,1  3,21,2,C,1"],
-            &["syntax"],
-        ),
-        answered(
-            "a plan's records in a script",
-            &[PLAN, SQUARE, OPEN, OPEN, PLAN],
-            &["syntax; syntax"],
-        ),
-    ];
-    check(&rt, &cases)
+    let cases = "\
+a second plan record
+> plan,1; source,1,Plan 7; point,1,0,0,1; point,2,1000,0; plan,1; point,3,1000,1000; ISLAND
+> open
+! 3 syntax record 5
+
+coordinates of the right form, and of another
+> plan,1; SQUARE; open; add-point,5,999999999999999999,0; add-point,5,1000000000000000000,0
+> add-point,5,-0,0; add-point,1000000000,5,5
+< refused,1,range; syntax; syntax; syntax
+
+two spaces in a list
+> plan,1; SQUARE; open; divide,1,1  3,21,2,C,1
+< syntax
+
+a plan's records in a script
+> plan,1; SQUARE; open; open; plan,1
+< syntax; syntax
+";
+    check(&rt, cases)
 }
 
 #[test]

@@ -1,11 +1,10 @@
 //! Readers and sinks that fail, and how a fault is told.
 use crate::bases::{ISLAND, ISLAND_ANSWERS, ISLAND_COUNTS, ISLAND_SCRIPT, OPEN, PLAN, SQUARE};
-use crate::cases::{deep, lines};
+use crate::cases::{lines, run_deep};
 use crate::damaged::first_lines;
 use cad_files::{MemSink, PlanFault, Sink, SinkFault};
-use cad_job::{JobFault, run_job, status};
+use cad_job::{JobFault, status};
 use cad_rows::{Name, PointNo};
-use number_hash::NumberHash;
 use std::alloc::Global;
 use std::io::{self, Read};
 use std::test::Fail;
@@ -132,13 +131,7 @@ fn a_read_that_fails(rt: HostRuntime) -> Result<(), Fail> {
         let read = count_of_lines(&job.as_slice()[..given]);
         let answers = answers_to(rt.alloc(), read.saturating_sub(PLAN_RECORDS))?;
         let mut sink = MemSink::new(rt.alloc(), u64::MAX);
-        let end = run_job(
-            rt.alloc(),
-            NumberHash::fixed(),
-            reader,
-            &mut sink,
-            deep(&rt),
-        );
+        let end = run_deep(&rt, reader, &mut sink);
         assert_eq!(rt; end, Err(JobFault::Read), "at read {fails_at}");
         assert!(rt; sink.bytes() == answers.as_slice(), "at read {fails_at}");
     }
@@ -152,13 +145,7 @@ fn a_sink_that_fails(rt: HostRuntime) -> Result<(), Fail> {
     for fails_from in 1..7u32 {
         let answers = answers_to(rt.alloc(), (fails_from - 1) as usize)?;
         let mut sink = MemSink::new(rt.alloc(), u64::from(fails_from));
-        let end = run_job(
-            rt.alloc(),
-            NumberHash::fixed(),
-            job.as_slice(),
-            &mut sink,
-            deep(&rt),
-        );
+        let end = run_deep(&rt, job.as_slice(), &mut sink);
         assert_eq!(rt; end, Err(JobFault::Write), "from call {fails_from}");
         assert!(rt;
             sink.bytes() == answers.as_slice(),
@@ -179,13 +166,7 @@ fn a_sink_that_takes_nothing(rt: HostRuntime) -> Result<(), Fail> {
             takes,
             failures: 0,
         };
-        let end = run_job(
-            rt.alloc(),
-            NumberHash::fixed(),
-            job.as_slice(),
-            &mut sink,
-            deep(&rt),
-        );
+        let end = run_deep(&rt, job.as_slice(), &mut sink);
         assert_eq!(rt; end, Err(JobFault::Write), "after {takes} calls");
         assert!(rt;
             sink.inner.bytes() == answers.as_slice(),
@@ -202,13 +183,7 @@ fn a_sink_of_single_bytes(rt: HostRuntime) -> Result<(), Fail> {
     let mut sink = ByteByByte {
         inner: MemSink::new(rt.alloc(), u64::MAX),
     };
-    let end = run_job(
-        rt.alloc(),
-        NumberHash::fixed(),
-        job.as_slice(),
-        &mut sink,
-        deep(&rt),
-    );
+    let end = run_deep(&rt, job.as_slice(), &mut sink);
     assert_eq!(rt; end, Ok(()));
     assert!(rt; sink.inner.bytes() == answers.as_slice());
     Ok(())
@@ -222,13 +197,7 @@ fn a_short_record_and_a_flush_that_fails(rt: HostRuntime) -> Result<(), Fail> {
     let answers = answers_to(rt.alloc(), 5)?;
     for (fails_from, fault) in [(u64::MAX, JobFault::Read), (6, JobFault::Write)] {
         let mut sink = MemSink::new(rt.alloc(), fails_from);
-        let end = run_job(
-            rt.alloc(),
-            NumberHash::fixed(),
-            job.as_slice(),
-            &mut sink,
-            deep(&rt),
-        );
+        let end = run_deep(&rt, job.as_slice(), &mut sink);
         assert_eq!(rt; end, Err(fault));
         assert!(rt; sink.bytes() == answers.as_slice());
     }

@@ -1,125 +1,99 @@
 //! Records, fields and plan faults.
-use crate::cases::{AMPLE_DEPTH, answered, check, faulty};
-use cad_files::{MemSink, PlanFault};
-use cad_history::Depth;
-use cad_job::{JobFault, run_job};
-use cad_rows::{Name, PointNo, Rule, SourceNo};
-use number_hash::NumberHash;
+use crate::cases::{check, check_bytes};
+use cad_files::PlanFault;
+use cad_job::JobFault;
 use std::test::Fail;
 
 #[test]
 fn records_and_fields(rt: HostRuntime) -> Result<(), Fail> {
-    let cases = [
-        answered("an empty script", &["plan,2; open"], &[]),
-        answered(
-            "words that are none",
-            &[
-                "plan,1; open; Undo; undo ; attach,source,1,1; undo,,,,,,0; plan,1; open",
-                "add-source,0,A; attach,parcel,0,1; drop-point,0; rename,0,X; outline,00",
-            ],
-            &[
-                "syntax; syntax; syntax; syntax; syntax; syntax; syntax; syntax; syntax; syntax",
-                "syntax",
-            ],
-        ),
-        answered(
-            "quotes and commas in texts",
-            &[
-                "plan,1; open; add-source,1,\"North, 7\"; add-source,2,\"a\"\"b\"; add-source,3,\" \"",
-                "add-source,4,\"\"; \"undo\",\"\"; print",
-            ],
-            &["ok; ok; ok; syntax; ok; plan,2; source,1,\"North, 7\"; source,2,\"a\"\"b\"; open"],
-        ),
-        faulty(
-            "a plan of version 1 past its limit",
-            &["plan,1; point,5,1000000001,0; open"],
-            PlanFault::Range(2),
-        ),
-        answered(
-            "a plan of version 2 at its limit, and the wider limit of edits",
-            &["plan,2; point,5,10000000000,-10000000000; open; add-point,6,-10000000000,0; print"],
-            &["ok; plan,2; point,5,10000000000,-10000000000; point,6,-10000000000,0; open"],
-        ),
-        faulty(
-            "a plan of version 2 past its limit",
-            &["plan,2; point,5,0,10000000001; open"],
-            PlanFault::Range(2),
-        ),
-        faulty("version 3", &["plan,3; open"], PlanFault::Version),
-        faulty("no plan at all", &["open"], PlanFault::Version),
-        faulty(
-            "a field too many in the first record",
-            &["plan,1,x"],
-            PlanFault::Version,
-        ),
-        faulty(
-            "leading zeros",
-            &["plan,1; point,05,5,5; open"],
-            PlanFault::Syntax(2),
-        ),
-        faulty(
-            "syntax before range and full, in one record",
-            &["plan,1; point,5,1000000001,0,1 1; open"],
-            PlanFault::Syntax(2),
-        ),
-        faulty(
-            "range before full, in one record",
-            &["plan,1; point,5,1000000001,0,1 2 3 4 5 6 7 8 9 10 11 12 13 14 15 16 17; open"],
-            PlanFault::Range(2),
-        ),
-        faulty(
-            "a second plan record",
-            &["plan,1; source,1,A; plan,1; open"],
-            PlanFault::Syntax(3),
-        ),
-        faulty(
-            "a parcel without a label",
-            &["plan,1; parcel,1; open"],
-            PlanFault::Syntax(2),
-        ),
-        faulty("no open", &["plan,1; source,1,A"], PlanFault::NoOpen),
-        faulty("an empty input", &[], PlanFault::NoOpen),
-        faulty(
-            "two points at one position",
-            &["plan,1; point,1,5,5; point,2,5,5; open"],
-            PlanFault::Breaks(Rule::V3),
-        ),
-    ];
-    check(&rt, &cases)
+    let cases = "\
+an empty script
+> plan,2; open
+
+words that are none
+> plan,1; open; Undo; undo ; attach,source,1,1; undo,,,,,,0; plan,1; open
+> add-source,0,A; attach,parcel,0,1; drop-point,0; rename,0,X; outline,00
+< syntax; syntax; syntax; syntax; syntax; syntax; syntax; syntax; syntax; syntax; syntax
+
+quotes and commas in texts
+> plan,1; open; add-source,1,\"North, 7\"; add-source,2,\"a\"\"b\"; add-source,3,\" \"
+> add-source,4,\"\"; \"undo\",\"\"; print
+< ok; ok; ok; syntax; ok; plan,2; source,1,\"North, 7\"; source,2,\"a\"\"b\"; open
+
+a plan of version 1 past its limit
+> plan,1; point,5,1000000001,0; open
+! 4 range record 2
+
+a plan of version 2 at its limit, and the wider limit of edits
+> plan,2; point,5,10000000000,-10000000000; open; add-point,6,-10000000000,0; print
+< ok; plan,2; point,5,10000000000,-10000000000; point,6,-10000000000,0; open
+
+a plan of version 2 past its limit
+> plan,2; point,5,0,10000000001; open
+! 4 range record 2
+
+version 3
+> plan,3; open
+! 2 version
+
+no plan at all
+> open
+! 2 version
+
+a field too many in the first record
+> plan,1,x
+! 2 version
+
+leading zeros
+> plan,1; point,05,5,5; open
+! 3 syntax record 2
+
+syntax before range and full, in one record
+> plan,1; point,5,1000000001,0,1 1; open
+! 3 syntax record 2
+
+range before full, in one record
+> plan,1; point,5,1000000001,0,1 2 3 4 5 6 7 8 9 10 11 12 13 14 15 16 17; open
+! 4 range record 2
+
+a second plan record
+> plan,1; source,1,A; plan,1; open
+! 3 syntax record 3
+
+a parcel without a label
+> plan,1; parcel,1; open
+! 3 syntax record 2
+
+no open
+> plan,1; source,1,A
+! 12 no-open
+
+an empty input
+! 12 no-open
+
+two points at one position
+> plan,1; point,1,5,5; point,2,5,5; open
+! 11 breaks V3
+";
+    check(&rt, cases)
 }
 
 #[test]
 fn faults_that_name_a_row(rt: HostRuntime) -> Result<(), Fail> {
-    let source = SourceNo::new(1).expect(&rt, "a number");
-    let point = PointNo::new(1).expect(&rt, "a number");
-    let unknown = SourceNo::new(9).expect(&rt, "a number");
-    for (job, fault) in [
-        (
-            "plan,1,,,,,\nsource,1,A,,,,\nsource,1,B,,,,\npoint,1,0,0,9,,\nopen,,,,,,\n",
-            PlanFault::Taken(Name::Source(source)),
-        ),
-        (
-            "plan,1,,,,,\npoint,1,0,0,9,,\npoint,1,5,5,,,\nopen,,,,,,\n",
-            PlanFault::Taken(Name::Point(point)),
-        ),
-        (
-            "plan,1,,,,,\npoint,1,0,0,9,,\npoint,2,0,0,,,\nopen,,,,,,\n",
-            PlanFault::Unknown(Name::Source(unknown)),
-        ),
-    ] {
-        let depth = Depth::new(AMPLE_DEPTH).expect(&rt, "a depth");
-        let mut sink = MemSink::new(rt.alloc(), u64::MAX);
-        let end = run_job(
-            rt.alloc(),
-            NumberHash::fixed(),
-            job.as_bytes(),
-            &mut sink,
-            depth,
-        );
-        assert_eq!(rt; end, Err(JobFault::Plan(fault)), "{job}");
-        assert!(rt; sink.bytes().is_empty(), "{job}");
-    }
-    Ok(())
+    let cases = "\
+a source number twice, before an unknown source
+> plan,1; source,1,A; source,1,B; point,1,0,0,9; open
+! 5 taken source 1
+
+a point number twice, before an unknown source
+> plan,1; point,1,0,0,9; point,1,5,5; open
+! 5 taken point 1
+
+an unknown source, before two points at one position
+> plan,1; point,1,0,0,9; point,2,0,0; open
+! 6 unknown source 9
+";
+    check(&rt, cases)
 }
 
 /// Lines of other lengths, blank lines, a byte order mark, other line ends, and bytes that are no text.
@@ -172,11 +146,7 @@ fn lines_of_all_kinds(rt: HostRuntime) -> Result<(), Fail> {
             Ok(()),
         ),
     ] {
-        let depth = Depth::new(AMPLE_DEPTH).expect(&rt, "a depth");
-        let mut sink = MemSink::new(rt.alloc(), u64::MAX);
-        let got = run_job(rt.alloc(), NumberHash::fixed(), job, &mut sink, depth);
-        assert_eq!(rt; got, end);
-        assert!(rt; sink.bytes() == answers);
+        check_bytes(&rt, job, answers, &end)?;
     }
     Ok(())
 }

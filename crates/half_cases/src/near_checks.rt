@@ -7,7 +7,7 @@ ghost use Rattle.cad_laws.specs.Tried.{IsTried};
 ghost use Rattle.cad_valid.specs.Near.{HoldsMap, ComesFromValid, touched_of};
 
 use crate::counted::Counted;
-use crate::far::{far_plan, with_islands, with_records};
+use crate::far::{far_plan, with_islands};
 use crate::plans::{ISLAND, Plan, SQUARE, SQUARE_RECORDS, edit_of, map_of, text_of};
 use crate::plans_after::{DIVIDED, DIVIDED_ISLAND, JOINED};
 use crate::plans_enclosed::{FREE_CORNERS, WITH_FRAME};
@@ -22,35 +22,22 @@ use std::alloc::Global;
 use std::process::Abort;
 use std::test::Fail;
 
-/// The square in three parcels: one on each side of its diagonal, and one in its corner at point 2.
-const WITH_CORNER: Plan = &[
-    SQUARE_RECORDS,
-    "\
-point,5,600,0,,,
-point,6,1000,400,,,
-parcel,2,B,,,,
-parcel,3,C,,,,
-string,11,1,5,1,0,
-string,12,2,6,2,0,
-string,13,3,4,3,0,
-string,14,4,1,3,0,
-string,15,5,2,2,0,
-string,16,6,3,1,0,
-string,21,1,3,3,1,
-string,22,5,6,1,2,
-",
-];
+/// What makes the square three parcels: one on each side of its diagonal, and one in its corner at point 2.
+const CORNER_RECORDS: &str =
+    "point,5,600,0; point,6,1000,400; parcel,2,B; parcel,3,C; string,11,1,5,1,0; \
+    string,12,2,6,2,0; string,13,3,4,3,0; string,14,4,1,3,0; string,15,5,2,2,0; \
+    string,16,6,3,1,0; string,21,1,3,3,1; string,22,5,6,1,2";
 
 /// An island in that corner.
-const ISLAND_IN_CORNER: &str = "\
-point,7,800,50,,,
-point,8,900,50,,,
-point,9,900,150,,,
-parcel,4,D,,,,
-string,31,7,8,4,2,
-string,32,8,9,4,2,
-string,33,9,7,4,2,
-";
+const ISLAND_IN_CORNER: &str =
+    "point,7,800,50; point,8,900,50; point,9,900,150; parcel,4,D; string,31,7,8,4,2; \
+    string,32,8,9,4,2; string,33,9,7,4,2";
+
+/// The square in those parcels.
+const WITH_CORNER: Plan = &[SQUARE_RECORDS, CORNER_RECORDS];
+
+/// The same with that island.
+const WITH_ISLAND_IN_CORNER: Plan = &[SQUARE_RECORDS, CORNER_RECORDS, ISLAND_IN_CORNER];
 
 /// What a check told of a map, and how often it asked: at all, and for a row by its place.
 #[derive(Drop)]
@@ -149,14 +136,14 @@ fn points_and_strings_changed(rt: HostRuntime) -> Result<(), Fail> {
         &rt,
         &[
             (SQUARE, "split,11,5,500,0,22,23"),
-            (SQUARE, "join,1,21,,,,"),
-            (JOINED, "join,2,22,,,,"),
-            (SQUARE, "move,3,500,-500,,,"),
-            (SQUARE, "move,3,-1000,-1000,,,"),
-            (SQUARE, "move,3,1200,1000,,,"),
-            (SQUARE, "add-point,5,500,500,,,"),
-            (SQUARE, "add-point,6,1000,1000,,,"),
-            (SQUARE, "add-point,6,500,0,,,"),
+            (SQUARE, "join,1,21"),
+            (JOINED, "join,2,22"),
+            (SQUARE, "move,3,500,-500"),
+            (SQUARE, "move,3,-1000,-1000"),
+            (SQUARE, "move,3,1200,1000"),
+            (SQUARE, "add-point,5,500,500"),
+            (SQUARE, "add-point,6,1000,1000"),
+            (SQUARE, "add-point,6,500,0"),
         ],
     )
 }
@@ -168,12 +155,12 @@ fn parcels_divided_and_merged(rt: HostRuntime) -> Result<(), Fail> {
         &[
             (SQUARE, "divide,1,1 3,21,2,C,1"),
             (SQUARE, "divide,1,3 1,21,2,C,1"),
-            (DIVIDED, "merge,1,2,,,,"),
+            (DIVIDED, "merge,1,2"),
             (ISLAND, "divide,1,1 3,21,3,C,1"),
-            (DIVIDED_ISLAND, "merge,1,3,,,,"),
-            (ISLAND, "move,3,400,400,,,"),
-            (ISLAND, "merge,1,2,,,,"),
-            (ISLAND, "merge,2,1,,,,"),
+            (DIVIDED_ISLAND, "merge,1,3"),
+            (ISLAND, "move,3,400,400"),
+            (ISLAND, "merge,1,2"),
+            (ISLAND, "merge,2,1"),
         ],
     )
 }
@@ -249,16 +236,16 @@ fn check_far<R: Abort + AllocGlobal>(rt: &R, plan: Plan, edit: &str) -> Result<(
 fn what_lies_near_is_seen_without_its_rows(rt: HostRuntime) -> Result<(), Fail> {
     // The box of the diagonal has the island, in a parcel that the edit doesn't touch.
     let few = text_of(rt.alloc(), WITH_CORNER)?;
-    let more = with_records(rt.alloc(), few.as_str(), ISLAND_IN_CORNER)?;
-    check_larger(&rt, few.as_str(), more.as_str(), "move,3,1100,1100,,,")
+    let more = text_of(rt.alloc(), WITH_ISLAND_IN_CORNER)?;
+    check_larger(&rt, few.as_str(), more.as_str(), "move,3,1100,1100")
 }
 
 #[test]
 fn islands_and_mergers_are_checked_no_longer_on_a_larger_map(rt: HostRuntime) -> Result<(), Fail> {
     for (plan, edit) in [
         (WITH_FRAME, "enclose,1,9 10 11 12,41 42 43 44,3,C,1"),
-        (DIVIDED, "merge,1,2,,,,"),
-        (ISLAND, "merge,1,2,,,,"),
+        (DIVIDED, "merge,1,2"),
+        (ISLAND, "merge,1,2"),
     ] {
         check_far(&rt, plan, edit)?;
     }

@@ -1,14 +1,10 @@
 //! Plans before and after islands are enclosed.
 use crate::plans::{ISLAND_RECORDS, Plan, SQUARE_RECORDS};
+use crate::plans_divided::ISLAND_IN_NEW;
 
 /// Four points.
-const FREE_CORNERS_RECORDS: &str = "\
-source,1,Plan 7,,,,
-point,1,0,0,,,
-point,2,1000,0,,,
-point,3,1000,1000,,,
-point,4,0,1000,,,
-";
+const FREE_CORNERS_RECORDS: &str =
+    "source,1,Plan 7; point,1,0,0; point,2,1000,0; point,3,1000,1000; point,4,0,1000";
 
 /// Four points, and nothing between them.
 pub(crate) const FREE_CORNERS: Plan = &[FREE_CORNERS_RECORDS];
@@ -16,22 +12,13 @@ pub(crate) const FREE_CORNERS: Plan = &[FREE_CORNERS_RECORDS];
 /// The same, with a parcel between them.
 pub(crate) const FIRST_PARCEL: Plan = &[
     FREE_CORNERS_RECORDS,
-    "\
-parcel,1,A,1,,,
-string,11,1,2,1,0,1
-string,12,2,3,1,0,1
-string,13,3,4,1,0,1
-string,14,4,1,1,0,1
-",
+    "parcel,1,A,1; string,11,1,2,1,0,1; string,12,2,3,1,0,1; string,13,3,4,1,0,1; \
+    string,14,4,1,1,0,1",
 ];
 
 /// Four points round the island.
-pub(crate) const WITH_FRAME_RECORDS: &str = "\
-point,9,600,100,,,
-point,10,900,100,,,
-point,11,900,700,,,
-point,12,600,700,,,
-";
+pub(crate) const WITH_FRAME_RECORDS: &str =
+    "point,9,600,100; point,10,900,100; point,11,900,700; point,12,600,700";
 
 /// The square with an island, and four points round that.
 pub(crate) const WITH_FRAME: Plan = &[SQUARE_RECORDS, ISLAND_RECORDS, WITH_FRAME_RECORDS];
@@ -41,14 +28,7 @@ pub(crate) const FRAMED: Plan = &[
     SQUARE_RECORDS,
     ISLAND_RECORDS,
     WITH_FRAME_RECORDS,
-    "\
-parcel,3,C,1,,,
-string,31,6,7,2,3,
-string,32,7,8,2,3,
-string,33,8,6,2,3,
-string,41,9,10,3,1,1
-string,42,10,11,3,1,1
-string,43,11,12,3,1,1
-string,44,12,9,3,1,1
-",
+    ISLAND_IN_NEW,
+    "parcel,3,C,1; string,41,9,10,3,1,1; string,42,10,11,3,1,1; string,43,11,12,3,1,1; \
+    string,44,12,9,3,1,1",
 ];

@@ -8,7 +8,7 @@ ghost use Rattle.map_parts.specs.Parts.{map_of as map_that_stands};
 ghost use Rattle.edit_records.specs.Record.{Belongs};
 
 use crate::half_maps::half;
-use crate::plans::{Plan, edit_of, map_of, text_of};
+use crate::plans::{Plan, append, edit_of, map_of, text_of};
 use cad_edit::PlainStore;
 use cad_files::{answer_text, plan_text};
 use cad_history::Answer;
@@ -327,21 +327,18 @@ fn check_plain<R: Abort + AllocGlobal>(
     check_text(rt, &store.map, texts.after)
 }
 
-/// The record of an answer: it has seven fields.
+/// The record of an answer, as a line.
 fn answer_record(alloc: Global, refusal: Option<&str>) -> Result<String, AllocError> {
-    let Some(why) = refusal else {
-        return format!(in alloc; "ok,,,,,,\n");
-    };
-    let mut record = format!(in alloc; "refused,{why}")?;
-    for _ in why.split(',').count()..6 {
-        record.push_str(",")?;
+    let mut line = String::new(alloc);
+    match refusal {
+        None => append(&mut line, "ok")?,
+        Some(why) => append(&mut line, format!(in alloc; "refused,{why}")?.as_str())?,
     }
-    record.push_str("\n")?;
-    Ok(record)
+    Ok(line)
 }
 
 /// Makes an edit of a worked job on both stores.
-pub(crate) fn check_step<R: Abort + AllocGlobal>(rt: &R, step: &Step) -> Result<(), Fail> {
+fn check_step<R: Abort + AllocGlobal>(rt: &R, step: &Step) -> Result<(), Fail> {
     let before = text_of(rt.alloc(), step.before)?;
     let after = text_of(rt.alloc(), step.after)?;
     let answer = answer_record(rt.alloc(), step.refusal)?;
@@ -354,6 +351,14 @@ pub(crate) fn check_step<R: Abort + AllocGlobal>(rt: &R, step: &Step) -> Result<
     let map = map_of(rt.alloc(), texts.before)?;
     check_on_halves(rt, &map, &edit, &texts)?;
     check_plain(rt, &mut PlainStore { map }, &edit, &texts)?;
+    Ok(())
+}
+
+/// Makes edits of worked jobs on both stores, each on the plan before it.
+pub(crate) fn check_steps<R: Abort + AllocGlobal>(rt: &R, steps: &[Step]) -> Result<(), Fail> {
+    for step in steps {
+        check_step(rt, step)?;
+    }
     Ok(())
 }
 

@@ -75,8 +75,8 @@ fn edits_cost_no_more_on_a_larger_map(rt: HostRuntime) -> Result<(), Fail> {
     for (plan, edit, wanted) in [
         (SQUARE, "divide,1,1 3,21,2,C,1", 9),
         (WITH_FRAME, "enclose,1,9 10 11 12,41 42 43 44,3,C,1", 13),
-        (DIVIDED, "merge,1,2,,,,", 12),
-        (ISLAND, "merge,1,2,,,,", 13),
+        (DIVIDED, "merge,1,2", 12),
+        (ISLAND, "merge,1,2", 13),
     ] {
         check_far(&rt, plan, edit, wanted)?;
     }
