@@ -1,5 +1,5 @@
 #!/usr/bin/env python3
-"""Makes edit scripts on a grid of parcels, for bin/bench --edits.
+"""Makes edit scripts on a grid of parcels, for bin/bench --edits, and in faces of many rings, for bin/bench --faces.
 
     bin/edit_scripts.py KIND SIZE [RECORDS]     writes such a script, of 100,000 records if not given
 
@@ -18,9 +18,18 @@ another parcel, string or point:
     mixed         all of these but joins and islands, undo and redo at any moment, and now and then an outline, or an
                   edit that is refused
 
+On a town of `bin/bench --write town SIZE` or `--write streets SIZE`:
+
+    edge          a point of two lots at the edge of a block, to another place near it
+
+On a field of `bin/bench --write holes SIZE`:
+
+    island        the tip of an island, to another place near it
+
 The same call gives the same script. Outside `mixed` nothing is refused, where 1,000 edits can be undone.
 """
 import itertools
+import math
 import sys
 
 SIDE = 10_000
@@ -56,6 +65,61 @@ class Grid:
         """A chain through a parcel, from its south-west to its north-east, as a list of points."""
         chain = (self.point(column, row), *inner, self.point(column + 1, row + 1))
         return ' '.join(str(point) for point in chain)
+
+
+class Town:
+    """The numbers and positions of a town's lots: so many blocks across and up, each of 8 by 8 irregular lots."""
+
+    LOTS, WIDTH, DEPTH, STREET = 8, 18_000, 24_000, 12_000
+
+    def __init__(self, size):
+        self.size = size
+        self.pitch = self.LOTS * self.WIDTH + self.STREET, self.LOTS * self.DEPTH + self.STREET
+
+    def blocks(self):
+        return self.size ** 2
+
+    def point(self, block, column, row):
+        """The point at a corner of lots of a block."""
+        return (block * (self.LOTS + 1) + row) * (self.LOTS + 1) + column + 1
+
+    def lot(self, block, column, row):
+        """The lot to the north-east of such a point."""
+        return (block * self.LOTS + row) * self.LOTS + column + 1
+
+    def corner(self, column, row):
+        """The crossing of two streets."""
+        return column * self.pitch[0], row * self.pitch[1]
+
+    def position(self, block, column, row):
+        """A place up to three metres off the lattice, at the edge of a block up to two."""
+        up, across = divmod(block, self.size)
+        reach = 2000 if column in (0, self.LOTS) or row in (0, self.LOTS) else 3000
+        turn = block * 31 + column * 7919 + row * 104_729
+        west, south = self.corner(across, up)
+        return (west + self.STREET // 2 + column * self.WIDTH + turn % (2 * reach) - reach,
+                south + self.STREET // 2 + row * self.DEPTH + turn * 37 % (2 * reach) - reach)
+
+    def edge(self, block):
+        """The points round a block, counterclockwise."""
+        last = self.LOTS
+        places = ([(column, 0) for column in range(last)] + [(last, row) for row in range(last)]
+                  + [(column, last) for column in range(last, 0, -1)] + [(0, row) for row in range(last, 0, -1)])
+        return [self.point(block, *place) for place in places]
+
+
+class Islands:
+    """The numbers and positions of a field's islands, each a triangle in a square metre of its own."""
+
+    def __init__(self, size):
+        self.size, self.columns = size, math.isqrt(size - 1) + 1
+
+    def position(self, island):
+        return 500 + island % self.columns * 1000, 500 + island // self.columns * 1000
+
+    def tip(self, island):
+        """The last of its three points, behind the four of the field."""
+        return 4 + 3 * (island + 1)
 
 
 class Draws:
@@ -246,19 +310,37 @@ def mixed(grid, draws):
             yield f'outline,{grid.parcel(*draws.square(grid))}'
 
 
+def edge(town, draws):
+    while True:
+        block, place = draws.below(town.blocks()), 1 + draws.below(town.LOTS - 1)
+        column, row = [(place, 0), (place, town.LOTS), (0, place), (town.LOTS, place)][draws.below(4)]
+        x, y = draws.near(town.position(block, column, row), 1000)
+        yield f'move,{town.point(block, column, row)},{x},{y}'
+
+
+def island(islands, draws):
+    while True:
+        place = draws.below(islands.size)
+        x, y = islands.position(place)
+        east, north = draws.near((x + 250, y + 450), 50)
+        yield f'move,{islands.tip(place)},{east},{north}'
+
+
 KINDS = {'divide-undo': divide_undo, 'divide-merge': divide_merge, 'chain': chain, 'split-join': split_join,
          'move': move, 'points': points, 'enclose': enclose, 'attach': attach, 'undo-walk': undo_walk, 'mixed': mixed}
+FACE_KINDS = {'edge': (Town, edge), 'island': (Islands, island)}
 
 
 def script(kind, size, records):
     """The lines of a script of so many records, each of seven fields."""
-    for record in itertools.islice(KINDS[kind](Grid(size), Draws(12345)), records):
+    places, steps = FACE_KINDS[kind] if kind in FACE_KINDS else (Grid, KINDS[kind])
+    for record in itertools.islice(steps(places(size), Draws(12345)), records):
         yield record + ',' * (6 - record.count(',')) + '\n'
 
 
 def main():
     words = sys.argv[1:]
-    if len(words) not in (2, 3) or words[0] not in KINDS:
+    if len(words) not in (2, 3) or words[0] not in {**KINDS, **FACE_KINDS}:
         sys.exit(__doc__)
     sys.stdout.writelines(script(words[0], int(words[1]), int(words[2]) if len(words) == 3 else 100_000))
 
