@@ -26,3 +26,4 @@ mod NearFaces
 mod RaysOfPoint
 pub mod Untouched
 pub mod CallerLemmas
+pub mod HubFacts

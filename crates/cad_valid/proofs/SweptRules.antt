@@ -137,7 +137,7 @@ module _ (m : Map) (rows : HasPlacedRows m) where
   point_on : (k : ℕ) (p : PointRow) → slice_get m.points k ≡ Some p → IsOnMap (placed_point p)
   point_on k p at = let on = All-at_place (λ r. OnTheMap r.position) m.points k p rows.v1.positions at in record { a = on; b = on }
 
-  string_at : (i : ℕ) (s : StringRow) → slice_get m.strings i ≡ Some s → slice_get (placed_rows m) i ≡ Some (placed_string m s)
+  pub string_at : (i : ℕ) (s : StringRow) → slice_get m.strings i ≡ Some s → slice_get (placed_rows m) i ≡ Some (placed_string m s)
   string_at i s at = get-first (placed_strings m) (placed_points m) i (placed_string m s) (get-mapped (placed_string m) m.strings i s at)
 
   point_at : (k : ℕ) (p : PointRow) → slice_get m.points k ≡ Some p → slice_get (placed_rows m) (length (placed_strings m) + k) ≡ Some (placed_point p)
@@ -145,7 +145,7 @@ module _ (m : Map) (rows : HasPlacedRows m) where
 
   -- the tests, as what they say of strings and points at their places
   module _ (i j : ℕ) (s t : StringRow) (at_s : slice_get m.strings i ≡ Some s) (at_t : slice_get m.strings j ≡ Some t) where
-    strings_pass : MeetAtEnds m s t → have_no_crossing (placed_string m s) (placed_string m t) ≡ true
+    pub strings_pass : MeetAtEnds m s t → have_no_crossing (placed_string m s) (placed_string m t) ≡ true
     strings_pass meet =
         chosen (placed_string m s) (placed_string m t) false false (string_is i s at_s) (string_is j t at_t)
         ∙ (meets_at_ends-is m rows s t (placed-at m rows i s at_s) (placed-at m rows j t at_t)).1 meet

@@ -10,3 +10,4 @@ pub mod Shapes
 pub mod Rings
 pub mod Placed
 pub mod Swept
+pub mod Hubs

@@ -8,6 +8,7 @@ mod extents;
 mod face_shapes;
 mod holes;
 mod holes_swept;
+mod hubs;
 mod near;
 mod outlines;
 mod outlines_by_runs;
@@ -73,7 +74,8 @@ pub fn first_broken<M: MapView>(map: &M) -> Option<Rule>
 /// V3 and V4 are told by a sort of boxes each: of strings and points only those are compared whose
 /// boxes lie beside one another in a row of the map. For that it takes memory for the boxes, and for
 /// at most three spans a box. Its time for them is that of the sort and of these pairs: many long
-/// strings that lie slantwise over one another, or at one point, are compared each with each.
+/// strings that lie slantwise over one another are compared each with each. Strings of a point that
+/// has very many are sorted by their directions instead, and not compared with one another.
 ///
 /// V7 and V8 take each face's rings as they stand together in the map's list, and of holes too only
 /// those are compared whose boxes overlap. Each hole's anchor is counted against each side of its

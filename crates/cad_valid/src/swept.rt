@@ -1,10 +1,12 @@
 //! Which points have one position, and which strings and points cross, told by one sort of their
 //! boxes each.
-ghost use Rattle.std.specs.Prelude.{◌≡◌, ◌++◌, IfOk, OnOk};
+ghost use Rattle.std.specs.Prelude.{◌≡◌, ◌++◌, length, IfOk, OnOk};
 ghost use Rattle.std.specs.Bool.{OnTrue, OnFalse};
 ghost use Rattle.cad_map.specs.Valid.{HasNoCrossing};
 ghost use Rattle.cad_map.specs.Valid.{has_distinct_positions as has_distinct_positions_of};
 ghost use Rattle.cad_map.specs.Crossings.{HasPlacedRows};
+ghost use Rattle.sweep.specs.Extents.{HasExtents, AllThatOverlapPass, SomePairFails};
+ghost use Rattle.cad_valid.specs.Hubs.{boxes_in};
 ghost use Rattle.cad_valid.specs.Swept.{passes_at, lie_apart as lie_apart_of};
 ghost use Rattle.cad_valid.specs.Swept.{is_point as is_point_of, have_no_crossing as have_no_crossing_of};
 ghost use Rattle.cad_valid.specs.Swept.{placed_rows as placed_rows_of};
@@ -12,12 +14,13 @@ ghost use Rattle.cad_valid.specs.Swept.{placed_strings as placed_strings_of};
 ghost use Rattle.cad_valid.specs.Swept.{placed_points as placed_points_of};
 
 use crate::boxes::boxes_of;
+use crate::hubs::{groups_of, may_have_hub};
 use crate::placed::{Placed, lies_only_as_end, meet_at_ends, placed_point, placed_string};
 use crate::points::is_same;
 use cad_map::{MapView, PlainMap};
 use cad_rows::Memory;
 use std::alloc::Global;
-use sweep::{PairTest, all_that_overlap_pass, row_height};
+use sweep::{Extent, PairTest, all_of_two_groups_pass, all_that_overlap_pass, row_height};
 
 /// Whether no two points have the same position. Takes memory for a box and for a span or two of
 /// each point; its time is that of a sort of these.
@@ -33,7 +36,8 @@ pub(crate) fn has_distinct_positions_swept(alloc: Global, map: &PlainMap) -> Res
 }
 
 /// Whether no two strings have a common location but a shared end, and no point lies on a string but
-/// its ends. Takes memory for each string and point with its box, and for at most three spans a box.
+/// its ends. Takes memory for each string and point with its box, and for at most three spans a box
+/// or, where a point has very many strings, some boxes more for each.
 pub(crate) fn has_no_crossing_swept(alloc: Global, map: &PlainMap) -> Result<bool, Memory>
     requires { HasPlacedRows map.now }
     ensures kept { IfOk result (λ b. OnTrue b (HasNoCrossing map.now)) }
@@ -41,9 +45,33 @@ pub(crate) fn has_no_crossing_swept(alloc: Global, map: &PlainMap) -> Result<boo
 {
     let items = placed_rows(alloc, map)?;
     let boxes = boxes_of(alloc, &items)?;
-    let uncrossed = Uncrossed { items: &items };
-    let height = row_height(&boxes);
-    Ok(all_that_overlap_pass(alloc, &uncrossed, &boxes, height)?)
+    are_uncrossed(alloc, map, &items, &boxes)
+}
+
+// Whether each two of the map's strings and points whose boxes overlap pass the test of V4. Strings of
+// a point that has very many aren't tested with one another, where no two lead into one direction.
+fn are_uncrossed(
+    alloc: Global,
+    map: &PlainMap,
+    items: &[Placed],
+    boxes: &[Extent],
+) -> Result<bool, Memory>
+    requires rows { HasPlacedRows map.now }
+    requires items { items.now ≡ placed_rows_of map.now }
+    requires boxes { boxes.now ≡ boxes_in items.now }
+    requires extents { HasExtents boxes.now }
+    ensures passed { IfOk result (λ b. OnTrue b
+        (AllThatOverlapPass (passes_at have_no_crossing_of items.now) boxes.now)) }
+    ensures failed { IfOk result (λ b. OnFalse b
+        (SomePairFails (passes_at have_no_crossing_of items.now) (length boxes.now))) }
+{
+    let uncrossed = Uncrossed { items };
+    if !may_have_hub(alloc, map)? {
+        let height = row_height(boxes);
+        return Ok(all_that_overlap_pass(alloc, &uncrossed, boxes, height)?);
+    }
+    let groups = groups_of(alloc, map, boxes.len())?;
+    Ok(all_of_two_groups_pass(alloc, &uncrossed, boxes, &groups)?)
 }
 
 // The test of V3: two points have different positions.

@@ -19,7 +19,7 @@ pub use Rattle.geo_exact.specs.MeasureLaws.{doubled_area-odd, doubled_area-bound
 pub use Rattle.geo_exact.proofs.Directions.{one_is_first, in_one_sector}
 pub use Rattle.geo_exact.proofs.Borders.{in_sector-first_border, in_sector-last_border}
 pub use Rattle.geo_exact.proofs.SignTestLemmas.{passes_signs-is}
-pub use Rattle.geo_exact.proofs.TurnOrder.{IsBetween, met-later, met-apart, not-met-itself, first-between, second-between, last-between}
+pub use Rattle.geo_exact.proofs.TurnOrder.{IsBetween, met-later, met-apart, not-met-itself, same-exchanged, on-same_direction, first-between, second-between, last-between}
 
 -- ---- Positions
 

@@ -6,13 +6,14 @@ use Rattle.std.proofs.lemmas.Int.{ints, by_lt_z}
 use Rattle.geo_exact.specs.Position.{Position}
 use Rattle.geo_exact.specs.Orientation.{orientation, dot, IsSameDirection}
 use Rattle.geo_exact.specs.Sector.{in_sector, AreThreeDirections}
+use Rattle.geo_exact.specs.Segment.{IsOnSegment}
 use Rattle.geo_exact.specs.Turning.{is_ahead, is_met_first}
 use Rattle.geo_exact.proofs.Polynomial.{by_parts}
 use Rattle.geo_exact.proofs.Polynomial.Polynomial.{var, num, ◌⊞◌, ◌⊟◌, ◌⊠◌}
 use Rattle.geo_exact.proofs.Signs.{positive-positive, negative-positive, zero-times, square}
 use Rattle.geo_exact.proofs.Borders.{cross_self}
 use Rattle.geo_exact.proofs.Directions.Sign.{above, zero_, below}
-use Rattle.geo_exact.proofs.Directions.{by_signs, Sign, sign, cross, inner, inner_back, cross_back, one_is_first}
+use Rattle.geo_exact.proofs.Directions.{by_signs, Sign, sign, cross, inner, inner_back, cross_back, one_is_first, above_if, zero_if, away}
 
 -- ---- Vectors in one half of the plane
 
@@ -43,15 +44,6 @@ not_negative x y h k = go (sign x) (sign y)
     go (above p u) (below q v) = absurd (omega (arith, ints))
     go (zero_ p u) s = let r = zero-times x y p in omega (arith, r, ints)
     go (below p u) s = absurd (omega (arith, ints))
-
--- a factor is above zero where the product is, and the other factor
-above_if : (x y : ℤ) → pos 0 <ℤ y → pos 0 <ℤ (x *ℤ y) → pos 0 <ℤ x
-above_if x y h k = go (sign x)
-  where
-    go : Sign x → pos 0 <ℤ x
-    go (above p u) = p
-    go (zero_ p u) = let q = zero-times x y p in absurd (omega (arith, q, k, ints))
-    go (below p u) = let q = negative-positive x y p h in absurd (omega (arith, q, k, ints))
 
 -- the orientation of a vector on the line and another
 flat_first : (ax ay bx by : ℤ) → ay ≡ pos 0 → cross ax ay bx by ≡ ax *ℤ by
@@ -310,7 +302,7 @@ met-apart v a b a_away b_away h s = by (meeting v a b (half v a a_away) (half v 
         let k = same_way _ _ _ _ x y (second_turned v a b ∙ omega (arith, back, p, ints)) in
         omega (arith, k, o, q, ints)
 
-same-exchanged : (v a b : Position) → IsSameDirection v a b → IsSameDirection v b a
+pub same-exchanged : (v a b : Position) → IsSameDirection v a b → IsSameDirection v b a
 same-exchanged v a b s = record {
   parallel = (let back : orientation v b a ≡ neg_ℤ (orientation v a b) = cross_back (a.x -ℤ v.x) (a.y -ℤ v.y) (b.x -ℤ v.x) (b.y -ℤ v.y) in let p = s.parallel in omega (arith, back, p, ints));
   same_way = (let e : dot v b a ≡ dot v a b = inner_back (a.x -ℤ v.x) (a.y -ℤ v.y) (b.x -ℤ v.x) (b.y -ℤ v.y) in let q = s.same_way in omega (arith, e, q, ints));
@@ -367,3 +359,66 @@ not-met-itself v a = by (is_ahead v a) (lt_false (pos 0) (orientation v a a) (om
     by : (ahead : Bool) → int_lt (pos 0) (orientation v a a) ≡ false → (if ahead then (not ahead || int_lt (pos 0) (orientation v a a)) else (not ahead && int_lt (pos 0) (orientation v a a))) ≡ false
     by true none = none
     by false none = none
+
+-- ---- On a segment
+
+-- a position on the segment from v to a that isn't v lies in the direction of a
+pub on-same_direction : (v a b : Position) → ¬ (b ≡ v) → IsOnSegment v a b → IsSameDirection v a b
+on-same_direction v a b b_away on = record {
+  parallel = zero_if (orientation v a b) (pos on.n) some parallel;
+  same_way = above_if (dot v a b) (pos on.s) ahead forward;
+}
+  where
+    some : pos 0 <ℤ pos on.n
+    some = let h = on.some in omega (arith, h, ints)
+
+    ax : ℤ
+    ax = a.x -ℤ v.x
+
+    ay : ℤ
+    ay = a.y -ℤ v.y
+
+    bx : ℤ
+    bx = b.x -ℤ v.x
+
+    by : ℤ
+    by = b.y -ℤ v.y
+
+    along : (n s t v a b : ℤ) → n *ℤ v +ℤ s *ℤ (a -ℤ v) ≡ n *ℤ b +ℤ t *ℤ (b -ℤ b) → s *ℤ (a -ℤ v) ≡ n *ℤ (b -ℤ v)
+    along n s t v a b h =
+        let N = var 0 in let T = var 1 in let V = var 2 in let B = var 3 in
+        let e = by_parts (n ∷ t ∷ v ∷ b ∷ []) (N ⊠ B ⊞ T ⊠ (B ⊟ B)) (N ⊠ (B ⊟ V) ⊞ N ⊠ V) (omega arith) in
+        omega (arith, h, e, ints)
+
+    along_x : pos on.s *ℤ ax ≡ pos on.n *ℤ bx
+    along_x = along (pos on.n) (pos on.s) (pos on.t) v.x a.x b.x (ap (λ (p : Position). p.x) on.same)
+
+    along_y : pos on.s *ℤ ay ≡ pos on.n *ℤ by
+    along_y = along (pos on.n) (pos on.s) (pos on.t) v.y a.y b.y (ap (λ (p : Position). p.y) on.same)
+
+    parallel : orientation v a b *ℤ pos on.n ≡ pos 0
+    parallel =
+        let AX = var 0 in let AY = var 1 in let BX = var 2 in let BY = var 3 in let N = var 4 in let S = var 5 in
+        let at = ax ∷ ay ∷ bx ∷ by ∷ pos on.n ∷ pos on.s ∷ [] in
+        by_parts at ((AX ⊠ BY ⊟ AY ⊠ BX) ⊠ N) (AX ⊠ (N ⊠ BY) ⊟ AY ⊠ (N ⊠ BX)) (omega arith)
+        ∙ (λ i. ax *ℤ sym along_y i -ℤ ay *ℤ sym along_x i)
+        ∙ by_parts at (AX ⊠ (S ⊠ AY) ⊟ AY ⊠ (S ⊠ AX)) (num (pos 0)) (omega arith)
+
+    forward : pos 0 <ℤ (dot v a b *ℤ pos on.s)
+    forward =
+        let AX = var 0 in let AY = var 1 in let BX = var 2 in let BY = var 3 in let N = var 4 in let S = var 5 in
+        let at = ax ∷ ay ∷ bx ∷ by ∷ pos on.n ∷ pos on.s ∷ [] in
+        let e : dot v a b *ℤ pos on.s ≡ dot v b b *ℤ pos on.n =
+        by_parts at ((AX ⊠ BX ⊞ AY ⊠ BY) ⊠ S) (BX ⊠ (S ⊠ AX) ⊞ BY ⊠ (S ⊠ AY)) (omega arith)
+        ∙ (λ i. bx *ℤ along_x i +ℤ by *ℤ along_y i)
+        ∙ by_parts at (BX ⊠ (N ⊠ BX) ⊞ BY ⊠ (N ⊠ BY)) ((BX ⊠ BX ⊞ BY ⊠ BY) ⊠ N) (omega arith) in
+        let k = positive-positive (dot v b b) (pos on.n) (away v b b_away) some in
+        omega (arith, e, k, ints)
+
+    ahead : pos 0 <ℤ pos on.s
+    ahead = go (sign (pos on.s))
+      where
+        go : Sign (pos on.s) → pos 0 <ℤ pos on.s
+        go (above p u) = p
+        go (zero_ p u) = let z = times-zero (dot v a b) (pos on.s) p in let h = forward in absurd (omega (arith, z, h, ints))
+        go (below p u) = absurd (omega (arith, p, ints))

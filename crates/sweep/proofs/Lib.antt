@@ -3,3 +3,4 @@ mod Pairs
 mod Rows
 pub mod Boxes
 mod SortedKeys
+pub mod PartFacts

@@ -1,3 +1,4 @@
 pub mod Spans
 pub mod Extents
 pub mod Repeats
+pub mod Parts

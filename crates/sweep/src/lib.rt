@@ -6,11 +6,14 @@
 #![tactic(auto)]
 
 mod extent;
+mod groups;
+mod part;
 mod repeats;
 mod scan;
 mod span;
 
 pub use extent::{Extent, LEAST_ROW_HEIGHT, all_that_overlap_pass, row_height};
+pub use groups::all_of_two_groups_pass;
 pub use repeats::first_repeated;
 pub use scan::{PairTest, all_that_meet_pass};
 pub use span::Span;

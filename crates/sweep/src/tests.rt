@@ -1,8 +1,9 @@
-ghost use Rattle.std.specs.Prelude.{IfOk, false};
+ghost use Rattle.std.specs.Prelude.{◌≡◌, length, IfOk, false};
 ghost use Rattle.sweep.specs.Extents.{HasExtents};
 
 use crate::{
-    Extent, PairTest, Span, all_that_meet_pass, all_that_overlap_pass, first_repeated, row_height,
+    Extent, PairTest, Span, all_of_two_groups_pass, all_that_meet_pass, all_that_overlap_pass,
+    first_repeated, row_height,
 };
 use std::alloc::{AllocError, Global};
 use std::test::Fail;
@@ -20,7 +21,8 @@ impl PairTest for NonePass {
 
 /// Boxes by the left, bottom, width and height of each.
 fn boxes(alloc: Global, sides: &[(u32, u32, u32, u32)]) -> Result<Vec<Extent>, AllocError>
-    ensures { IfOk result (λ boxes. HasExtents boxes.items) }
+    ensures extents { IfOk result (λ boxes. HasExtents boxes.items) }
+    ensures count { IfOk result (λ boxes. length boxes.items ≡ length sides.now) }
 {
     let mut boxes = Vec::new(alloc);
     for (left, bottom, width, height) in sides {
@@ -41,6 +43,28 @@ fn some_are_tested(alloc: Global, sides: &[(u32, u32, u32, u32)]) -> Result<bool
     let boxes = boxes(alloc, sides)?;
     let height = row_height(&boxes);
     Ok(!all_that_overlap_pass(alloc, &NonePass, &boxes, height)?)
+}
+
+/// Whether some two of these boxes are tested where each has the group at its place.
+fn some_of_groups_are_tested(
+    alloc: Global,
+    sides: &[(u32, u32, u32, u32)],
+    groups: &[u64],
+) -> Result<bool, AllocError>
+    requires { length groups.now ≡ length sides.now }
+{
+    let boxes = boxes(alloc, sides)?;
+    Ok(!all_of_two_groups_pass(alloc, &NonePass, &boxes, groups)?)
+}
+
+#[test]
+fn boxes_of_two_groups_that_overlap_are_tested(rt: HostRuntime) -> Result<(), Fail> {
+    let alloc = rt.alloc();
+    let two = [(0, 0, 5, 5), (5, 5, 9, 900)];
+    assert!(rt; some_of_groups_are_tested(alloc, &two, &[1, 2])?);
+    assert!(rt; !some_of_groups_are_tested(alloc, &two, &[7, 7])?);
+    assert!(rt; !some_of_groups_are_tested(alloc, &[(0, 0, 5, 5), (6, 5, 9, 900)], &[1, 2])?);
+    Ok(())
 }
 
 #[test]

@@ -1,0 +1,115 @@
+//! Strings of one point that are known to meet there alone.
+ghost use Rattle.std.specs.Prelude.{◌≡◌, ◌<◌, ◌^◌, ℕ, length, IfOk, OnOk};
+ghost use Rattle.cad_map.specs.Map.{Map};
+ghost use Rattle.cad_map.specs.Stars.{star, spokes_of};
+ghost use Rattle.cad_valid.specs.Hubs.{alone as alone_at, AreGroupsOf, AreRegrouped};
+
+use cad_map::{MapView, PlainMap, Spoke, Stars, position, sort_in_turn};
+use cad_rows::{Memory, PointNo};
+use std::alloc::Global;
+
+/// A point of so many strings may be a hub.
+const HUB: usize = 200;
+
+// Points whose numbers leave the same remainder by this are counted together.
+const REMAINDERS: usize = 65_536;
+
+// Counts an end of a string, and tells whether so many are counted as a hub has.
+fn counts_to_hub(counts: &mut Vec<usize>, point: PointNo) -> bool {
+    match counts.get_mut(point.get() as usize % REMAINDERS) {
+        Some(count) => {
+            *count = count.saturating_add(1);
+            *count >= HUB
+        }
+        None => false,
+    }
+}
+
+/// Whether some point may be a hub. Takes a step or two for each string.
+pub(crate) fn may_have_hub(alloc: Global, map: &PlainMap) -> Result<bool, Memory> {
+    let mut counts: Vec<usize> = Vec::with_capacity(alloc, REMAINDERS)?;
+    for _ in 0..REMAINDERS {
+        counts.push(0)?;
+    }
+    for place in 0..map.counts().strings {
+        let string = map.string_at(place).unwrap();
+        if counts_to_hub(&mut counts, string.from) || counts_to_hub(&mut counts, string.to) {
+            return Ok(true);
+        }
+    }
+    Ok(false)
+}
+
+// The number of the group that only the row at a place is of. It is no point's.
+fn alone(place: usize) -> u64
+    requires { place < 2 ^ 63 }
+    ensures { result ≡ alone_at place }
+{
+    (1 << 32) + place as u64
+}
+
+// So many rows, each of a group of its own.
+fn each_alone(alloc: Global, count: usize) -> Result<Vec<u64>, Memory>
+    requires { count < 2 ^ 63 }
+    ensures count { IfOk result (λ groups. length groups.items ≡ count) }
+    ensures groups { IfOk result (λ groups. (m : Map) → AreGroupsOf m groups.items) }
+{
+    let mut groups = Vec::with_capacity(alloc, count)?;
+    for place in 0..count {
+        groups.push(alone(place))?;
+    }
+    Ok(groups)
+}
+
+// Puts the strings of a point into one group.
+fn put_hub(point: PointNo, spokes: &[Spoke], groups: &mut Vec<u64>)
+    ensures count { length groups.new.items ≡ length groups.old.items }
+    ensures each { AreRegrouped point spokes.now groups.old.items groups.new.items }
+    ensures small { point < 2 ^ 32 }
+{
+    let group = u64::from(point.get());
+    for spoke in spokes {
+        if spoke.place < groups.len() {
+            groups[spoke.place] = group;
+        }
+    }
+}
+
+// Puts the strings of a point into one group, where no two of them lead into one direction.
+fn put_star(
+    alloc: Global,
+    map: &PlainMap,
+    point: PointNo,
+    ends: &[Spoke],
+    groups: &mut Vec<u64>,
+) -> Result<(), Memory>
+    requires all { ends.now ≡ star point (spokes_of map.now) }
+    requires groups { AreGroupsOf map.now groups.old.items }
+    ensures count { OnOk result (length groups.new.items ≡ length groups.old.items) }
+    ensures groups { OnOk result (AreGroupsOf map.now groups.new.items) }
+{
+    let mut order = Vec::from_slice(alloc, ends)?;
+    if sort_in_turn(position(map, point), order.as_mut_slice()) {
+        put_hub(point, ends, groups);
+    }
+    Ok(())
+}
+
+/// A group for each of so many rows, the strings of the map first: two rows of one group are strings that meet at one
+/// point alone. It is the number of a point of many strings of which no two lead into one direction.
+pub(crate) fn groups_of(alloc: Global, map: &PlainMap, count: usize) -> Result<Vec<u64>, Memory>
+    requires { count < 2 ^ 63 }
+    ensures count { IfOk result (λ groups. length groups.items ≡ count) }
+    ensures groups { IfOk result (λ groups. AreGroupsOf map.now groups.items) }
+{
+    let stars = Stars::of(alloc, map.hash(), map)?;
+    let mut groups = each_alone(alloc, count)?;
+    for place in 0..map.counts().points {
+        let point = map.point_at(place).unwrap().number;
+        let ends = stars.ends(point);
+        if ends.len() >= HUB {
+            put_star(alloc, map, point, ends, &mut groups)?;
+        }
+    }
+    Ok(groups)
+}
