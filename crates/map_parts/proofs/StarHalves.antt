@@ -6,11 +6,12 @@ use Rattle.std.proofs.lemmas.Bool.{eqb-true}
 use Rattle.std.proofs.lemmas.Cmp.{nat_eq_equiv}
 use Rattle.std.proofs.lemmas.List.Sorted.{IsPermutation-sym, Contains-permutation}
 use Rattle.cad_rows.specs.declared.rows.StringRow.{StringRow}
-use Rattle.cad_rings.specs.Cycle.{Side}
+use Rattle.cad_rings.specs.Cycle.{Side, opposite}
 use Rattle.cad_map.proofs.CallerLemmas.{Contains-cases, Contains-first, Contains-flat_map, Contains-in_part, All-at_each, find-Contains}
 use Rattle.half_table.specs.declared.half.Half.{Half}
 use Rattle.half_table.specs.Half.{twin, forward_of, backward_of, half_of}
 use Rattle.half_table.specs.Rows.{HalfRows, origin_of}
+use Rattle.half_table.proofs.Halves.{twin-twin}
 use Rattle.map_parts.specs.declared.stars.Spoke.{Spoke}
 use Rattle.key_lists.specs.Held.{items_at}
 use Rattle.cad_laws.specs.Local.{IsShown, side_by}
@@ -106,6 +107,29 @@ module _ (d : Parts) (ends : AllByRecursion (HasHalves d.table.rows) d.strings) 
             shown = it.shown;
             side = let far = it.far ∙ eqb-true x.far s.1 at.1 in λ i. (it.from i, far i);
           })
+
+  -- the twin of a half along the opposite side is along the side
+  pub twin-along : (s : Side) (k : Half) → IsAlong (rows_of d) rows (opposite s) k → IsAlong (rows_of d) rows s (twin k)
+  twin-along s k back = record {
+    there = half-there d ends (twin k) back.shown;
+    shown = back.shown;
+    side =
+        let to = ap (λ (t : Side). t.0) back.side in
+        let from = ap (λ (t : Side). t.1) back.side in
+        λ i. (from i, (ap (origin_of rows) (twin-twin k) ∙ to) i);
+  }
+
+  -- a half that is told by the star of the side's end is along the side
+  pub by_end-some : (s : Side) (o : Option Half) → o ≡ option_map twin (half_along d.stars (opposite s)) → IfSome o (IsAlong (rows_of d) d.table.rows s)
+  by_end-some s o told = by (half_along d.stars (opposite s)) refl o told
+    where
+      by : (f : Option Half) → half_along d.stars (opposite s) ≡ f → (o : Option Half) → o ≡ option_map twin f → IfSome o (IsAlong (rows_of d) d.table.rows s)
+      by f found None told = tt
+      by None found (Some h) told = cc
+      by (Some k) found (Some h) told =
+          let same : twin k ≡ h = cc in
+          let back = along-some (opposite s) (Some k) (sym found) in
+          subst (IsAlong (rows_of d) d.table.rows s) same (twin-along s k back)
 
   -- a half of the map's strings is told
   pub half-told : (s : Side) (h : Half) → IsShown (rows_of d) h → side_by rows h ≡ s → (o : Option Half) → o ≡ half_along d.stars s → o ≡ None → ⊥
