@@ -63,7 +63,24 @@ counted-left a b q left right = by (low q a) (low q b) refl refl
     by false true h k = let l = left_of b a q (at_most b.y q.y k) (above a.y q.y h) right left in simp (h, k, l)
     by false false h k = simp (h, k)
 
+-- where q is counted, the side rises past it
+pub rises_past : (a b q : Position) → is_counted_upwards a b q ≡ true → (a.y ≤ℤ q.y) × (q.y <ℤ b.y) × (is_left a b q ≡ true)
+rises_past a b q h = by (int_le a.y q.y) (int_le b.y q.y) (is_left a b q) refl refl refl h
+  where
+    by : (s t u : Bool) → int_le a.y q.y ≡ s → int_le b.y q.y ≡ t → is_left a b q ≡ u → (s && not t && u) ≡ true → (a.y ≤ℤ q.y) × (q.y <ℤ b.y) × (is_left a b q ≡ true)
+    by true false true hs ht hu all = (grind (arith, ints), grind (arith, ints), hu)
+    by true false false hs ht hu all = absurd (true≢false (sym all))
+    by true true u hs ht hu all = absurd (true≢false (sym all))
+    by false t u hs ht hu all = absurd (true≢false (sym all))
+
 -- ---- All sides
+
+-- one more is odd where the number isn't
+pub odd : (n : ℕ) (s t : Bool) → nat_eq (n % 2) 1 ≡ s → nat_eq ((1 + n) % 2) 1 ≡ t → t ≡ not s
+odd n true true h k = let a = eqb-true (n % 2) 1 h in let b = eqb-true ((1 + n) % 2) 1 k in absurd (omega arith)
+odd n true false h k = refl
+odd n false true h k = refl
+odd n false false h k = let a = eqb-false (n % 2) 1 h in let b = eqb-false ((1 + n) % 2) 1 k in absurd (omega arith)
 
 -- one more side in the count
 inside-cons : (side : Position × Position) (sides : List (Position × Position)) (q : Position) → is_inside (side ∷ sides) q ≡ differ (is_counted side.0 side.1 q) (is_inside sides q)
@@ -71,12 +88,6 @@ inside-cons side sides q =
     let counted : Position × Position → Bool = λ s. is_counted s.0 s.1 q in
     ap (λ (n : ℕ). nat_eq (n % 2) 1) (sum_by-cons (λ (s : Position × Position). cond (counted s) 1 0) side sides) ∙ by (counted side) (count_by counted sides)
   where
-    odd : (n : ℕ) (s t : Bool) → nat_eq (n % 2) 1 ≡ s → nat_eq ((1 + n) % 2) 1 ≡ t → t ≡ not s
-    odd n true true h k = let a = eqb-true (n % 2) 1 h in let b = eqb-true ((1 + n) % 2) 1 k in absurd (omega arith)
-    odd n true false h k = refl
-    odd n false true h k = refl
-    odd n false false h k = let a = eqb-false (n % 2) 1 h in let b = eqb-false ((1 + n) % 2) 1 k in absurd (omega arith)
-
     by : (b : Bool) (n : ℕ) → nat_eq ((cond b 1 0 + n) % 2) 1 ≡ differ b (nat_eq (n % 2) 1)
     by true n = odd n (nat_eq (n % 2) 1) (nat_eq ((1 + n) % 2) 1) refl refl
     by false n = ap (λ (k : ℕ). nat_eq (k % 2) 1) (omega arith)
@@ -153,15 +164,6 @@ upwards-not_past e a b q wa wb h =
       bottom = omega (arith, ints);
       top = omega (arith, ints);
     }
-  where
-    rises_past : (a b q : Position) → is_counted_upwards a b q ≡ true → (a.y ≤ℤ q.y) × (q.y <ℤ b.y) × (is_left a b q ≡ true)
-    rises_past a b q h = by (int_le a.y q.y) (int_le b.y q.y) (is_left a b q) refl refl refl h
-      where
-        by : (s t u : Bool) → int_le a.y q.y ≡ s → int_le b.y q.y ≡ t → is_left a b q ≡ u → (s && not t && u) ≡ true → (a.y ≤ℤ q.y) × (q.y <ℤ b.y) × (is_left a b q ≡ true)
-        by true false true hs ht hu all = (grind (arith, ints), grind (arith, ints), hu)
-        by true false false hs ht hu all = absurd (true≢false (sym all))
-        by true true u hs ht hu all = absurd (true≢false (sym all))
-        by false t u hs ht hu all = absurd (true≢false (sym all))
 
 counted-not_past : (e : Extent) (a b q : Position) → IsWithin e a → IsWithin e b → is_counted a b q ≡ true → IsNotPast e q
 counted-not_past e a b q wa wb h = by (is_counted_upwards a b q) refl h

@@ -9,6 +9,7 @@ mod SweptRules
 mod PlacedStrings
 mod Whole
 mod InsideBox
+mod AnchorFacts
 mod Sweeping
 mod PlacedRings
 mod FaceShapes

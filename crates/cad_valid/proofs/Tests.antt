@@ -1,5 +1,6 @@
 -- Tests of what is left of a list from a place on, step by step.
-use Rattle.std.proofs.Common.{◌≡◌, ℕ, ◌+◌, List, Bool, true, false, drop, get_or, slice_get, Some, length, ◌<◌, ◌≤◌, refl, arith}
+use Rattle.std.proofs.Common.{◌≡◌, ℕ, ◌+◌, List, [], ◌∷◌, Bool, true, false, drop, get_or, slice_get, Some, length, ◌<◌, ◌≤◌, refl, sym, ap, ◌∙◌, arith}
+use Rattle.std.specs.Prelude.{◌&&◌}
 use Rattle.std.proofs.lemmas.List.{drop_all}
 use Rattle.std.proofs.lemmas.Option.{slice_get-get_or}
 use Rattle.std.specs.List.{list_all}
@@ -16,6 +17,25 @@ module _ {X : Type 0} (test : X → Bool) (xs : List X) (i : ℕ) (x : X) (at : 
 -- past the last element all have passed
 pub all-done : {X : Type 0} (test : X → Bool) (xs : List X) (i : ℕ) → length xs ≤ i → list_all test (drop i xs) ≡ true
 all-done test xs i past = rw (drop_all i xs past) refl
+
+-- whether each passes with each, asked of either first
+pub all-turned : {X Y : Type 0} (test : X → Y → Bool) (xs : List X) (ys : List Y) → list_all (λ x. list_all (test x) ys) xs ≡ list_all (λ y. list_all (λ x. test x y) xs) ys
+all-turned test [] ys = sym (none ys)
+  where
+    none : {Y : Type 0} (ys : List Y) → list_all (λ (y : Y). true) ys ≡ true
+    none [] = refl
+    none (y ∷ ys) = none ys
+all-turned test (x ∷ xs) ys = ap (λ (b : Bool). list_all (test x) ys && b) (all-turned test xs ys) ∙ sym (both (test x) (λ y. list_all (λ x. test x y) xs) ys)
+  where
+    both : {Y : Type 0} (p q : Y → Bool) (ys : List Y) → list_all (λ y. p y && q y) ys ≡ (list_all p ys && list_all q ys)
+    both p q [] = refl
+    both p q (y ∷ ys) = by (p y) (q y) (list_all p ys) (list_all q ys) (both p q ys)
+      where
+        by : (a b c d : Bool) {e : Bool} → e ≡ (c && d) → ((a && b) && e) ≡ ((a && c) && (b && d))
+        by true true c d h = h
+        by true false true d h = refl
+        by true false false d h = refl
+        by false b c d h = refl
 
 -- the same of a list of so many elements, by what reads as the element at a place
 module _ {X : Type 0} (test : X → Bool) (xs : List X) (none : X) (count : ℕ) (counted : count ≡ length xs) (i : ℕ) where

@@ -1,3 +1,4 @@
+pub mod Anchors
 pub mod Boxes
 pub mod Corners
 pub mod Holes

@@ -9,12 +9,15 @@ ghost use Rattle.sweep.specs.Extents.{HasExtents};
 ghost use Rattle.cad_valid.specs.Shapes.{Shape, AreShapes, AreEnclosed, told_apart, are_sound};
 ghost use Rattle.cad_valid.specs.Shapes.{are_shapes_apart as are_apart_of, are_apart_at};
 
+use crate::anchors::are_each_inside;
 use crate::shapes::{Enclosing, PlacedRing, are_apart};
 use cad_rows::Memory;
-use geo_exact::Pt;
 use std::alloc::Global;
 use std::marker::Model;
 use sweep::{Extent, PairTest, all_that_overlap_pass, row_height};
+
+/// So few anchors are counted one by one.
+const FEW: usize = 16;
 
 /// The rings of a face as they lie: outlines, which have positive doubled area, and holes, which
 /// have negative. Of others is known whether there is one.
@@ -74,37 +77,48 @@ impl FaceShapes {
     }
 
     /// Whether each hole's anchor is inside each outline, and in no other hole. Takes memory for a box
-    /// of each hole, and for at most three spans a box. Time is that of each hole with each side of
-    /// the outlines, of the sort of the boxes, and of each two holes whose boxes overlap.
+    /// and an anchor of each hole, and for at most three spans a box. Time is that of each side of the
+    /// outlines with the anchors whose height it spans, of the sorts of anchors and boxes, and of each
+    /// two holes whose boxes overlap.
     pub(crate) fn has_sound_holes(&self, alloc: Global) -> Result<bool, Memory>
         requires { AreShapes self.now.holes }
         ensures { IfOk result (λ b. b ≡ are_sound self.now) }
     {
         Ok(
-            are_inside(self.holes.as_slice(), self.outlines.as_slice())
+            are_inside(alloc, self.holes.as_slice(), self.outlines.as_slice())?
                 && are_each_apart(alloc, self.holes.as_slice())?,
         )
     }
 }
 
 /// Whether the anchor of each of these holes is inside each of these outlines.
-fn are_inside(holes: &[PlacedRing], outlines: &[PlacedRing]) -> bool
-    ensures { result ≡ list_all (λ hole.
-        list_all (λ outline. is_inside outline.sides hole.anchor) outlines.now) holes.now }
+fn are_inside(alloc: Global, holes: &[PlacedRing], outlines: &[PlacedRing]) -> Result<bool, Memory>
+    ensures { IfOk result (λ b. b ≡ list_all (λ hole.
+        list_all (λ outline. is_inside outline.sides hole.anchor) outlines.now) holes.now) }
 {
-    for hole in holes {
-        if !is_inside_each(outlines, hole.anchor()) {
-            return false;
+    for outline in outlines {
+        if !are_inside_one(alloc, holes, outline)? {
+            return Ok(false);
         }
     }
-    true
+    Ok(true)
 }
 
-/// Whether a position is inside each of these outlines.
-fn is_inside_each(outlines: &[PlacedRing], at: Pt) -> bool
-    ensures { result ≡ list_all (λ outline. is_inside outline.sides at) outlines.now }
+/// Whether the anchor of each of these holes is inside this outline.
+fn are_inside_one(alloc: Global, holes: &[PlacedRing], outline: &PlacedRing) -> Result<bool, Memory>
+    ensures { IfOk result (λ b. b ≡ list_all (λ hole. is_inside outline.now.sides hole.anchor) holes.now) }
 {
-    outlines.iter().all(|outline| outline.has_inside(at))
+    if holes.len() <= FEW {
+        return Ok(are_few_inside(holes, outline));
+    }
+    are_each_inside(alloc, holes, outline)
+}
+
+/// The same, one by one.
+fn are_few_inside(holes: &[PlacedRing], outline: &PlacedRing) -> bool
+    ensures { result ≡ list_all (λ hole. is_inside outline.now.sides hole.anchor) holes.now }
+{
+    holes.iter().all(|hole| outline.has_inside(hole.anchor()))
 }
 
 /// Whether of each two of these holes neither has the other's anchor inside. Those whose boxes are

@@ -1,6 +1,7 @@
 //! The first rule that a map breaks.
 #![tactic(auto)]
 
+mod anchors;
 mod boxes;
 mod corners;
 mod crossings;
@@ -78,8 +79,8 @@ pub fn first_broken<M: MapView>(map: &M) -> Option<Rule>
 /// has very many are sorted by their directions instead, and not compared with one another.
 ///
 /// V7 and V8 take each face's rings as they stand together in the map's list, and of holes too only
-/// those are compared whose boxes overlap. Each hole's anchor is counted against each side of its
-/// outline.
+/// those are compared whose boxes overlap. Each side of an outline is counted at the anchors of those
+/// holes whose height it spans.
 ///
 /// # Errors
 /// Memory ran out.

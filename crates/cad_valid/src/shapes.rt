@@ -88,6 +88,13 @@ impl PlacedRing {
         })
     }
 
+    /// Its sides.
+    pub(crate) fn sides(&self) -> &[(Pt, Pt)]
+        ensures { result.now ≡ self.now.sides }
+    {
+        self.sides.as_slice()
+    }
+
     /// Its doubled area, in doubled square millimetres.
     pub(crate) fn doubled_area(&self) -> i128
         requires { length self.now.sides ≤ 2 * string_limit }

@@ -1,24 +1,34 @@
 use Rattle.std.proofs.Common.{◌∙◌, sym, ap}
 use Rattle.std.specs.List.{list_all}
 use Rattle.std.proofs.lemmas.Option.{slice_get-get_or}
-use Rattle.geo_exact.specs.Position.{Position}
 use Rattle.geo_exact.specs.Inside.{is_inside}
 use Rattle.cad_valid.specs.Shapes.{Shape}
-use Rattle.cad_valid.proofs.Tests.{all-stops, all-goes}
+use Rattle.cad_valid.proofs.Tests.{all-stops, all-goes, all-done, all-turned}
 use Rattle.cad_valid.proofs.face_shapes.are_inside.Goals as goal
 
-pub returns-then-not-is_inside_each : goal.returns-then-not-is_inside_each
-returns-then-not-is_inside_each c =
-    let at_each = λ (q : Position). list_all (λ (outline : Shape). is_inside outline.sides q) c.args.outlines.now in
-    let inside = λ (hole : Shape). at_each hole.anchor in
-    let there = slice_get-get_or c.args.holes.now c.loop-hole.hole-index c.hole-item.result c.loop-hole-test.true in
-    let fails = ap inside (sym c.hole-item.is) ∙ ap at_each (sym c.anchor.ensures) ∙ sym c.is_inside_each.ensures ∙ c.if-not-is_inside_each.true in
-    sym (c.loop-hole.invariant ∙ all-stops inside c.args.holes.now c.loop-hole.hole-index _ there fails)
+pub returns-then-not-branch : goal.returns-then-not-branch
+returns-then-not-branch c =
+    let inside = λ (outline : Shape) (hole : Shape). is_inside outline.sides hole.anchor in
+    let holes = c.args.holes.now in
+    let outlines = c.args.outlines.now in
+    let all = λ (outline : Shape). list_all (inside outline) holes in
+    let there = slice_get-get_or outlines c.loop-outline.outline-index c.outline-item.result c.loop-outline-test.true in
+    let fails = ap all (sym c.outline-item.is) ∙ sym c.in_ok-are_inside_one.ensures ∙ c.if-not-branch.true in
+    sym (sym (all-turned inside outlines holes) ∙ c.loop-outline.invariant ∙ all-stops all outlines c.loop-outline.outline-index _ there fails)
 
-pub loop-hole-preserved : goal.loop-hole-preserved
-loop-hole-preserved c =
-    let at_each = λ (q : Position). list_all (λ (outline : Shape). is_inside outline.sides q) c.args.outlines.now in
-    let inside = λ (hole : Shape). at_each hole.anchor in
-    let there = slice_get-get_or c.args.holes.now c.loop-hole.hole-index c.hole-item.result c.loop-hole-test.true in
-    let passes = ap inside (sym c.hole-item.is) ∙ ap at_each (sym c.anchor.ensures) ∙ sym c.is_inside_each.ensures ∙ c.if-not-is_inside_each.false in
-    c.loop-hole.invariant ∙ all-goes inside c.args.holes.now c.loop-hole.hole-index _ there passes
+pub loop-outline-preserved : goal.loop-outline-preserved
+loop-outline-preserved c =
+    let holes = c.args.holes.now in
+    let outlines = c.args.outlines.now in
+    let all = λ (outline : Shape). list_all (λ (hole : Shape). is_inside outline.sides hole.anchor) holes in
+    let there = slice_get-get_or outlines c.loop-outline.outline-index c.outline-item.result c.loop-outline-test.true in
+    let passes = ap all (sym c.outline-item.is) ∙ sym c.in_ok-are_inside_one.ensures ∙ c.if-not-branch.false in
+    c.loop-outline.invariant ∙ all-goes all outlines c.loop-outline.outline-index _ there passes
+
+pub returns : goal.returns
+returns c =
+    let inside = λ (outline : Shape) (hole : Shape). is_inside outline.sides hole.anchor in
+    let holes = c.args.holes.now in
+    let outlines = c.args.outlines.now in
+    let all = λ (outline : Shape). list_all (inside outline) holes in
+    sym (sym (all-turned inside outlines holes) ∙ c.loop-outline.invariant ∙ all-done all outlines c.loop-outline.outline-index c.loop-outline-test.false)
