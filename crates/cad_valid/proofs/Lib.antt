@@ -28,3 +28,5 @@ mod RaysOfPoint
 pub mod Untouched
 pub mod CallerLemmas
 pub mod HubFacts
+pub mod TurnNeighbours
+mod CornersInTurn

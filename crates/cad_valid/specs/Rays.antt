@@ -4,6 +4,7 @@ use Rattle.geo_exact.specs.Position.{Position}
 use Rattle.geo_exact.specs.Sector.{in_sector}
 use Rattle.cad_rows.specs.declared.rows.StringRow.{StringRow}
 use Rattle.cad_map.specs.Map.{Map, position_of, far_end, strings_at}
+use Rattle.cad_map.specs.declared.stars.Spoke.{Spoke}
 use Rattle.cad_valid.specs.declared.near.rays.Ray.{Ray}
 
 -- a string as one of its ends sees it: the other end, and where that lies
@@ -23,3 +24,13 @@ pub record AreRaysOf (m : Map) (p : ℕ) (rays : List Ray) : Type 0 where
 -- the ray doesn't lie in the sector of a corner
 abbrev pub is_clear_of_ray : Position → Position → Position → Ray → Bool
 is_clear_of_ray at after before r = not (in_sector at after before r.position)
+
+-- the ray along a spoke
+abbrev pub ray_along : Spoke → Ray
+ray_along x = record { far = x.far; position = x.position }
+
+-- these spokes are all strings of a point, in some order
+pub record AreSpokesOf (m : Map) (p : ℕ) (spokes : List Spoke) : Type 0 where
+  pub rays : List Ray
+  pub are : AreRaysOf m p rays
+  pub each : IsPermutation rays (map ray_along spokes)

@@ -18,6 +18,7 @@ mod rays;
 mod seen;
 mod sight;
 mod strings;
+mod turns;
 
 use crate::near::corners::{are_empty_at, are_empty_at_ends};
 use crate::near::faces::{FaceRules, rules_of_faces};
@@ -48,7 +49,9 @@ pub struct Touched {
 ///
 /// A touched face of many rings is looked at whole: its rings are walked once and laid out in memory,
 /// 32 bytes a side, with a box for each hole and at most three spans a box. Where there is no memory
-/// it does without and answers the same, by walks round each two of the rings. All else takes none.
+/// it does without and answers the same, by walks round each two of the rings. At a touched point of
+/// more than eight strings these are laid out too and sorted by their directions, 32 bytes a string;
+/// without memory each corner there is compared with each of them. All else takes none.
 ///
 /// The grid holds the map's strings and points at their positions. It may hold others as well: a
 /// candidate is tested where the map has it, and one that the map doesn't have is passed over.
@@ -72,7 +75,7 @@ pub fn first_broken_near<M: MapView>(
     if !has_no_crossing(map, grid, touched, seen.as_ref()) {
         return Some(Rule::V4);
     }
-    if !has_empty_corners(map, touched) {
+    if !has_empty_corners(alloc, map, touched) {
         return Some(Rule::V6);
     }
     let rules = rules_near(alloc, map, touched);
@@ -151,13 +154,18 @@ fn are_seen_uncrossed<M: MapView>(map: &M, grid: &CellGrid, seen: Option<&Seen>)
 
 /// Whether corners are empty. One at a point that wasn't touched, and where no touched string ends,
 /// was empty before.
-fn has_empty_corners<M: MapView>(map: &M, touched: &Touched) -> bool
+fn has_empty_corners<M: MapView>(alloc: Global, map: &M, touched: &Touched) -> bool
     requires whole { HasWholeRings (M.map map.now) }
     requires touched { ComesFromValid (touched_of touched.now) (M.map map.now) }
     ensures { IsTrue result ↔ Keeps (M.map map.now) V6 }
 {
-    are_empty_at(map, touched.points.as_slice())
-        && are_empty_at_ends(map, touched.strings.as_slice(), touched.points.as_slice())
+    are_empty_at(alloc, map, touched.points.as_slice())
+        && are_empty_at_ends(
+            alloc,
+            map,
+            touched.strings.as_slice(),
+            touched.points.as_slice(),
+        )
 }
 
 /// Whether each parcel has one outline and the outside none, and whether the holes of each face are in

@@ -6,21 +6,26 @@ ghost use Rattle.cad_valid.specs.Near.{OfString, HasEmptyCornersAt, HasEmptyEnds
 
 use crate::corners::is_empty_after;
 use crate::near::rays::{MOST_RAYS, are_empty_between, rays_at};
+use crate::near::turns::empty_by_turn;
 use cad_map::{MapView, far_end, is_end};
 use cad_rows::{PointNo, StringNo, StringRow};
+use std::alloc::Global;
 
 /// Whether the corners at each of these points are empty.
-pub(crate) fn are_empty_at<M: MapView>(map: &M, points: &[PointNo]) -> bool
+pub(crate) fn are_empty_at<M: MapView>(alloc: Global, map: &M, points: &[PointNo]) -> bool
     requires { HasWholeRings (M.map map.now) }
     ensures { IsTrue result ↔ AllByRecursion (HasEmptyCornersAt (M.map map.now)) points.now }
 {
-    points.iter().all(|point| has_empty_corners(map, *point))
+    points
+        .iter()
+        .all(|point| has_empty_corners(alloc, map, *point))
 }
 
 /// Whether the corners at both ends of each of these strings are empty, where those at these points
 /// are. Strings that an edit touched often come in the order of these points, or share an end: one
 /// that stands at a string's place or the next, or that the string before has, isn't looked at again.
 pub(crate) fn are_empty_at_ends<M: MapView>(
+    alloc: Global,
     map: &M,
     strings: &[StringNo],
     points: &[PointNo],
@@ -33,7 +38,7 @@ pub(crate) fn are_empty_at_ends<M: MapView>(
     let mut before: Option<&StringRow> = None;
     for place in 0..strings.len() {
         if let Some(string) = map.string(strings[place]) {
-            if !has_empty_ends(map, string, before, two_from(points, place)) {
+            if !has_empty_ends(alloc, map, string, before, two_from(points, place)) {
                 return false;
             }
             before = Some(string);
@@ -53,6 +58,7 @@ fn two_from(points: &[PointNo], place: usize) -> &[PointNo]
 /// Whether the corners at both ends of a string are empty, where those at the ends of the string
 /// before and at these points are.
 fn has_empty_ends<M: MapView>(
+    alloc: Global,
     map: &M,
     string: &StringRow,
     before: Option<&StringRow>,
@@ -63,12 +69,14 @@ fn has_empty_ends<M: MapView>(
     requires points { AllByRecursion (HasEmptyCornersAt (M.map map.now)) points.now }
     ensures { IsTrue result ↔ HasEmptyEnds (M.map map.now) string.now }
 {
-    is_empty_end(map, string.from, before, points) && is_empty_end(map, string.to, before, points)
+    is_empty_end(alloc, map, string.from, before, points)
+        && is_empty_end(alloc, map, string.to, before, points)
 }
 
 /// Whether the corners at a point are empty, where those at the ends of the string before and at
 /// these points are.
 fn is_empty_end<M: MapView>(
+    alloc: Global,
     map: &M,
     end: PointNo,
     before: Option<&StringRow>,
@@ -84,25 +92,36 @@ fn is_empty_end<M: MapView>(
             return true;
         }
     }
-    points.contains(&end) || has_empty_corners(map, end)
+    points.contains(&end) || has_empty_corners(alloc, map, end)
 }
 
 /// Whether the corners at a point are empty.
-fn has_empty_corners<M: MapView>(map: &M, point: PointNo) -> bool
+fn has_empty_corners<M: MapView>(alloc: Global, map: &M, point: PointNo) -> bool
     requires { HasWholeRings (M.map map.now) }
     ensures { IsTrue result ↔ HasEmptyCornersAt (M.map map.now) point }
 {
     if map.degree(point) > MOST_RAYS {
-        return has_empty_corners_of_many(map, point);
+        return has_empty_corners_of_many(alloc, map, point);
     }
     let rays = rays_at(map, point);
     are_empty_between(map, point, rays.as_slice())
 }
 
-/// Whether the corners at a point of many strings are empty. Each is met by the side before it, which
-/// is a side of one of the point's strings.
+/// Whether the corners at a point of many strings are empty.
+fn has_empty_corners_of_many<M: MapView>(alloc: Global, map: &M, point: PointNo) -> bool
+    requires { HasWholeRings (M.map map.now) }
+    ensures { IsTrue result ↔ HasEmptyCornersAt (M.map map.now) point }
+{
+    match empty_by_turn(alloc, map, point) {
+        Some(empty) => empty,
+        None => has_empty_corners_one_by_one(map, point),
+    }
+}
+
+/// The same without memory. Each corner is met by the side before it, which is a side of one of the
+/// point's strings.
 #[tactic(auto, using(crate::proofs::StarTests::star_begun))]
-fn has_empty_corners_of_many<M: MapView>(map: &M, point: PointNo) -> bool
+fn has_empty_corners_one_by_one<M: MapView>(map: &M, point: PointNo) -> bool
     requires { HasWholeRings (M.map map.now) }
     ensures { IsTrue result ↔ HasEmptyCornersAt (M.map map.now) point }
 {

@@ -1,7 +1,7 @@
 use Rattle.cad_map.specs.Map.{far_end}
 use Rattle.cad_valid.specs.Corners.{is_empty_after}
 use Rattle.cad_valid.proofs.StarTests.{HavePassed}
-use Rattle.cad_valid.proofs.near.corners.has_empty_corners_of_many.Given as goal
+use Rattle.cad_valid.proofs.near.corners.has_empty_corners_one_by_one.Given as goal
 
 -- the corners after the strings so far are empty
 abbrev pub invariant-loop-place : goal.invariant-loop-place

@@ -5,7 +5,7 @@ use Rattle.cad_valid.specs.Corners.{is_empty_after}
 use Rattle.cad_map.proofs.CallerLemmas.{lent-some, lent-is}
 use Rattle.cad_valid.proofs.NearCorners.{corners-by_strings}
 use Rattle.cad_valid.proofs.StarTests.{passed-all, passed-more, lent-there}
-use Rattle.cad_valid.proofs.near.corners.has_empty_corners_of_many.Goals as goal
+use Rattle.cad_valid.proofs.near.corners.has_empty_corners_one_by_one.Goals as goal
 
 pub unwrap-requires : goal.unwrap-requires
 unwrap-requires g c =
