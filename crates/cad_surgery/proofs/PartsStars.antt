@@ -17,7 +17,7 @@ use Rattle.map_parts.specs.Parts.{Parts, FitTogether, rows_of, map_of}
 use Rattle.map_parts.specs.Stars.{half_along}
 use Rattle.map_parts.specs.Views.{view_half}
 use Rattle.map_parts.specs.Labels.{IsAlong}
-use Rattle.map_parts.proofs.StarHalves.{along-some, half-told}
+use Rattle.map_parts.proofs.StarHalves.{by_end-some, half-told}
 use Rattle.half_table.proofs.Halves.{twin-twin}
 use Rattle.map_parts.proofs.PartsRings.{half-there, ends-of, shown-string, half-side, half-corner, side-half}
 
@@ -40,27 +40,8 @@ module _ (d : Parts) (is : FitTogether d) where
   pub star-degree : (p : ℕ) → length (items_at d.stars p) ≡ degree (map_of d) p
   star-degree p = length_permutation (spokes_at p d.strings) (items_at d.stars p) (is.stars p) ∙ length-star p d.strings
 
-  -- the twin of a half along the opposite side is along the side
-  twin-along : (s : Side) (k : Half) → IsAlong (rows_of d) rows (opposite s) k → IsAlong (rows_of d) rows s (twin k)
-  twin-along s k back = record {
-    there = half-there d is.ends (twin k) back.shown;
-    shown = back.shown;
-    side =
-        let to = ap (λ (t : Side). t.0) back.side in
-        let from = ap (λ (t : Side). t.1) back.side in
-        λ i. (from i, (ap (origin_of rows) (twin-twin k) ∙ to) i);
-  }
-
   pub half-some : (s : Side) (o : Option Half) → o ≡ view_half d s → IfSome o (IsAlong (rows_of d) d.table.rows s)
-  half-some s o told = by (half_along d.stars (opposite s)) refl o told
-    where
-      by : (f : Option Half) → half_along d.stars (opposite s) ≡ f → (o : Option Half) → o ≡ option_map twin f → IfSome o (IsAlong (rows_of d) d.table.rows s)
-      by f found None told = tt
-      by None found (Some h) told = cc
-      by (Some k) found (Some h) told =
-          let same : twin k ≡ h = cc in
-          let back = along-some d is.ends is.two_ends is.stars (opposite s) (Some k) (sym found) in
-          subst (IsAlong (rows_of d) d.table.rows s) same (twin-along s k back)
+  half-some s o told = by_end-some d is.ends is.two_ends is.stars s o told
 
   pub half-none : (s : Side) (o : Option Half) → o ≡ view_half d s → IfNone o (IsNoSide (map_of d) s)
   half-none s (Some h) told = tt
