@@ -14,11 +14,9 @@ use Rattle.key_lists.specs.Held.{items_at}
 use Rattle.cad_laws.specs.Local.{side_by}
 use Rattle.map_parts.specs.Stars.{spokes_at}
 use Rattle.map_parts.specs.Parts.{Parts, FitTogether, rows_of, map_of}
-use Rattle.map_parts.specs.Stars.{half_along}
 use Rattle.map_parts.specs.Views.{view_half}
 use Rattle.map_parts.specs.Labels.{IsAlong}
-use Rattle.map_parts.proofs.StarHalves.{by_end-some, half-told}
-use Rattle.half_table.proofs.Halves.{twin-twin}
+use Rattle.map_parts.proofs.StarHalves.{by_ends-some, told-by_ends}
 use Rattle.map_parts.proofs.PartsRings.{half-there, ends-of, shown-string, half-side, half-corner, side-half}
 
 -- a star has one spoke for each string at its point
@@ -41,25 +39,17 @@ module _ (d : Parts) (is : FitTogether d) where
   star-degree p = length_permutation (spokes_at p d.strings) (items_at d.stars p) (is.stars p) ∙ length-star p d.strings
 
   pub half-some : (s : Side) (o : Option Half) → o ≡ view_half d s → IfSome o (IsAlong (rows_of d) d.table.rows s)
-  half-some s o told = by_end-some d is.ends is.two_ends is.stars s o told
+  half-some s o told = by_ends-some d is.ends is.two_ends is.stars s o told
 
   pub half-none : (s : Side) (o : Option Half) → o ≡ view_half d s → IfNone o (IsNoSide (map_of d) s)
   half-none s (Some h) told = tt
   half-none s None told = by (has_side s (all_sides (map_of d))) refl
     where
-      none : (f : Option Half) → None ≡ option_map twin f → f ≡ None
-      none None told = refl
-      none (Some k) told = cc
-
       by : (b : Bool) → has_side s (all_sides (map_of d)) ≡ b → b ≡ false
       by false has = refl
       by true has =
           let it = side-half d is s (has_side-Contains s (all_sides (map_of d)) has) in
-          let h = it.0 in
-          let from = ap (λ (t : Side). t.0) it.2 in
-          let to = ap (λ (t : Side). t.1) it.2 in
-          let back : side_by rows (twin h) ≡ opposite s = λ i. (to i, (ap (origin_of rows) (twin-twin h) ∙ from) i) in
-          absurd (half-told d is.ends is.two_ends is.stars (opposite s) (twin h) it.1 back None (sym (none (half_along d.stars (opposite s)) told)) refl)
+          absurd (told-by_ends d is.ends is.two_ends is.stars s it.0 it.1 it.2 (sym told))
 
   pub along-face : (s : Side) (h : Half) → IsAlong (rows_of d) d.table.rows s h → HasSide (map_of d) (face rows h) s
   along-face s h along = subst (HasSide (map_of d) (face rows h)) along.side (half-side d is h along.shown)

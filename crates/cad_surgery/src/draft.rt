@@ -20,7 +20,7 @@ use edit_records::grid_of;
 use half_table::{Half, HalfTable, Tally};
 use key_lists::KeyLists;
 use map_parts::{
-    MapRows, Spoke, add_strings, find_half_by_end, half_at, kept_half, link_rings, star_of,
+    MapRows, Spoke, add_strings, find_half_by_ends, half_at, kept_half, link_rings, star_of,
 };
 use std::alloc::Global;
 use std::marker::Model;
@@ -111,14 +111,14 @@ impl<T: Tally> Draft<T> {
         &self.grid
     }
 
-    /// The half along the side from one point to another, sought at the second: who asks what comes
-    /// after a side has mostly just looked at the halves there.
+    /// The half along the side from one point to another, sought at the second where few halves begin
+    /// there: who asks what comes after a side has mostly just looked at them.
     pub(crate) fn half(&self, from: PointNo, to: PointNo) -> Option<Half>
         ensures told { result ≡ view_half self.now (from, to) }
         ensures some { IfSome result (IsAlong (rows_of self.now) self.now.table.rows (from, to)) }
         ensures none { IfNone result (IsNoSide (map_of self.now) (from, to)) }
     {
-        find_half_by_end(&self.stars, from, to)
+        find_half_by_ends(&self.stars, from, to)
     }
 }
 

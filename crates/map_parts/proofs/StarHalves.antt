@@ -1,5 +1,5 @@
 -- What stars tell of the halves that begin at their points.
-use Rattle.std.proofs.Common.{◌≡◌, ◌≢◌, ℕ, ◌⊎◌, ◌==◌, Bool, true, false, List, [], ◌∷◌, find, refl, sym, ap, ◌∙◌, subst, arith, inl, inr, Option, Some, None, true≢false}
+use Rattle.std.proofs.Common.{◌≡◌, ◌≢◌, ℕ, ◌⊎◌, ◌==◌, Bool, true, false, cond, List, [], ◌∷◌, find, refl, sym, ap, ◌∙◌, subst, arith, inl, inr, Option, Some, None, true≢false}
 use Rattle.std.specs.Prelude.{IsPermutation, IfSome, option_map}
 use Rattle.std.specs.List.{AllByRecursion, Contains}
 use Rattle.std.proofs.lemmas.Bool.{eqb-true}
@@ -15,7 +15,7 @@ use Rattle.half_table.proofs.Halves.{twin-twin}
 use Rattle.map_parts.specs.declared.stars.Spoke.{Spoke}
 use Rattle.key_lists.specs.Held.{items_at}
 use Rattle.cad_laws.specs.Local.{IsShown, side_by}
-use Rattle.map_parts.specs.Stars.{spoke, spokes_of, spokes_at, half_along}
+use Rattle.map_parts.specs.Stars.{spoke, spokes_of, spokes_at, half_along, half_by_end, half_by_ends, are_fewer_there}
 use Rattle.map_parts.specs.Parts.{Parts, HasHalves, rows_of}
 use Rattle.map_parts.specs.Labels.{IsAlong}
 use Rattle.map_parts.proofs.PartsRings.{found-row, row-there, half-there}
@@ -91,7 +91,7 @@ module _ (d : Parts) (ends : AllByRecursion (HasHalves d.table.rows) d.strings) 
       Contains-permutation (spokes_at (origin_of rows g) d.strings) (items_at d.stars (origin_of rows g)) _ (stars (origin_of rows g)) (Contains-flat_map (spokes_of (origin_of rows g)) d.strings row.0 _ row.1 k) in
       subst (λ (g : Half). Contains (items_at d.stars (origin_of rows g)) (spoke g (origin_of rows (twin g)))) (λ i. half_of (row.2 i) h.forward) (all (half_of row.0.number h.forward) (string-spoke row.0 row.1 h.forward))
 
-  pub along-some : (s : Side) (o : Option Half) → o ≡ half_along d.stars s → IfSome o (IsAlong (rows_of d) d.table.rows s)
+  along-some : (s : Side) (o : Option Half) → o ≡ half_along d.stars s → IfSome o (IsAlong (rows_of d) d.table.rows s)
   along-some s o told = by (find (λ (x : Spoke). x.far == s.1) (items_at d.stars s.0)) refl o told
     where
       by : (f : Option Spoke) → find (λ (x : Spoke). x.far == s.1) (items_at d.stars s.0) ≡ f → (o : Option Half) → o ≡ half_along d.stars s → IfSome o (IsAlong (rows_of d) d.table.rows s)
@@ -109,7 +109,7 @@ module _ (d : Parts) (ends : AllByRecursion (HasHalves d.table.rows) d.strings) 
           })
 
   -- the twin of a half along the opposite side is along the side
-  pub twin-along : (s : Side) (k : Half) → IsAlong (rows_of d) rows (opposite s) k → IsAlong (rows_of d) rows s (twin k)
+  twin-along : (s : Side) (k : Half) → IsAlong (rows_of d) rows (opposite s) k → IsAlong (rows_of d) rows s (twin k)
   twin-along s k back = record {
     there = half-there d ends (twin k) back.shown;
     shown = back.shown;
@@ -120,7 +120,7 @@ module _ (d : Parts) (ends : AllByRecursion (HasHalves d.table.rows) d.strings) 
   }
 
   -- a half that is told by the star of the side's end is along the side
-  pub by_end-some : (s : Side) (o : Option Half) → o ≡ option_map twin (half_along d.stars (opposite s)) → IfSome o (IsAlong (rows_of d) d.table.rows s)
+  by_end-some : (s : Side) (o : Option Half) → o ≡ half_by_end d.stars s → IfSome o (IsAlong (rows_of d) d.table.rows s)
   by_end-some s o told = by (half_along d.stars (opposite s)) refl o told
     where
       by : (f : Option Half) → half_along d.stars (opposite s) ≡ f → (o : Option Half) → o ≡ option_map twin f → IfSome o (IsAlong (rows_of d) d.table.rows s)
@@ -131,8 +131,16 @@ module _ (d : Parts) (ends : AllByRecursion (HasHalves d.table.rows) d.strings) 
           let back = along-some (opposite s) (Some k) (sym found) in
           subst (IsAlong (rows_of d) d.table.rows s) same (twin-along s k back)
 
+  -- so is one that is told by whichever star
+  pub by_ends-some : (s : Side) (o : Option Half) → o ≡ half_by_ends d.stars s → IfSome o (IsAlong (rows_of d) d.table.rows s)
+  by_ends-some s o told = by (are_fewer_there d.stars s.1 s.0) told
+    where
+      by : (b : Bool) → o ≡ cond b (half_along d.stars s) (half_by_end d.stars s) → IfSome o (IsAlong (rows_of d) d.table.rows s)
+      by true told = along-some s o told
+      by false told = by_end-some s o told
+
   -- a half of the map's strings is told
-  pub half-told : (s : Side) (h : Half) → IsShown (rows_of d) h → side_by rows h ≡ s → (o : Option Half) → o ≡ half_along d.stars s → o ≡ None → ⊥
+  half-told : (s : Side) (h : Half) → IsShown (rows_of d) h → side_by rows h ≡ s → (o : Option Half) → o ≡ half_along d.stars s → o ≡ None → ⊥
   half-told s h shown side o told none =
       let there = half-spoke h shown in
       let mine : Contains (items_at d.stars s.0) (spoke h s.1) = subst (λ (t : Side). Contains (items_at d.stars t.0) (spoke h t.1)) side there in
@@ -141,3 +149,21 @@ module _ (d : Parts) (ends : AllByRecursion (HasHalves d.table.rows) d.strings) 
       not_found : (f : Option Spoke) → None ≡ option_map (λ (x : Spoke). x.half) f → f ≡ None
       not_found None e = refl
       not_found (Some x) e = cc
+
+  -- whichever star is asked
+  pub told-by_ends : (s : Side) (h : Half) → IsShown (rows_of d) h → side_by rows h ≡ s → half_by_ends d.stars s ≡ None → ⊥
+  told-by_ends s h shown side none = by (are_fewer_there d.stars s.1 s.0) none
+    where
+      nothing : (f : Option Half) → option_map twin f ≡ None → f ≡ None
+      nothing None told = refl
+      nothing (Some k) told = cc
+
+      back : side_by rows (twin h) ≡ opposite s
+      back =
+          let from = ap (λ (t : Side). t.0) side in
+          let to = ap (λ (t : Side). t.1) side in
+          λ i. (to i, (ap (origin_of rows) (twin-twin h) ∙ from) i)
+
+      by : (b : Bool) → cond b (half_along d.stars s) (half_by_end d.stars s) ≡ None → ⊥
+      by true none = half-told s h shown side None (sym none) refl
+      by false none = half-told (opposite s) (twin h) shown back None (sym (nothing (half_along d.stars (opposite s)) none)) refl

@@ -1,28 +1,27 @@
 -- The halves of a map's strings in a table that is being joined to its rings.
-use Rattle.std.proofs.Common.{◌≡◌, [], refl, sym, ap, ◌∙◌, subst, inl, inr, Option, Some, None, nat_eq}
-use Rattle.std.specs.Prelude.{IsSome, IfSome, option_map}
+use Rattle.std.proofs.Common.{◌≡◌, [], refl, sym, ◌∙◌, subst, inl, inr, Option, Some, None, nat_eq}
+use Rattle.std.specs.Prelude.{IsSome, IfSome}
 use Rattle.std.specs.List.{Contains, IsDistinct}
-use Rattle.cad_rings.specs.Cycle.{Side, opposite}
+use Rattle.cad_rings.specs.Cycle.{Side}
 use Rattle.cad_map.specs.Map.{Map, all_sides}
 use Rattle.cad_map.specs.Rings.{HasWholeRings}
 use Rattle.cad_map.proofs.CallerLemmas.{All-at_each, All-from_each}
 use Rattle.cad_laws.proofs.CallerLemmas.{side-string}
 use Rattle.map_parts.proofs.WholeStrings.{two-ends, strings-once}
 use Rattle.half_table.specs.declared.half.Half.{Half}
-use Rattle.half_table.specs.Half.{forward_of, backward_of, twin}
+use Rattle.half_table.specs.Half.{forward_of, backward_of}
 use Rattle.half_table.specs.Rows.{HalfRows, strings, has, origin_of}
-use Rattle.half_table.proofs.Halves.{twin-twin}
 use Rattle.map_parts.specs.declared.stars.Spoke.{Spoke}
 use Rattle.key_lists.specs.Held.{Held}
 use Rattle.cell_grid.specs.Kept.{Kept}
 use Rattle.cad_laws.specs.Local.{IsShown, side_by}
 use Rattle.map_parts.specs.Parts.{Parts, HasHalves, rows_of}
-use Rattle.map_parts.specs.Stars.{half_along}
+use Rattle.map_parts.specs.Stars.{half_by_ends}
 use Rattle.map_parts.specs.Labels.{IsAlong}
 use Rattle.map_parts.specs.Building.{parts_of, HoldsStrings}
 use Rattle.map_parts.proofs.PartsRings.{row-there}
 use Rattle.map_parts.proofs.ToHalves.{halves-apart}
-use Rattle.map_parts.proofs.StarHalves.{along-some, by_end-some, half-told}
+use Rattle.map_parts.proofs.StarHalves.{by_ends-some, told-by_ends}
 
 -- a map's rows with a table and stars alone
 abbrev pub with_stars : Map → HalfRows → Held Spoke → Parts
@@ -48,39 +47,16 @@ module _ (m : Map) (whole : HasWholeRings m) (rows : HalfRows) (held : Held Spok
   pub sides-apart : (g h : Half) → IsShown m g → IsShown m h → side_by rows g ≡ side_by rows h → g ≡ h
   sides-apart g h one two same = halves-apart d st.ends (two-ends m whole) (strings-once m whole) g h one two same
 
-  pub told-some : (s : Side) → Contains (all_sides m) s → (o : Option Half) → o ≡ half_along held s → IsSome o
+  pub told-some : (s : Side) → Contains (all_sides m) s → (o : Option Half) → o ≡ half_by_ends held s → IsSome o
   told-some s there (Some h) told = refl
   told-some s there None told =
       let it = side-shown s there in
-      absurd (half-told d st.ends (two-ends m whole) st.stars s it.0 it.1 it.2 None told refl)
-
-  pub told-along : (s : Side) (o : Option Half) → o ≡ half_along held s → IfSome o (IsAlong (rows_of d) d.table.rows s)
-  told-along s o told = along-some d st.ends (two-ends m whole) st.stars s o told
+      absurd (told-by_ends d st.ends (two-ends m whole) st.stars s it.0 it.1 it.2 (sym told))
 
   -- a half that is told of a side: in the table, and along the side
-  pub told-is : (s : Side) (o : Option Half) (h : Half) → o ≡ half_along held s → o ≡ Some h → IsAlong m rows s h
+  pub told-is : (s : Side) (o : Option Half) (h : Half) → o ≡ half_by_ends held s → o ≡ Some h → IsAlong m rows s h
   told-is s o h told is =
-      let along = subst (λ (p : Option Half). IfSome p (IsAlong (rows_of d) d.table.rows s)) is (told-along s o told) in
-      record { there = along.there; shown = along.shown; side = along.side }
-
-  -- so it is where the half is sought at the side's end
-  pub told_by_end-some : (s : Side) → Contains (all_sides m) s → (o : Option Half) → o ≡ option_map twin (half_along held (opposite s)) → IsSome o
-  told_by_end-some s there (Some h) told = refl
-  told_by_end-some s there None told =
-      let it = side-shown s there in
-      let h = it.0 in
-      let from = ap (λ (t : Side). t.0) it.2 in
-      let to = ap (λ (t : Side). t.1) it.2 in
-      let back : side_by rows (twin h) ≡ opposite s = λ i. (to i, (ap (origin_of rows) (twin-twin h) ∙ from) i) in
-      absurd (half-told d st.ends (two-ends m whole) st.stars (opposite s) (twin h) it.1 back None (sym (none (half_along held (opposite s)) told)) refl)
-    where
-      none : (f : Option Half) → None ≡ option_map twin f → f ≡ None
-      none None told = refl
-      none (Some k) told = cc
-
-  pub told_by_end-is : (s : Side) (o : Option Half) (h : Half) → o ≡ option_map twin (half_along held (opposite s)) → o ≡ Some h → IsAlong m rows s h
-  told_by_end-is s o h told is =
-      let along = subst (λ (p : Option Half). IfSome p (IsAlong (rows_of d) d.table.rows s)) is (by_end-some d st.ends (two-ends m whole) st.stars s o told) in
+      let along = subst (λ (p : Option Half). IfSome p (IsAlong (rows_of d) d.table.rows s)) is (by_ends-some d st.ends (two-ends m whole) st.stars s o told) in
       record { there = along.there; shown = along.shown; side = along.side }
 
   -- after halves were linked anew

@@ -1,10 +1,10 @@
 -- The star of a point: the half-edges that begin there.
-use Rattle.std.specs.Prelude.{◌≡◌, ◌++◌, ℕ, Bool, ◌==◌, ◌&&◌, List, [], ◌∷◌, find, Option, option_map, if◌then◌else◌}
+use Rattle.std.specs.Prelude.{◌≡◌, ◌++◌, ℕ, Bool, ◌==◌, ◌&&◌, nat_lt, List, [], ◌∷◌, length, find, Option, option_map, if◌then◌else◌}
 use Rattle.std.specs.List.{flat_map}
 use Rattle.cad_rows.specs.declared.rows.StringRow.{StringRow}
-use Rattle.cad_rings.specs.Cycle.{Side}
+use Rattle.cad_rings.specs.Cycle.{Side, opposite}
 use Rattle.half_table.specs.declared.half.Half.{Half}
-use Rattle.half_table.specs.Half.{forward_of, backward_of, is_half}
+use Rattle.half_table.specs.Half.{twin, forward_of, backward_of, is_half}
 use Rattle.key_lists.specs.Held.{Held, items_at}
 use Rattle.map_parts.specs.declared.stars.Spoke.{Spoke}
 
@@ -33,6 +33,21 @@ half_to far spokes = option_map (λ (x : Spoke). x.half) (find (λ (x : Spoke). 
 -- the half along a side, by the star of the point where it begins
 abbrev pub half_along : Held Spoke → Side → Option Half
 half_along stars s = half_to s.1 (items_at stars s.0)
+
+-- the same, by the star of the point where it ends: the twin of the half that leads back
+abbrev pub half_by_end : Held Spoke → Side → Option Half
+half_by_end stars s = option_map twin (half_along stars (opposite s))
+
+-- more than a few halves begin at the one point, and fewer at the other
+abbrev pub are_fewer_there : Held Spoke → ℕ → ℕ → Bool
+are_fewer_there stars here there =
+    nat_lt 8 (length (items_at stars here))
+    && nat_lt (length (items_at stars there)) (length (items_at stars here))
+
+-- the half along a side, by the star of its end, or of its beginning where fewer begin there
+abbrev pub half_by_ends : Held Spoke → Side → Option Half
+half_by_ends stars s =
+    if are_fewer_there stars s.1 s.0 then half_along stars s else half_by_end stars s
 
 -- whether two halves of a star are the same
 abbrev pub is_spoke : Spoke → Spoke → Bool

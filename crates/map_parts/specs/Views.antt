@@ -2,19 +2,19 @@
 use Rattle.std.specs.Prelude.{ℕ, List, [], map, Option, option_map, unwrap_or}
 use Rattle.cad_rows.specs.declared.names.Face.{Face}
 use Rattle.cad_rows.specs.declared.rows.StringRow.{StringRow}
-use Rattle.cad_rings.specs.Cycle.{Side, opposite}
+use Rattle.cad_rings.specs.Cycle.{Side}
 use Rattle.cad_map.specs.Map.{string_of}
 use Rattle.half_table.specs.declared.half.Half.{Half}
-use Rattle.half_table.specs.Half.{twin, forward_of, backward_of}
+use Rattle.half_table.specs.Half.{forward_of, backward_of}
 use Rattle.half_table.specs.Rows.{face}
 use Rattle.cad_laws.specs.Local.{beyond}
 use Rattle.key_lists.specs.Held.{items_at}
-use Rattle.map_parts.specs.Stars.{half_along}
+use Rattle.map_parts.specs.Stars.{half_by_ends}
 use Rattle.map_parts.specs.Parts.{Parts, rows_of}
 
--- the half along a side: the twin of the one that leads back along it, in the star of the side's end
+-- the half along a side
 abbrev pub view_half : Parts → Side → Option Half
-view_half d s = option_map twin (half_along d.stars (opposite s))
+view_half d s = half_by_ends d.stars s
 
 -- its face
 abbrev pub view_face : Parts → Side → Option Face

@@ -1,5 +1,5 @@
 //! A table linked along the rings of a map.
-ghost use Rattle.std.specs.Prelude.{◌≡◌, ◌≢◌, ◌≤◌, ◌<◌, ◌+◌, ◌&&◌, nat_lt, true, false, length, IfOk, OnOk};
+ghost use Rattle.std.specs.Prelude.{◌≡◌, ◌≢◌, ◌≤◌, ◌<◌, ◌+◌, true, false, length, IfOk, OnOk};
 ghost use Rattle.std.specs.List.{Contains};
 ghost use Rattle.cad_rings.specs.Cycle.{sides_of, Side};
 ghost use Rattle.cad_map.specs.declared.boundary.Boundary.{Boundary as BoundaryOf};
@@ -9,22 +9,18 @@ ghost use Rattle.half_table.specs.Rows.{HalfRows, has, has_halves, IsLinked};
 ghost use Rattle.half_table.specs.Surgery.{AddsLoose};
 ghost use Rattle.half_table.specs.Writes.{Relinks};
 ghost use Rattle.cad_laws.specs.Local.{IsLocal};
-ghost use Rattle.key_lists.specs.Held.{items_at};
 ghost use Rattle.map_parts.specs.Building.{AreStarsOf, HoldsStrings, HoldsStringsUpTo, IsLinkedAt, IsLinkedAlong, KeepsLinks};
 ghost use Rattle.map_parts.specs.Labels.{IsHalfAlong, IsHalfBefore, side_at, IsHalfOnRing, IsLabelled, HoldsRings};
 ghost use Rattle.map_parts.specs.Stars.{AddsSpokes};
 
 use crate::kept::keep_half;
-use crate::stars::{Spoke, add_spokes, find_half, find_half_by_end, star_of};
+use crate::stars::{Spoke, add_spokes, find_half_by_ends};
 use cad_map::{Boundary, MapView, PlainMap};
 use cad_rings::Ring;
 use cad_rows::{Face, Memory, PointNo, StringRow};
 use half_table::{Half, HalfTable, OpenTable, Tally};
 use key_lists::KeyLists;
 use std::alloc::Global;
-
-// Among so few halves a side is sought where it begins, without a look at its end.
-const FEW: usize = 8;
 
 // Adds the two halves of a string, loose, to a table and to the stars of its ends.
 fn add_string<T: Tally>(
@@ -59,27 +55,14 @@ pub fn add_strings<T: Tally>(
     Ok(())
 }
 
-// Whether a side is sought faster at its end: more than a few halves begin where it begins, and
-// fewer where it ends.
-fn is_sought_by_end(stars: &KeyLists<Spoke>, from: PointNo, to: PointNo) -> bool
-    ensures { result ≡ (nat_lt 8 (length (items_at stars.now from)) &&
-        nat_lt (length (items_at stars.now to)) (length (items_at stars.now from))) }
-{
-    let here = star_of(stars, from).len();
-    here > FEW && star_of(stars, to).len() < here
-}
-
-// The half along a side of the map, sought at that end of it where fewer halves begin.
+// The half along a side of the map.
 fn side_half(map: &PlainMap, stars: &KeyLists<Spoke>, from: PointNo, to: PointNo) -> Half
     requires whole { HasWholeRings map.now }
     requires stars { AreStarsOf map.now stars.now }
     requires side { Contains (all_sides map.now) (from, to) }
     ensures { IsHalfAlong map.now stars.now (from, to) result }
 {
-    if is_sought_by_end(stars, from, to) {
-        return find_half_by_end(stars, from, to).unwrap();
-    }
-    find_half(stars, from, to).unwrap()
+    find_half_by_ends(stars, from, to).unwrap()
 }
 
 // The half along the side of a ring that begins at a place.

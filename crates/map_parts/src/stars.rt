@@ -1,13 +1,17 @@
 //! The halves that begin at each point.
 ghost use Rattle.std.specs.Prelude.{◌≡◌, ◌++◌, ◌∷◌, [], ◌≢◌, OnOk, ℕ, option_map, slice_get};
-ghost use Rattle.half_table.specs.Half.{half_of, twin};
+ghost use Rattle.half_table.specs.Half.{half_of};
 ghost use Rattle.key_lists.specs.Held.{items_at};
 ghost use Rattle.map_parts.specs.declared.stars.Spoke.{Spoke as SpokeOf};
-ghost use Rattle.map_parts.specs.Stars.{spoke, half_to, half_along, AddsSpokes};
+ghost use Rattle.map_parts.specs.Stars.{spoke, half_to, half_along, half_by_end, half_by_ends, AddsSpokes};
+ghost use Rattle.map_parts.specs.Stars.{are_fewer_there as are_fewer_there_of};
 
 use cad_rows::{Memory, PointNo, StringNo, StringRow};
 use half_table::Half;
 use key_lists::KeyLists;
+
+// Among so few halves a side is sought without a look at its other end.
+const FEW: usize = 8;
 
 /// A half-edge that begins at a point, and the point where it ends.
 #[derive(Clone, Copy, Debug)]
@@ -39,24 +43,43 @@ fn first_to(spokes: &[Spoke], far: PointNo) -> Option<Half>
     Some(spoke.half)
 }
 
-/// The half along the side from one point to another. It takes time by the halves that begin at
-/// the first.
-pub(crate) fn find_half(stars: &KeyLists<Spoke>, from: PointNo, to: PointNo) -> Option<Half>
+// The half along the side from one point to another, sought at the first. It takes time by the halves
+// that begin there.
+fn find_half(stars: &KeyLists<Spoke>, from: PointNo, to: PointNo) -> Option<Half>
     ensures { result ≡ half_along stars.now (from, to) }
 {
     first_to(star_of(stars, from), to)
 }
 
-/// The half along the side from one point to another, sought at the second: the twin of the one that
-/// leads back. It takes time by the halves that begin there.
-pub fn find_half_by_end(stars: &KeyLists<Spoke>, from: PointNo, to: PointNo) -> Option<Half>
-    ensures { result ≡ option_map twin (half_along stars.now (to, from)) }
+// The same, sought at the second: the twin of the one that leads back.
+fn find_half_by_end(stars: &KeyLists<Spoke>, from: PointNo, to: PointNo) -> Option<Half>
+    ensures { result ≡ half_by_end stars.now (from, to) }
 {
     let back = find_half(stars, to, from)?;
     Some(Half {
         string: back.string,
         forward: !back.forward,
     })
+}
+
+// Whether more than a few halves begin at a point, and fewer at another.
+fn are_fewer_there(stars: &KeyLists<Spoke>, here: PointNo, there: PointNo) -> bool
+    ensures { result ≡ are_fewer_there_of stars.now here there }
+{
+    let count = star_of(stars, here).len();
+    count > FEW && star_of(stars, there).len() < count
+}
+
+/// The half along the side from one point to another, sought at the second, or at the first where
+/// many halves begin at the second and fewer there: so a side between a point of very many strings
+/// and one of few is found among few.
+pub fn find_half_by_ends(stars: &KeyLists<Spoke>, from: PointNo, to: PointNo) -> Option<Half>
+    ensures { result ≡ half_by_ends stars.now (from, to) }
+{
+    if are_fewer_there(stars, to, from) {
+        return find_half(stars, from, to);
+    }
+    find_half_by_end(stars, from, to)
 }
 
 // Adds a half to the star of the point where it begins.

@@ -8,10 +8,10 @@ use Rattle.cad_surgery.proofs.draft.Draft.half.Goals as goal
 
 pub returns-clause-some : goal.returns-clause-some
 returns-clause-some g c =
-    subst (λ (d : Parts). IfSome c.find_half_by_end.result (IsAlong (rows_of d) d.table.rows (c.args.from, c.args.to)))
-    c.self.view_is (half-some _ c.self.invariant (c.args.from, c.args.to) c.find_half_by_end.result c.find_half_by_end.ensures)
+    subst (λ (d : Parts). IfSome c.find_half_by_ends.result (IsAlong (rows_of d) d.table.rows (c.args.from, c.args.to)))
+    c.self.view_is (half-some _ c.self.invariant (c.args.from, c.args.to) c.find_half_by_ends.result c.find_half_by_ends.ensures)
 
 pub returns-clause-none : goal.returns-clause-none
 returns-clause-none g c =
-    subst (λ (d : Parts). IfNone c.find_half_by_end.result (IsNoSide (map_of d) (c.args.from, c.args.to)))
-    c.self.view_is (half-none _ c.self.invariant (c.args.from, c.args.to) c.find_half_by_end.result c.find_half_by_end.ensures)
+    subst (λ (d : Parts). IfNone c.find_half_by_ends.result (IsNoSide (map_of d) (c.args.from, c.args.to)))
+    c.self.view_is (half-none _ c.self.invariant (c.args.from, c.args.to) c.find_half_by_ends.result c.find_half_by_ends.ensures)
