@@ -1,5 +1,6 @@
 #!/usr/bin/env python3
-"""Makes edit scripts on a grid of parcels, for bin/bench --edits, and in faces of many rings, for bin/bench --faces.
+"""Makes edit scripts on a grid of parcels, for bin/bench --edits, and in faces of many rings or at a point of many
+strings, for bin/bench --faces.
 
     bin/edit_scripts.py KIND SIZE [RECORDS]     writes such a script, of 100,000 records if not given
 
@@ -25,6 +26,10 @@ On a town of `bin/bench --write town SIZE` or `--write streets SIZE`:
 On a field of `bin/bench --write holes SIZE`:
 
     island        the tip of an island, to another place near it
+
+On a star of `bin/bench --write star SIZE`:
+
+    centre        the star's centre, to another place near it
 
 The same call gives the same script. Outside `mixed` nothing is refused, where 1,000 edits can be undone.
 """
@@ -120,6 +125,13 @@ class Islands:
     def tip(self, island):
         """The last of its three points, behind the four of the field."""
         return 4 + 3 * (island + 1)
+
+
+class Star:
+    """The number of the point that all strings of a star have, behind those of its rim."""
+
+    def __init__(self, size):
+        self.centre = size + 1
 
 
 class Draws:
@@ -326,9 +338,15 @@ def island(islands, draws):
         yield f'move,{islands.tip(place)},{east},{north}'
 
 
+def centre(star, draws):
+    while True:
+        east, north = draws.near((0, 0), 1000)
+        yield f'move,{star.centre},{east},{north}'
+
+
 KINDS = {'divide-undo': divide_undo, 'divide-merge': divide_merge, 'chain': chain, 'split-join': split_join,
          'move': move, 'points': points, 'enclose': enclose, 'attach': attach, 'undo-walk': undo_walk, 'mixed': mixed}
-FACE_KINDS = {'edge': (Town, edge), 'island': (Islands, island)}
+FACE_KINDS = {'edge': (Town, edge), 'island': (Islands, island), 'centre': (Star, centre)}
 
 
 def script(kind, size, records):

@@ -66,19 +66,22 @@ pub fn run_job<R: Read + Drop, S: Sink>(
         Ok(rows) => rows,
         Err(fault) => return Err(fault_of_plan(fault)),
     };
-    let store = match store_of(alloc, hash, &rows) {
+    let store = match store_of(alloc, hash, rows) {
         Ok(store) => store,
         Err(fault) => return Err(fault_of_plan(fault)),
     };
     run_script(alloc, &mut reader, store, sink, depth)
 }
 
-/// The map of a plan's rows on half-edges, on which a script is done. A fault is that of [`build`].
-fn store_of(alloc: Global, hash: NumberHash, rows: &PlanRows) -> Result<HalfMap<Ticks>, PlanFault>
-    ensures ok { IfOk result (λ store. IsBuilt rows.now (map_of store)) }
-    ensures err { IfErr result (λ fault. fault ≢ faults.Memory → IsBuildFault rows.now fault) }
+/// The map of a plan's rows on half-edges, on which a script is done. The rows are given back before
+/// the half-edges are made. A fault is that of [`build`].
+fn store_of(alloc: Global, hash: NumberHash, rows: PlanRows) -> Result<HalfMap<Ticks>, PlanFault>
+    ensures ok { IfOk result (λ store. IsBuilt rows (map_of store)) }
+    ensures err { IfErr result (λ fault. fault ≢ faults.Memory → IsBuildFault rows fault) }
 {
-    let map = build(alloc, hash, rows)?;
+    let built = build(alloc, hash, &rows);
+    drop(rows);
+    let map = built?;
     match HalfMap::of(alloc, &map, Ticks::new()) {
         Ok(store) => Ok(store),
         Err(_) => Err(PlanFault::Memory),
