@@ -37,6 +37,7 @@ pub mod NamedRings
 pub mod DividedBack
 pub mod DividedAgain
 pub mod LeadsBy
+pub mod MergersTried
 pub mod MergedIslandDraft
 pub mod HalvesRound
 pub mod SharedRings

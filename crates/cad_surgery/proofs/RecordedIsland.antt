@@ -18,7 +18,7 @@ use Rattle.map_parts.proofs.MergingIsland as merging
 use Rattle.cad_surgery.specs.ChainStrings.{with_halves}
 use Rattle.cad_surgery.specs.IslandMergers.{HasSharedRing}
 use Rattle.cad_surgery.proofs.HeldIslandMergers.{closed-sides}
-use Rattle.cad_surgery.proofs.MergedIslandDraft.{path-points}
+use Rattle.cad_surgery.proofs.MergersTried.{path-points}
 use Rattle.cad_surgery.proofs.RecordedStrings.{strings-held}
 
 module _ (m : Map) (rows : HalfRows) (ends : AllByRecursion (HasHalves rows) m.strings) (kept : Face) (row : ParcelRow) (place : ℕ) (path moved : List Half) (gone : List PlacedString)

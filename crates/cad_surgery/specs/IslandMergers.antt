@@ -1,6 +1,5 @@
--- A merger round an island: what it names, and the halves that it goes by.
+-- A merger round an island: the halves that it goes by, and what its record tells.
 use Rattle.std.specs.Prelude.{◌≡◌, ℕ, ⊤, List, map, filter, IsPermutation}
-use Rattle.cad_rows.specs.declared.edits.Edit.{Edit}
 use Rattle.cad_rows.specs.declared.edits.Edit.TheVariants.{Merge}
 use Rattle.cad_rows.specs.declared.names.Face.{Face}
 use Rattle.cad_rows.specs.declared.names.Face.TheVariants.{Parcel}
@@ -12,7 +11,6 @@ use Rattle.cad_map.specs.Map.{Map}
 use Rattle.half_table.specs.declared.half.Half.{Half}
 use Rattle.half_table.specs.Rows.{HalfRows}
 use Rattle.cad_laws.specs.Tried.{IsTried}
-use Rattle.cad_surgery.specs.declared.edits.try_merge_island.IslandMerger.{IslandMerger}
 use Rattle.cad_surgery.specs.declared.edits.try_merge_island.MergedRound.{MergedRound}
 use Rattle.edit_records.specs.declared.record.SmallRecord.{SmallRecord}
 use Rattle.edit_records.specs.declared.record.SmallRecord.TheVariants as change
@@ -22,10 +20,6 @@ use Rattle.map_parts.specs.Handing.{home_of}
 use Rattle.map_parts.specs.Islands.{AreOfRings}
 use Rattle.map_parts.specs.MergingIsland.{IsMergingIsland, rings_apart}
 use Rattle.map_parts.specs.Paths.{AreAlong}
-
--- the edit
-abbrev pub merged_round : IslandMerger → Edit
-merged_round g = Merge g.kept (Parcel g.ended)
 
 -- the record is of a merger round an island
 abbrev pub IsOfMergeIsland : SmallRecord → Type 0

@@ -10,3 +10,4 @@ pub mod Joinings
 pub mod IslandMergers
 pub mod ChainStrings
 pub mod Mergers
+pub mod Merging

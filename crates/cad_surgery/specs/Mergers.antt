@@ -1,6 +1,5 @@
--- A merger along a chain: what it names, and the halves that it goes by.
+-- A merger along a chain: the halves that it goes by, and what its record tells.
 use Rattle.std.specs.Prelude.{◌≡◌, ℕ, ◌+◌, ⊤, List, map, filter, length, IsPermutation}
-use Rattle.cad_rows.specs.declared.edits.Edit.{Edit}
 use Rattle.cad_rows.specs.declared.edits.Edit.TheVariants.{Merge}
 use Rattle.cad_rows.specs.declared.names.Face.{Face}
 use Rattle.cad_rows.specs.declared.names.Face.TheVariants.{Parcel}
@@ -12,7 +11,6 @@ use Rattle.cad_map.specs.Effects.{after}
 use Rattle.cad_map.specs.Map.{Map}
 use Rattle.half_table.specs.declared.half.Half.{Half}
 use Rattle.half_table.specs.Rows.{HalfRows}
-use Rattle.cad_surgery.specs.declared.edits.try_merge_along.Merger.{Merger}
 use Rattle.cad_surgery.specs.declared.edits.try_merge_along.Merged.{Merged}
 use Rattle.cad_laws.specs.Tried.{IsTried}
 use Rattle.edit_records.specs.HeldChains.{HeldChain, IsSharedAlong, rows_along}
@@ -27,10 +25,6 @@ use Rattle.map_parts.specs.declared.edits.merging_tried.EndedParcel.{EndedParcel
 use Rattle.map_parts.specs.declared.edits.placed_strings.PlacedString.{PlacedString}
 use Rattle.map_parts.specs.Merging.{rows_gone, IsMerging, merged, shared_chain, first_corner, last_corner, rings_past}
 use Rattle.map_parts.specs.Paths.{AreAlong}
-
--- the edit
-abbrev pub merged_by : Merger → Edit
-merged_by g = Merge g.kept (Parcel g.ended)
 
 -- the halves of strings that went with a chain
 abbrev pub halves_of : List ChainString → List Half

@@ -6,6 +6,7 @@ pub(crate) mod crossing;
 pub(crate) mod given;
 pub(crate) mod hidden;
 pub(crate) mod joining;
+pub(crate) mod merging;
 pub(crate) mod moved;
 pub(crate) mod rows;
 pub(crate) mod shared_path;

@@ -13,100 +13,27 @@ ghost use Rattle.cad_map.specs.SharedChains.{IsSharedChain};
 ghost use Rattle.cad_map.specs.declared.shared_chain.SharedChain.TheVariants.{Along};
 ghost use Rattle.half_paths.specs.Path.{strings_of};
 ghost use Rattle.cad_laws.specs.Tried.{IsTried};
-ghost use Rattle.cad_surgery.specs.Mergers.{HasFoundPath, HasSharedPath, IsMergedBy, IsOfMergeAlong, WentAlong};
-ghost use Rattle.cad_surgery.specs.Mergers.{halves_of, merged_by};
-ghost use Rattle.cad_surgery.specs.Proper.{IsProper};
-ghost use Rattle.cad_surgery.specs.Trials.{IsReadyFor, IsTakenBack, IsTrialOf, IsMade, IsPlayed, StandsBeside};
+ghost use Rattle.cad_surgery.specs.Mergers.{HasFoundPath, IsMergedBy, IsOfMergeAlong, WentAlong};
+ghost use Rattle.cad_surgery.specs.Mergers.{halves_of};
+ghost use Rattle.cad_surgery.specs.Trials.{IsReadyFor, IsTakenBack, IsTrialOf, IsMade, StandsBeside};
 ghost use Rattle.edit_records.specs.HeldChains.{row_between, rows_along};
 ghost use Rattle.edit_records.specs.Record.{edit_of, Holds, Belongs, HeldMergedAlong};
 ghost use Rattle.edit_records.specs.declared.record.SmallRecord.TheVariants.{MergeAlong as MergeAlongRecord};
-ghost use Rattle.map_parts.specs.Merging.{HaveGone, rows_gone};
-ghost use Rattle.map_parts.specs.Parts.{map_of, kept_at};
+ghost use Rattle.map_parts.specs.Merging.{rows_gone};
+ghost use Rattle.map_parts.specs.Parts.{map_of};
 
 use crate::draft::Draft;
 use crate::edits::chain_strings::chain_strings;
 use crate::edits::counted::is_work_in_range;
 use crate::edits::given::first_and_rest;
-use crate::edits::hidden::drop_hidden;
+use crate::edits::merging::{Merger, Way, merge_again, merge_within_rules};
 use crate::edits::shared_path::{SharedPath, shared_path};
 use cad_rows::{Face, Memory, Numbers, ParcelNo, ParcelRow, PointNo, Refusal, StringNo, StringRow};
-use cad_valid::{Touched, first_broken_near};
+use cad_valid::Touched;
 use edit_records::{ChainString, SmallRecord};
 use half_table::{Half, Tally};
-use map_parts::{EndedParcel, PlacedString, begin_merge_along, begin_unmerge_along, unmerge_along};
+use map_parts::{EndedParcel, PlacedString, begin_unmerge_along};
 use std::alloc::Global;
-
-/// What a merger along a chain names, with the halves along the chain and their strings, the halves
-/// that follow its two ends, and one half of each other ring of the ended parcel.
-#[derive(Clone, Copy)]
-pub(crate) struct Merger<'a> {
-    pub(crate) kept: Face,
-    pub(crate) ended: ParcelNo,
-    pub(crate) path: &'a [Half],
-    pub(crate) strings: &'a [StringNo],
-    pub(crate) start: Half,
-    pub(crate) end: Half,
-    pub(crate) moved: &'a [Half],
-}
-
-/// Merges a parcel into a face along their chain, and takes it back where it breaks a rule. Gives
-/// what went.
-pub(crate) fn merge_along_within_rules<T: Tally>(
-    draft: &mut Draft<T>,
-    merger: &Merger<'_>,
-    touched: &Touched,
-) -> Result<EndedParcel, Refusal>
-    requires path { HasSharedPath (map_of draft.old) draft.old.table.rows merger.now.kept
-        merger.now.ended merger.now.path.now merger.now.start merger.now.end merger.now.moved.now }
-    requires strings { merger.now.strings.now ≡ strings_of merger.now.path.now }
-    requires ready { IsReadyFor (merged_by merger.now) draft.old touched.now }
-    ensures played { IsPlayed (merged_by merger.now) draft.old draft.new result }
-    ensures gone { IfOk result (λ r. HaveGone (map_of draft.old) merger.now.ended
-        merger.now.strings.now r.row r.place r.strings.items) }
-{
-    is_work_in_range(&draft.table);
-    let (first, rest) = first_and_rest(merger.path);
-    let Ok(gone) = begin_merge_along(
-        &mut draft.rows,
-        &mut draft.table,
-        &mut draft.kept,
-        &mut draft.stars,
-        &merger.kept,
-        merger.ended,
-        merger.strings,
-        first,
-        rest,
-        merger.moved,
-    ) else {
-        return Err(Refusal::Memory);
-    };
-    let alloc = draft.rows.points.allocator();
-    if let Some(rule) = first_broken_near(alloc, draft, draft.grid(), touched) {
-        let EndedParcel {
-            row,
-            place,
-            mut strings,
-        } = gone;
-        unmerge_along(
-            &mut draft.rows,
-            &mut draft.table,
-            &mut draft.kept,
-            &mut draft.stars,
-            &merger.kept,
-            row,
-            place,
-            first,
-            rest,
-            &merger.start,
-            &merger.end,
-            merger.moved,
-            &mut strings,
-        );
-        return Err(Refusal::Breaks(rule));
-    }
-    drop_hidden(draft, merger.path);
-    Ok(gone)
-}
 
 // What a merger along a chain goes by, and room for what the record tells of its strings.
 #[derive(Drop)]
@@ -192,13 +119,15 @@ pub(crate) fn try_merge_along<T: Tally>(
     let merger = Merger {
         kept,
         ended,
+        way: Way::Along {
+            start: shared.start,
+            end: shared.end,
+        },
         path: shared.path.as_slice(),
         strings: shared.strings.as_slice(),
-        start: shared.start,
-        end: shared.end,
         moved: shared.moved.as_slice(),
     };
-    let gone = merge_along_within_rules(draft, &merger, touched)?;
+    let gone = merge_within_rules(draft, &merger, touched)?;
     let EndedParcel {
         row,
         place,
@@ -213,32 +142,6 @@ pub(crate) fn try_merge_along<T: Tally>(
         ..
     } = shared;
     Ok(record_of_merger(kept, row, place, chain, strings, start, end, moved))
-}
-
-// Merges a parcel into a face along their chain again. Where memory runs out the map stays.
-fn merge_along_again<T: Tally>(draft: &mut Draft<T>, merger: &Merger<'_>) -> Result<(), Memory>
-    requires path { HasSharedPath (map_of draft.old) draft.old.table.rows merger.now.kept
-        merger.now.ended merger.now.path.now merger.now.start merger.now.end merger.now.moved.now }
-    requires strings { merger.now.strings.now ≡ strings_of merger.now.path.now }
-    requires proper { IsProper (map_of draft.old) draft.old.table.rows (kept_at draft.old) }
-    ensures { IsMade (merged_by merger.now) draft.old draft.new result }
-{
-    is_work_in_range(&draft.table);
-    let (first, rest) = first_and_rest(merger.path);
-    begin_merge_along(
-        &mut draft.rows,
-        &mut draft.table,
-        &mut draft.kept,
-        &mut draft.stars,
-        &merger.kept,
-        merger.ended,
-        merger.strings,
-        first,
-        rest,
-        merger.moved,
-    )?;
-    drop_hidden(draft, merger.path);
-    Ok(())
 }
 
 /// The halves of strings that went with a chain, or an island.
@@ -325,13 +228,15 @@ pub(crate) fn forward_merge_along<T: Tally>(
     let merger = Merger {
         kept: told.kept,
         ended: told.row.number,
+        way: Way::Along {
+            start: told.start,
+            end: told.end,
+        },
         path: path.as_slice(),
         strings: strings.as_slice(),
-        start: told.start,
-        end: told.end,
         moved: told.moved,
     };
-    merge_along_again(draft, &merger)
+    merge_again(draft, &merger)
 }
 
 // A string that went between two neighbours of a chain, with its place.

@@ -15,124 +15,24 @@ ghost use Rattle.edit_records.specs.declared.record.SmallRecord.TheVariants.{Mer
 ghost use Rattle.half_table.specs.Rows.{origin_of};
 ghost use Rattle.half_paths.specs.Path.{AreIn, strings_of};
 ghost use Rattle.cad_laws.specs.Tried.{IsTried};
-ghost use Rattle.cad_surgery.specs.IslandMergers.{HasSharedRing, IsMergedRound, IsOfMergeIsland, merged_round};
+ghost use Rattle.cad_surgery.specs.IslandMergers.{HasSharedRing, IsMergedRound, IsOfMergeIsland};
 ghost use Rattle.cad_surgery.specs.Mergers.{WentAlong, halves_of};
-ghost use Rattle.cad_surgery.specs.Proper.{IsProper};
-ghost use Rattle.cad_surgery.specs.Trials.{IsReadyFor, IsTakenBack, IsTrialOf, IsMade, IsPlayed, StandsBeside};
-ghost use Rattle.map_parts.specs.Merging.{HaveGone};
-ghost use Rattle.map_parts.specs.Parts.{map_of, kept_at};
+ghost use Rattle.cad_surgery.specs.Trials.{IsReadyFor, IsTakenBack, IsTrialOf, IsMade, StandsBeside};
+ghost use Rattle.map_parts.specs.Parts.{map_of};
 
 use crate::draft::Draft;
 use crate::edits::chain_strings::chain_strings;
 use crate::edits::counted::is_work_in_range;
 use crate::edits::given::first_and_rest;
-use crate::edits::hidden::drop_hidden;
+use crate::edits::merging::{Merger, Way, merge_again, merge_within_rules};
 use crate::edits::shared_ring::{SharedRing, shared_ring};
 use crate::edits::try_merge_along::{ended_by, numbers_of, path_of};
 use cad_rows::{Face, Memory, Numbers, ParcelNo, ParcelRow, PointNo, Refusal, StringNo};
-use cad_valid::{Touched, first_broken_near};
+use cad_valid::Touched;
 use edit_records::{ChainString, SmallRecord};
 use half_table::{Half, HalfTable, Tally};
-use map_parts::{EndedParcel, begin_merge_island, begin_unmerge_island, unmerge_island};
+use map_parts::{EndedParcel, begin_unmerge_island};
 use std::alloc::Global;
-
-/// What a merger round an island names, with the halves round the ring that the two parcels share
-/// and their strings, and one half of each other ring of the ended parcel.
-#[derive(Clone, Copy)]
-pub(crate) struct IslandMerger<'a> {
-    pub(crate) kept: Face,
-    pub(crate) ended: ParcelNo,
-    pub(crate) path: &'a [Half],
-    pub(crate) strings: &'a [StringNo],
-    pub(crate) moved: &'a [Half],
-}
-
-/// Merges a parcel into a face round the ring that they share, and takes it back where it breaks a
-/// rule. Gives what went.
-pub(crate) fn merge_island_within_rules<T: Tally>(
-    draft: &mut Draft<T>,
-    merger: &IslandMerger<'_>,
-    touched: &Touched,
-) -> Result<EndedParcel, Refusal>
-    requires ring { HasSharedRing (map_of draft.old) draft.old.table.rows merger.now.kept
-        merger.now.ended merger.now.path.now merger.now.moved.now }
-    requires strings { merger.now.strings.now ≡ strings_of merger.now.path.now }
-    requires ready { IsReadyFor (merged_round merger.now) draft.old touched.now }
-    ensures played { IsPlayed (merged_round merger.now) draft.old draft.new result }
-    ensures gone { IfOk result (λ r. HaveGone (map_of draft.old) merger.now.ended
-        merger.now.strings.now r.row r.place r.strings.items) }
-{
-    is_work_in_range(&draft.table);
-    let (first, rest) = first_and_rest(merger.path);
-    let Ok(gone) = begin_merge_island(
-        &mut draft.rows,
-        &mut draft.table,
-        &mut draft.kept,
-        &mut draft.stars,
-        &merger.kept,
-        merger.ended,
-        merger.strings,
-        first,
-        rest,
-        merger.moved,
-    ) else {
-        return Err(Refusal::Memory);
-    };
-    let alloc = draft.rows.points.allocator();
-    if let Some(rule) = first_broken_near(alloc, draft, draft.grid(), touched) {
-        let EndedParcel {
-            row,
-            place,
-            mut strings,
-        } = gone;
-        unmerge_island(
-            &mut draft.rows,
-            &mut draft.table,
-            &mut draft.kept,
-            &mut draft.stars,
-            &merger.kept,
-            row,
-            place,
-            first,
-            rest,
-            merger.moved,
-            &mut strings,
-        );
-        return Err(Refusal::Breaks(rule));
-    }
-    drop_hidden(draft, merger.path);
-    Ok(gone)
-}
-
-// Merges a parcel into a face round the ring that they share again. Where memory runs out the map
-// stays.
-fn merge_island_again<T: Tally>(
-    draft: &mut Draft<T>,
-    merger: &IslandMerger<'_>,
-) -> Result<(), Memory>
-    requires ring { HasSharedRing (map_of draft.old) draft.old.table.rows merger.now.kept
-        merger.now.ended merger.now.path.now merger.now.moved.now }
-    requires strings { merger.now.strings.now ≡ strings_of merger.now.path.now }
-    requires proper { IsProper (map_of draft.old) draft.old.table.rows (kept_at draft.old) }
-    ensures { IsMade (merged_round merger.now) draft.old draft.new result }
-{
-    is_work_in_range(&draft.table);
-    let (first, rest) = first_and_rest(merger.path);
-    begin_merge_island(
-        &mut draft.rows,
-        &mut draft.table,
-        &mut draft.kept,
-        &mut draft.stars,
-        &merger.kept,
-        merger.ended,
-        merger.strings,
-        first,
-        rest,
-        merger.moved,
-    )?;
-    drop_hidden(draft, merger.path);
-    Ok(())
-}
 
 // What the record of a merger round an island tells.
 #[derive(Clone, Copy)]
@@ -249,14 +149,15 @@ pub(crate) fn forward_merge_island<T: Tally>(
     let told = merger_of(change);
     let path = path_of(alloc, told.strings)?;
     let strings = numbers_of(alloc, path.as_slice())?;
-    let merger = IslandMerger {
+    let merger = Merger {
         kept: told.kept,
         ended: told.row.number,
+        way: Way::Round,
         path: path.as_slice(),
         strings: strings.as_slice(),
         moved: told.moved,
     };
-    merge_island_again(draft, &merger)
+    merge_again(draft, &merger)
 }
 
 /// The points at which halves begin.
@@ -355,14 +256,15 @@ pub(crate) fn try_merge_island<T: Tally>(
         points,
         mut strings,
     } = found;
-    let merger = IslandMerger {
+    let merger = Merger {
         kept,
         ended,
+        way: Way::Round,
         path: ring.path.as_slice(),
         strings: ring.strings.as_slice(),
         moved: ring.moved.as_slice(),
     };
-    let gone = merge_island_within_rules(draft, &merger, touched)?;
+    let gone = merge_within_rules(draft, &merger, touched)?;
     let EndedParcel {
         row,
         place,

@@ -18,8 +18,8 @@ use Rattle.cad_surgery.proofs.edits.try_merge_along.try_merge_along.Goals as goa
 pub returns-in_default : goal.returns-in_default
 returns-in_default g c = stays _ _ _ _ c.requires.ready (out_of_memory c.requires.ready.tried.allowed)
 
-pub merge_along_within_rules-requires-clause-path : goal.merge_along_within_rules-requires-clause-path
-merge_along_within_rules-requires-clause-path g c =
+pub merge_within_rules-requires-clause-shared : goal.merge_within_rules-requires-clause-shared
+merge_within_rules-requires-clause-shared g c =
     let d = c.args.draft.now in
     let it = c.in-Ok.found.shared in
     subst (λ (t : List Half × List Half). HasSharedPath (map_of d) d.table.rows c.args.kept c.args.ended t.0 it.start it.end t.1)

@@ -9,8 +9,8 @@ use Rattle.cad_surgery.proofs.Trials.{is-idle}
 use Rattle.cad_surgery.proofs.HeldIslandMergers.{again-ring}
 use Rattle.cad_surgery.proofs.edits.try_merge_island.forward_merge_island.Goals as goal
 
-pub merge_island_again-requires-clause-ring : goal.merge_island_again-requires-clause-ring
-merge_island_again-requires-clause-ring g c =
+pub merge_again-requires-clause-shared : goal.merge_again-requires-clause-shared
+merge_again-requires-clause-shared g c =
     let told = c.merger_of-told.result in
     subst (λ (l : List Half). HasSharedRing (map_of c.args.draft.now) c.args.draft.now.table.rows
     told.kept told.row.now.number l told.moved.now)
@@ -18,8 +18,8 @@ merge_island_again-requires-clause-ring g c =
     (again-ring c.draft.inside c.draft.view_is c.draft.invariant c.args.change.now c.merger_of-told.result
     c.requires.given c.merger_of-told.ensures.edit c.merger_of-told.ensures.held c.requires.beside.made.1)
 
-pub merge_island_again-requires-clause-strings : goal.merge_island_again-requires-clause-strings
-merge_island_again-requires-clause-strings g c =
+pub merge_again-requires-clause-strings : goal.merge_again-requires-clause-strings
+merge_again-requires-clause-strings g c =
     c.as_slice-3.ensures.value ∙ c.in_ok-strings.ensures
     ∙ ap strings_of (c.as_slice.ensures.value ∙ sym c.as_slice-2.ensures.value)
 
@@ -31,5 +31,5 @@ returns-in_err-strings g c = is-idle c.from_residual-in_err-strings.ensures.0 c.
 
 pub returns : goal.returns
 returns g c =
-    subst (λ (e : Edit). IsMade e c.args.draft.now c.merge_island_again.new.draft c.merge_island_again.result)
-    (sym c.merger_of-told.ensures.edit) c.merge_island_again.ensures
+    subst (λ (e : Edit). IsMade e c.args.draft.now c.merge_again.new.draft c.merge_again.result)
+    (sym c.merger_of-told.ensures.edit) c.merge_again.ensures
