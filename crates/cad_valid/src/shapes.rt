@@ -45,6 +45,18 @@ pub(crate) fn are_apart<R: Enclosing>(a: &R, b: &R) -> bool
     !a.has_inside(b.anchor()) && !b.has_inside(a.anchor())
 }
 
+/// The position of a point that mostly is the one where a side before ended, which lies there.
+fn position_after<M: MapView>(map: &M, end: PointNo, at: Pt, point: PointNo) -> Pt
+    requires { at ≡ position_of (M.map map.now) end }
+    ensures { result ≡ position_of (M.map map.now) point }
+{
+    if point == end {
+        at
+    } else {
+        position(map, point)
+    }
+}
+
 /// A ring with the positions of its points.
 #[derive(Debug, Drop)]
 pub(crate) struct PlacedRing {
@@ -75,8 +87,11 @@ impl PlacedRing {
     {
         let mut placed = Vec::new(alloc);
         let mut least = first;
+        let (mut end, mut at) = (first, position(map, first));
         for (from, to) in sides {
-            placed.push((position(map, from), position(map, to)))?;
+            let start = position_after(map, end, at, from);
+            (end, at) = (to, position(map, to));
+            placed.push((start, at))?;
             if from.get() < least.get() {
                 least = from;
             }
