@@ -104,3 +104,31 @@ pub(crate) fn with_islands(alloc: Global, count: u32) -> Result<String, Fail>
     text.push_str("open,,,,,,\n")?;
     Ok(text)
 }
+
+/// Appends the records of a petal: a triangle of point 1 and two points in the east, north of the petals before.
+fn append_petal(text: &mut String, place: u32) -> Result<(), AllocError>
+    requires { place ≤ 1000 }
+{
+    let (a, string, parcel) = (2 * place + 2, 3 * place + 1, place + 1);
+    let (b, south) = (a + 1, 200 * place);
+    for (number, y) in [(a, south), (b, south + 100)] {
+        writeln!(text, "point,{number},1000,{y},,,")?;
+    }
+    writeln!(text, "parcel,{parcel},P,,,,")?;
+    for (number, from, to) in [(string, 1, a), (string + 1, a, b), (string + 2, b, 1)] {
+        writeln!(text, "string,{number},{from},{to},{parcel},0,")?;
+    }
+    Ok(())
+}
+
+/// The plan of so many petals, which have one point in common and gaps between them.
+pub(crate) fn with_petals(alloc: Global, count: u32) -> Result<String, Fail>
+    requires { count ≤ 1000 }
+{
+    let mut text = format!(in alloc; "plan,2,,,,,\npoint,1,0,0,,,\n")?;
+    for place in 0..count {
+        append_petal(&mut text, place)?;
+    }
+    text.push_str("open,,,,,,\n")?;
+    Ok(text)
+}

@@ -1,13 +1,13 @@
 //! The check near an edit beside the whole one: both tell the same of the map that an edit makes. The near one goes
 //! through no list of all rows, and asks no more often where the map is larger.
-ghost use Rattle.std.specs.Prelude.{◌≡◌};
+ghost use Rattle.std.specs.Prelude.{◌≡◌, ◌≤◌};
 ghost use Rattle.cad_map.specs.Effects.{after};
 ghost use Rattle.cad_map.specs.Valid.{IsValid, CanBeTested};
 ghost use Rattle.cad_laws.specs.Tried.{IsTried};
 ghost use Rattle.cad_valid.specs.Near.{HoldsMap, ComesFromValid, touched_of};
 
 use crate::counted::Counted;
-use crate::far::{far_plan, with_islands};
+use crate::far::{far_plan, with_islands, with_petals};
 use crate::plans::{ISLAND, Plan, SQUARE, SQUARE_RECORDS, edit_of, map_of, text_of};
 use crate::plans_after::{DIVIDED, DIVIDED_ISLAND, JOINED};
 use crate::plans_enclosed::{FREE_CORNERS, WITH_FRAME};
@@ -252,18 +252,24 @@ fn islands_and_mergers_are_checked_no_longer_on_a_larger_map(rt: HostRuntime) ->
     Ok(())
 }
 
-/// The rule that the near check tells of the map that an edit makes of a lot with twelve islands.
-/// Fails where the whole check tells another.
-fn rule_among_islands<R: Abort + AllocGlobal>(rt: &R, edit: &str) -> Result<Option<Rule>, Fail> {
-    let plan = with_islands(rt.alloc(), 12)?;
-    let map = map_of(rt.alloc(), plan.as_str())?;
+/// The rule that the near check tells of the map that an edit makes of a plan's. Fails where the whole check tells
+/// another.
+fn rule_after<R: Abort + AllocGlobal>(
+    rt: &R,
+    plan: &str,
+    edit: &str,
+) -> Result<Option<Rule>, Fail> {
+    let map = map_of(rt.alloc(), plan)?;
     let edit = edit_of(rt.alloc(), edit)?;
     check_edit(rt, &map, &edit)?;
     Ok(told_of_edit(rt.alloc(), &map, &edit)?.rule)
 }
 
-#[test]
-fn faces_of_many_rings_are_told_as_others(rt: HostRuntime) -> Result<(), Fail> {
+/// Fails where an edit of a lot with so many islands breaks another rule than the one told here.
+fn check_islands<R: Abort + AllocGlobal>(rt: &R, count: u32) -> Result<(), Fail>
+    requires { count ≤ 1000 }
+{
+    let plan = with_islands(rt.alloc(), count)?;
     for (edit, rule) in [
         ("move,11,1400,1200,,,", None),
         // The tall island's tip goes past the next island, which is in it then.
@@ -273,7 +279,32 @@ fn faces_of_many_rings_are_told_as_others(rt: HostRuntime) -> Result<(), Fail> {
         // The tall island's tip goes past its base.
         ("move,11,900,1200,,,", Some(Rule::V7)),
     ] {
-        assert!(rt; rule_among_islands(&rt, edit)? == rule);
+        assert!(rt; rule_after(rt, plan.as_str(), edit)? == rule);
+    }
+    Ok(())
+}
+
+#[test]
+fn faces_of_many_rings_are_told_as_others(rt: HostRuntime) -> Result<(), Fail> {
+    check_islands(&rt, 12)
+}
+
+#[test]
+fn faces_of_very_many_rings_are_told_as_others(rt: HostRuntime) -> Result<(), Fail> {
+    check_islands(&rt, 24)
+}
+
+#[test]
+fn corners_at_a_point_of_many_strings_are_told_as_others(rt: HostRuntime) -> Result<(), Fail> {
+    let plan = with_petals(rt.alloc(), 6)?;
+    for (edit, rule) in [
+        ("move,1,0,50,,,", None),
+        // The first petal opens, as far as the second.
+        ("move,3,1000,150,,,", None),
+        // The first petal goes round the second.
+        ("move,3,4000,1400,,,", Some(Rule::V6)),
+    ] {
+        assert!(rt; rule_after(&rt, plan.as_str(), edit)? == rule);
     }
     Ok(())
 }
