@@ -29,7 +29,7 @@ two-exchanged : (v a b : Position) → AreTwoDirections v a b → AreTwoDirectio
 two-exchanged v a b two = record { a_away = two.b_away; b_away = two.a_away; apart = λ same. two.apart (same-exchanged v b a same) }
 
 -- two segments from v into two directions have only v in common
-two-only_start : (v a b : Position) → AreTwoDirections v a b → HaveOnlyStart v a b
+pub two-only_start : (v a b : Position) → AreTwoDirections v a b → HaveOnlyStart v a b
 two-only_start v a b two =
     (only_start-is v a b two.a_away two.b_away).1
     ((λ on. two.apart (on-same_direction v a b two.b_away on)), (λ on. two.apart (same-exchanged v b a (on-same_direction v b a two.a_away on))))
@@ -42,7 +42,7 @@ module _ (v : Position) (order : List Spoke) (met : AreMetInTurn v order) where
       let k_away = met.away k d end in
       record { a_away = j_away; b_away = k_away; apart = met-apart v (get_or order j d).position (get_or order k d).position j_away k_away (met.turn j k d lt end) }
 
-  two-among : (x y : Spoke) → Contains order x → Contains order y → x.place ≢ y.place → AreTwoDirections v x.position y.position
+  pub two-among : (x y : Spoke) → Contains order x → Contains order y → x.place ≢ y.place → AreTwoDirections v x.position y.position
   two-among x y has_x has_y apart =
       let at_x : get_or order has_x.0 x ≡ x = has_x.2 in
       let at_y : get_or order has_y.0 x ≡ y = get_or_default order has_y.0 x y has_y.1 ∙ has_y.2 in

@@ -23,6 +23,7 @@ mod NearCorners
 mod StarTests
 mod SeenNear
 mod SightOfMap
+mod ManyStrings
 mod NearFaces
 mod RaysOfPoint
 pub mod Untouched

@@ -33,13 +33,24 @@ use Rattle.cad_valid.proofs.SweptRules.{same_position, same_itself}
 overlaps-wider : (l h a b c d : ℤ) → l ≤ℤ a → a ≤ℤ h → l ≤ℤ b → b ≤ℤ h → overlaps a b c d ≡ true → overlaps l h c d ≡ true
 overlaps-wider l h a b c d la ah lb bh over = grind (arith, ints)
 
+-- a box overlaps itself
+overlaps-itself : (a b : ℤ) → overlaps a b a b ≡ true
+overlaps-itself a b = grind (arith, ints)
+
+overlap_itself : (a b : Position) → boxes_overlap a b a b ≡ true
+overlap_itself a b = and_from (overlaps a.x b.x a.x b.x) (overlaps a.y b.y a.y b.y) (overlaps-itself a.x b.x) (overlaps-itself a.y b.y)
+
 -- what overlaps the box of what was gathered overlaps the box round all
-wider : (r : Reach) (f : Lying) (c d : Position) → HasInReach r f → boxes_overlap f.a f.b c d ≡ true → boxes_overlap r.low r.high c d ≡ true
+pub wider : (r : Reach) (f : Lying) (c d : Position) → HasInReach r f → boxes_overlap f.a f.b c d ≡ true → boxes_overlap r.low r.high c d ≡ true
 wider r f c d within over =
     let both = and_parts (overlaps f.a.x f.b.x c.x d.x) (overlaps f.a.y f.b.y c.y d.y) over in
     and_from (overlaps r.low.x r.high.x c.x d.x) (overlaps r.low.y r.high.y c.y d.y)
     (overlaps-wider r.low.x r.high.x f.a.x f.b.x c.x d.x within.a.left within.a.right within.b.left within.b.right both.0)
     (overlaps-wider r.low.y r.high.y f.a.y f.b.y c.y d.y within.a.bottom within.a.top within.b.bottom within.b.top both.1)
+
+-- and so does what was gathered
+pub in_reach : (r : Reach) (f : Lying) → HasInReach r f → boxes_overlap r.low r.high f.a f.b ≡ true
+in_reach r f within = wider r f f.a f.b within (overlap_itself f.a f.b)
 
 -- ---- What the grid holds
 
@@ -166,16 +177,10 @@ module _ (m : Map) (sound : HasSoundRows m) where
   alone-by_sight t v seen sees = All-from_each (OfPoint m (IsAlone m)) t.points (λ n named p hp is q hq other same.
       let there = All-at_each (OfPoint m (λ p. Contains v.points.items (lying_point p))) t.points n seen.points named p hp is in
       let within = All-at_each (HasInReach v.reach) v.points.items (lying_point p) seen.points_in there in
-      let near : boxes_overlap p.position p.position q.position q.position ≡ true = subst (λ (r : Position). boxes_overlap p.position p.position r r ≡ true) (sym same) (itself p.position) in
+      let near : boxes_overlap p.position p.position q.position q.position ≡ true = subst (λ (r : Position). boxes_overlap p.position p.position r r ≡ true) (sym same) (overlap_itself p.position p.position) in
       let apart = list_all-at (λ (f : Lying). is_apart_from f (lying_point q)) v.points.items (lying_point p) (sees q hq (wider v.reach (lying_point p) q.position q.position within near)) there in
       differ p q (λ e. other (sym e)) (sym same) apart)
     where
-      overlaps-itself : (x : ℤ) → overlaps x x x x ≡ true
-      overlaps-itself x = grind (arith, ints)
-
-      itself : (p : Position) → boxes_overlap p p p p ≡ true
-      itself p = and_from _ _ (overlaps-itself p.x) (overlaps-itself p.y)
-
       differ : (p q : PointRow) → p.number ≢ q.number → p.position ≡ q.position → is_apart_from (lying_point p) (lying_point q) ≡ true → ⊥
       differ p q other same apart = by (p.number == q.number) refl apart
         where

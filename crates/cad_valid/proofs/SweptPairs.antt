@@ -5,6 +5,7 @@ use Rattle.std.proofs.lemmas.Bool.{and_from}
 use Rattle.std.proofs.lemmas.Option.{slice_get_within, get_or_from_slice_get}
 use Rattle.sweep.specs.declared.extent.Extent.{Extent}
 use Rattle.sweep.specs.Extents.{Overlap, AllThatOverlapPass, SomePairFails}
+use Rattle.sweep.specs.Spans.{PassEitherWay}
 use Rattle.cad_map.specs.Valid.{EachPair, each_pair}
 use Rattle.cad_valid.specs.declared.placed.Placed.{Placed}
 use Rattle.cad_valid.specs.Boxes.{box_of}
@@ -82,11 +83,12 @@ from-mapped f (z ∷ xs) (suc i) y at = from-mapped f xs i y at
 -- ---- What a sweep tells
 
 module _ (test : Placed → Placed → Bool) (items : List Placed) where
-  -- two whose boxes overlap pass, in one of the two orders
-  pub passed-two : AllThatOverlapPass (passes_at test items) (map box_of items) → (i j : ℕ) (f g : Placed)
-      → slice_get items i ≡ Some f → slice_get items j ≡ Some g → i ≢ j → Overlap (box_of f) (box_of g)
-      → (test f g ≡ true) ⊎ (test g f ≡ true)
-  passed-two all i j f g at_f at_g apart overlap =
+  -- where the test is passed at two places if the boxes there overlap, what stands there passes it
+  pub passed-pair : (i j : ℕ) (f g : Placed) → slice_get items i ≡ Some f → slice_get items j ≡ Some g
+      → ((d : Extent) → i < length (map box_of items) → j < length (map box_of items)
+      → Overlap (get_or (map box_of items) i d) (get_or (map box_of items) j d) → PassEitherWay (passes_at test items) i j)
+      → Overlap (box_of f) (box_of g) → (test f g ≡ true) ⊎ (test g f ≡ true)
+  passed-pair i j f g at_f at_g pass overlap =
       let box_f = get-mapped box_of items i f at_f in
       let box_g = get-mapped box_of items j g at_g in
       let d = box_of f in
@@ -94,10 +96,16 @@ module _ (test : Placed → Placed → Bool) (items : List Placed) where
       let is_g : get_or (map box_of items) j d ≡ box_of g = get_or_from_slice_get (map box_of items) j (box_of g) d box_g in
       let met : Overlap (get_or (map box_of items) i d) (get_or (map box_of items) j d) =
       subst (λ (b : Extent × Extent). Overlap b.0 b.1) (λ k. (sym is_f k, sym is_g k)) overlap in
-      elim (all i j d (slice_get_within (map box_of items) i (box_of f) box_f) (slice_get_within (map box_of items) j (box_of g) box_g) apart met) [
+      elim (pass d (slice_get_within (map box_of items) i (box_of f) box_f) (slice_get_within (map box_of items) j (box_of g) box_g) met) [
         | inl passes ↦ inl (sym (λ k. both_pass test (at_f k) (at_g k)) ∙ passes)
         | inr passes ↦ inr (sym (λ k. both_pass test (at_g k) (at_f k)) ∙ passes)
       ]
+
+  -- two whose boxes overlap pass, in one of the two orders
+  pub passed-two : AllThatOverlapPass (passes_at test items) (map box_of items) → (i j : ℕ) (f g : Placed)
+      → slice_get items i ≡ Some f → slice_get items j ≡ Some g → i ≢ j → Overlap (box_of f) (box_of g)
+      → (test f g ≡ true) ⊎ (test g f ≡ true)
+  passed-two all i j f g at_f at_g apart overlap = passed-pair i j f g at_f at_g (λ d in_i in_j met. all i j d in_i in_j apart met) overlap
 
   -- two that fail
   pub record HasFailing : Type 0 where

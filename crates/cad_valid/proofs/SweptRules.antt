@@ -124,17 +124,17 @@ chosen : (f g : Placed) (b c : Bool) → is_point f ≡ b → is_point g ≡ c
     → have_no_crossing f g ≡ (if b then (if c then true else is_only_end f g) else (if c then is_only_end g f else meets_at_ends f g))
 chosen f g b c is_b is_c = λ k. if is_b k then (if is_c k then true else is_only_end f g) else (if is_c k then is_only_end g f else meets_at_ends f g)
 
-point_is : (p : PointRow) → is_point (placed_point p) ≡ true
+pub point_is : (p : PointRow) → is_point (placed_point p) ≡ true
 point_is p = eq-eqb p.number p.number refl
 
 module _ (m : Map) (rows : HasPlacedRows m) where
   string_is : (i : ℕ) (s : StringRow) → slice_get m.strings i ≡ Some s → is_point (placed_string m s) ≡ false
   string_is i s at = false_from_ne_true (eqb s.from s.to) (λ same. (placed-at m rows i s at).two (eqb-true s.from s.to same))
 
-  string_on : (s : StringRow) → IsOnMap (placed_string m s)
+  pub string_on : (s : StringRow) → IsOnMap (placed_string m s)
   string_on s = record { a = position-on_map m rows.v1 s.from; b = position-on_map m rows.v1 s.to }
 
-  point_on : (k : ℕ) (p : PointRow) → slice_get m.points k ≡ Some p → IsOnMap (placed_point p)
+  pub point_on : (k : ℕ) (p : PointRow) → slice_get m.points k ≡ Some p → IsOnMap (placed_point p)
   point_on k p at = let on = All-at_place (λ r. OnTheMap r.position) m.points k p rows.v1.positions at in record { a = on; b = on }
 
   pub string_at : (i : ℕ) (s : StringRow) → slice_get m.strings i ≡ Some s → slice_get (placed_rows m) i ≡ Some (placed_string m s)
@@ -150,16 +150,16 @@ module _ (m : Map) (rows : HasPlacedRows m) where
         chosen (placed_string m s) (placed_string m t) false false (string_is i s at_s) (string_is j t at_t)
         ∙ (meets_at_ends-is m rows s t (placed-at m rows i s at_s) (placed-at m rows j t at_t)).1 meet
 
-    strings_passed : have_no_crossing (placed_string m s) (placed_string m t) ≡ true → MeetAtEnds m s t
+    pub strings_passed : have_no_crossing (placed_string m s) (placed_string m t) ≡ true → MeetAtEnds m s t
     strings_passed passes =
         (meets_at_ends-is m rows s t (placed-at m rows i s at_s) (placed-at m rows j t at_t)).0
         (sym (chosen (placed_string m s) (placed_string m t) false false (string_is i s at_s) (string_is j t at_t)) ∙ passes)
 
   module _ (i : ℕ) (s : StringRow) (at_s : slice_get m.strings i ≡ Some s) (p : PointRow) where
-    point_string : have_no_crossing (placed_point p) (placed_string m s) ≡ is_only_end (placed_point p) (placed_string m s)
+    pub point_string : have_no_crossing (placed_point p) (placed_string m s) ≡ is_only_end (placed_point p) (placed_string m s)
     point_string = chosen (placed_point p) (placed_string m s) true false (point_is p) (string_is i s at_s)
 
-    string_point : have_no_crossing (placed_string m s) (placed_point p) ≡ is_only_end (placed_point p) (placed_string m s)
+    pub string_point : have_no_crossing (placed_string m s) (placed_point p) ≡ is_only_end (placed_point p) (placed_string m s)
     string_point = chosen (placed_string m s) (placed_point p) false true (string_is i s at_s) (point_is p)
 
   pub uncrossed-passed : AllThatOverlapPass (passes_at have_no_crossing (placed_rows m)) (map box_of (placed_rows m)) → HasNoCrossing m

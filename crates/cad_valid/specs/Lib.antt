@@ -12,3 +12,4 @@ pub mod Rings
 pub mod Placed
 pub mod Swept
 pub mod Hubs
+pub mod Many

@@ -1,5 +1,5 @@
 //! Strings of one point that are known to meet there alone.
-ghost use Rattle.std.specs.Prelude.{◌≡◌, ◌<◌, ◌^◌, ℕ, length, IfOk, OnOk};
+ghost use Rattle.std.specs.Prelude.{◌≡◌, ◌<◌, ◌^◌, ℕ, length, slice_index_or, IfOk, OnOk};
 ghost use Rattle.cad_map.specs.Map.{Map};
 ghost use Rattle.cad_map.specs.Stars.{star, spokes_of};
 ghost use Rattle.cad_valid.specs.Hubs.{alone as alone_at, AreGroupsOf, AreRegrouped};
@@ -9,7 +9,7 @@ use cad_rows::{Memory, PointNo};
 use std::alloc::Global;
 
 /// A point of so many strings may be a hub.
-const HUB: usize = 200;
+pub(crate) const HUB: usize = 200;
 
 // Points whose numbers leave the same remainder by this are counted together.
 const REMAINDERS: usize = 65_536;
@@ -48,10 +48,12 @@ fn alone(place: usize) -> u64
     (1 << 32) + place as u64
 }
 
-// So many rows, each of a group of its own.
-fn each_alone(alloc: Global, count: usize) -> Result<Vec<u64>, Memory>
+/// So many rows, each of a group of its own.
+pub(crate) fn each_alone(alloc: Global, count: usize) -> Result<Vec<u64>, Memory>
     requires { count < 2 ^ 63 }
     ensures count { IfOk result (λ groups. length groups.items ≡ count) }
+    ensures alone { IfOk result (λ groups.
+        (i : ℕ) → i < count → slice_index_or groups.items i 0 ≡ alone_at i) }
     ensures groups { IfOk result (λ groups. (m : Map) → AreGroupsOf m groups.items) }
 {
     let mut groups = Vec::with_capacity(alloc, count)?;

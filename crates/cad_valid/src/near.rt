@@ -13,6 +13,7 @@ ghost use Rattle.cad_valid.specs.Seen.{IsSeen};
 
 mod corners;
 mod faces;
+mod many;
 mod points;
 mod rays;
 mod seen;
@@ -22,6 +23,7 @@ mod turns;
 
 use crate::near::corners::{are_empty_at, are_empty_at_ends};
 use crate::near::faces::{FaceRules, rules_of_faces};
+use crate::near::many::are_many_uncrossed;
 use crate::near::points::are_alone;
 use crate::near::seen::{Seen, seen_of};
 use crate::near::sight::{sees_points_apart, sees_points_clear, sees_strings_clear};
@@ -51,7 +53,9 @@ pub struct Touched {
 /// 32 bytes a side, with a box for each hole and at most three spans a box. Where there is no memory
 /// it does without and answers the same, by walks round each two of the rings. At a touched point of
 /// more than eight strings these are laid out too and sorted by their directions, 32 bytes a string;
-/// without memory each corner there is compared with each of them. All else takes none.
+/// without memory each corner there is compared with each of them. Where 64 strings or more were
+/// touched, what the grid holds near them is laid out and compared by a sort of its boxes, some 200
+/// bytes for each string and point; without memory each is looked at by itself. All else takes none.
 ///
 /// The grid holds the map's strings and points at their positions. It may hold others as well: a
 /// candidate is tested where the map has it, and one that the map doesn't have is passed over.
@@ -72,7 +76,7 @@ pub fn first_broken_near<M: MapView>(
     if !has_distinct_positions(map, grid, touched, seen.as_ref()) {
         return Some(Rule::V3);
     }
-    if !has_no_crossing(map, grid, touched, seen.as_ref()) {
+    if !has_no_crossing(alloc, map, grid, touched, seen.as_ref()) {
         return Some(Rule::V4);
     }
     if !has_empty_corners(alloc, map, touched) {
@@ -121,8 +125,10 @@ fn are_seen_apart<M: MapView>(map: &M, grid: &CellGrid, seen: Option<&Seen>) -> 
 }
 
 /// Whether strings and points meet only at ends. Those that weren't touched did before. `seen`:
-/// what was touched, where that is little.
+/// what was touched, where that is little. Where it is very much, all that lies near is compared by
+/// one sort first, if there is memory for that.
 fn has_no_crossing<M: MapView>(
+    alloc: Global,
     map: &M,
     grid: &CellGrid,
     touched: &Touched,
@@ -135,6 +141,7 @@ fn has_no_crossing<M: MapView>(
     ensures { IsTrue result ↔ Keeps (M.map map.now) V4 }
 {
     are_seen_uncrossed(map, grid, seen)
+        || are_many_uncrossed(alloc, map, grid, touched)
         || (are_uncrossed(map, grid, touched.strings.as_slice())
             && lie_at_ends(map, grid, touched.points.as_slice()))
 }

@@ -97,10 +97,10 @@ fn lie_apart(a: &Placed, b: &Placed) -> bool
     !is_same(a.a, b.a)
 }
 
-// The test of V4. Two points pass it: V3 is told before.
+/// The test of V4. Two points pass it: V3 is told before.
 #[derive(Drop)]
-struct Uncrossed<'a> {
-    items: &'a [Placed],
+pub(crate) struct Uncrossed<'a> {
+    pub(crate) items: &'a [Placed],
 }
 
 impl PairTest for Uncrossed<'_> {
@@ -126,7 +126,8 @@ fn have_no_crossing(a: &Placed, b: &Placed) -> bool
     }
 }
 
-fn is_point(item: &Placed) -> bool
+/// Whether it is a point, and no string.
+pub(crate) fn is_point(item: &Placed) -> bool
     ensures { result ≡ is_point_of item.now }
 {
     item.from == item.to

@@ -135,7 +135,7 @@ fn greater(a: i64, b: i64) -> i64
 }
 
 /// The box of this one and a position.
-fn grown(reach: Reach, p: Pt) -> Reach
+pub(crate) fn grown(reach: Reach, p: Pt) -> Reach
     ensures within { IsInReach result p }
     ensures kept { (q : Position) → IsInReach reach q → IsInReach result q }
 {
