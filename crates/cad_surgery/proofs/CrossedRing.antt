@@ -19,7 +19,7 @@ use Rattle.half_paths.specs.Path.{AreIn}
 use Rattle.cad_laws.specs.Faces.{left_of_chain}
 use Rattle.cad_laws.specs.Local.{IsShown, side_by}
 use Rattle.cad_laws.specs.Tried.{IsTried}
-use Rattle.cad_surgery.specs.declared.edits.try_divide.Division.{Division}
+use Rattle.cad_surgery.specs.declared.edits.given.NewParcel.{NewParcel}
 use Rattle.cad_surgery.specs.Divisions.{divided_by}
 use Rattle.map_parts.specs.Parts.{Parts, FitTogether, map_of}
 use Rattle.map_parts.proofs.CycleRings.{cycle-each, cycle-two}
@@ -29,8 +29,8 @@ use Rattle.map_parts.proofs.ToHalves.{fits}
 use Rattle.map_parts.proofs.WholeStrings.{strings-once}
 
 -- what a division that is tried has
-pub can-be : (m : Map) (d : Division) → IsTried m (divided_by d) → IsAllowed m d.face d.chain.now d.strings.now d.parcel d.label.now d.source
-can-be m d tried = can-divide m d.face d.chain.now d.strings.now d.parcel d.label.now d.source tried.given (allowed m (divided_by d) tried.allowed)
+pub can-be : (m : Map) (d : NewParcel) → IsTried m (divided_by d) → IsAllowed m d.face d.points.now d.strings.now d.parcel d.label.now d.source
+can-be m d tried = can-divide m d.face d.points.now d.strings.now d.parcel d.label.now d.source tried.given (allowed m (divided_by d) tried.allowed)
 
 -- ---- Sides at their places
 

@@ -24,7 +24,7 @@ use Rattle.cad_laws.specs.Faces.{left_of_chain, uncut}
 use Rattle.cad_laws.specs.Tried.{IsTried}
 use Rattle.cad_laws.proofs.CallerLemmas.{before-one, divided-faces, some-corner, whole-after}
 use Rattle.cad_surgery.specs.declared.draft.Draft.TheInside.{Inside}
-use Rattle.cad_surgery.specs.declared.edits.try_divide.Division.{Division}
+use Rattle.cad_surgery.specs.declared.edits.given.NewParcel.{NewParcel}
 use Rattle.cad_surgery.specs.declared.edits.try_divide.Cut.{Cut}
 use Rattle.edit_records.specs.declared.record.SmallRecord.{SmallRecord}
 use Rattle.map_parts.specs.Chains.{IsChainOf}
@@ -56,8 +56,8 @@ side-both row h sides there = by h.forward refl
         (Contains-flat_map (λ (s : Side). s ∷ opposite s ∷ []) sides (side_of row) (opposite (side_of row)) there
         (Contains-later (side_of row) (opposite (side_of row) ∷ []) (opposite (side_of row)) (Contains-first (opposite (side_of row)) [])))
 
-module _ (m : Map) (d : Division) (tried : IsTried m (divided_by d)) (rows : HalfRows) (ends : AllByRecursion (HasHalves rows) m.strings)
-    (start end : Half) (moved : List Half) (it : HeldChain (after m (divided_by d)) (Parcel d.parcel) d.chain.now start end moved) where
+module _ (m : Map) (d : NewParcel) (tried : IsTried m (divided_by d)) (rows : HalfRows) (ends : AllByRecursion (HasHalves rows) m.strings)
+    (start end : Half) (moved : List Half) (it : HeldChain (after m (divided_by d)) (Parcel d.parcel) d.points.now start end moved) where
   abbrev now : Map
   now = after m (divided_by d)
 
@@ -65,7 +65,7 @@ module _ (m : Map) (d : Division) (tried : IsTried m (divided_by d)) (rows : Hal
   path = map forward_of d.strings.now
 
   abbrev chain_sides : List Side
-  chain_sides = sides_of_chain d.chain.now
+  chain_sides = sides_of_chain d.points.now
 
   whole_old : HasWholeRings m
   whole_old = whole_valid m tried.valid
@@ -73,12 +73,12 @@ module _ (m : Map) (d : Division) (tried : IsTried m (divided_by d)) (rows : Hal
   whole_now : HasWholeRings now
   whole_now = whole-after m (divided_by d) tried.valid tried.given tried.allowed tt
 
-  can : IsAllowed m d.face d.chain.now d.strings.now d.parcel d.label.now d.source
-  can = can-divide m d.face d.chain.now d.strings.now d.parcel d.label.now d.source tried.given (allowed m (divided_by d) tried.allowed)
+  can : IsAllowed m d.face d.points.now d.strings.now d.parcel d.label.now d.source
+  can = can-divide m d.face d.points.now d.strings.now d.parcel d.label.now d.source tried.given (allowed m (divided_by d) tried.allowed)
 
   abbrev is_it : IsDividing m d.face d.strings.now (strings_across d) d.parcel path
   is_it = record {
-    chain = d.chain.now;
+    chain = d.points.now;
     label = d.label.now;
     source = d.source;
     first = can.first;
@@ -86,7 +86,7 @@ module _ (m : Map) (d : Division) (tried : IsTried m (divided_by d)) (rows : Hal
     tried = tried;
     chosen = record { first_is = can.at_first; last_is = can.at_last };
     divided =
-        divided-faces m d.face d.chain.now d.strings.now d.parcel d.label.now d.source can.first can.last
+        divided-faces m d.face d.points.now d.strings.now d.parcel d.label.now d.source can.first can.last
         tried.valid tried.given tried.allowed can.at_first can.at_last;
     added_are = refl;
     path_is = refl;
@@ -98,7 +98,7 @@ module _ (m : Map) (d : Division) (tried : IsTried m (divided_by d)) (rows : Hal
   abbrev right : Boundary
   right = divides.right_ring m d.face d.strings.now (strings_across d) d.parcel path is_it
 
-  law : IsChainOf m now d.face (Parcel d.parcel) d.chain.now can.first can.last is_it.divided.cut left right (rings_beside is_it)
+  law : IsChainOf m now d.face (Parcel d.parcel) d.points.now can.first can.last is_it.divided.cut left right (rings_beside is_it)
   law = divides.chain-of m d.face d.strings.now (strings_across d) d.parcel path is_it
 
   strings-are : now.strings ≡ m.strings ++ strings_across d
@@ -150,14 +150,14 @@ module _ (m : Map) (d : Division) (tried : IsTried m (divided_by d)) (rows : Hal
 
   start_on : IsAlong m rows (leaving can.first) start
   start_on =
-      let same = before-one now whole_now (corner (next_of d.chain.now) (start_of d.chain.now) it.start_is.to) (corner (next_of d.chain.now) (start_of d.chain.now) can.first.after)
+      let same = before-one now whole_now (corner (next_of d.points.now) (start_of d.points.now) it.start_is.to) (corner (next_of d.points.now) (start_of d.points.now) can.first.after)
       it.start_is.there law.corners.from_start refl in
       of-map start (leaving can.first) (subst (LeadsAlong now start) (λ i. (sym law.corners.first_at i, (same i).after)) it.start_is.along)
       (λ on. law.corners.free can.first law.corners.first_there (inr on))
 
   end_on : IsAlong m rows (leaving can.last) end
   end_on =
-      let same = before-one now whole_now (corner (last_but_one d.chain.now) (end_of d.chain.now) it.end_is.to) (corner (last_but_one d.chain.now) (end_of d.chain.now) can.last.after)
+      let same = before-one now whole_now (corner (last_but_one d.points.now) (end_of d.points.now) it.end_is.to) (corner (last_but_one d.points.now) (end_of d.points.now) can.last.after)
       it.end_is.there law.corners.from_end refl in
       of-map end (leaving can.last) (subst (LeadsAlong now end) (λ i. (sym law.corners.last_at i, (same i).after)) it.end_is.along)
       (λ on. law.corners.free can.last law.corners.last_there (inr on))
@@ -165,7 +165,7 @@ module _ (m : Map) (d : Division) (tried : IsTried m (divided_by d)) (rows : Hal
   -- the halves of a ring that passes over are of the map
   moved-along : (b : Boundary) → Contains (rings_beside is_it) b → (h : Half) → (of : IsOfRing now b h) → IsAlong m rows of.side h
   moved-along b among h of =
-      let new = left_of_chain d.chain.now can.first can.last is_it.divided.cut.ring in
+      let new = left_of_chain d.points.now can.first can.last is_it.divided.cut.ring in
       let from = map-Contains (hole_placed m d.face (Parcel d.parcel) new) (uncut m can.first) b among in
       let old = filter-Contains (λ (c : Boundary). not (has_side (leaving can.first) (sides_of c.ring))) m.boundaries from.0 from.1 in
       let ring = sym (ring-hole_placed m d.face (Parcel d.parcel) new from.0) ∙ ap (λ (c : Boundary). c.ring) from.2 in
@@ -180,10 +180,10 @@ module _ (m : Map) (d : Division) (tried : IsTried m (divided_by d)) (rows : Hal
   }
 
   abbrev s : Side
-  s = (start_of d.chain.now, next_of d.chain.now)
+  s = (start_of d.points.now, next_of d.points.now)
 
   on_left : Contains (sides_of left.ring) s
-  on_left = law.along s (first_side d.chain.now can.long)
+  on_left = law.along s (first_side d.points.now can.long)
 
   -- what the record tells is at hand
   pub crossing : HasCrossing m rows d start end moved
@@ -206,23 +206,23 @@ module _ (m : Map) (d : Division) (tried : IsTried m (divided_by d)) (rows : Hal
 
 -- ---- By its record, on a draft
 
-module _ {T : Type 0} (inside : Inside T) {v : Parts} (view : parts-in inside ≡ v) (fit : FitTogether (parts-in inside)) (r : SmallRecord) (d : Division) (cut : Cut)
+module _ {T : Type 0} (inside : Inside T) {v : Parts} (view : parts-in inside ≡ v) (fit : FitTogether (parts-in inside)) (r : SmallRecord) (d : NewParcel) (cut : Cut)
     (given : GivesInRange (edit_of r)) (same : edit_of r ≡ divided_by d)
-    (told : (b : Map) → Holds r b → HeldChain (after b (edit_of r)) (Parcel d.parcel) d.chain.now cut.start cut.end cut.moved.now)
+    (told : (b : Map) → Holds r b → HeldChain (after b (edit_of r)) (Parcel d.parcel) d.points.now cut.start cut.end cut.moved.now)
     {after_it : Map} (it : Belongs r (map_of v) after_it) where
   pub again-tried : IsTried (map_of v) (divided_by d)
   again-tried = (by-record r {d = d} cut given same told (map_of v) after_it it).tried
 
-  pub again-many : length d.strings.now + 1 ≡ length d.chain.now
+  pub again-many : length d.strings.now + 1 ≡ length d.points.now
   again-many =
-      (can-divide (map_of v) d.face d.chain.now d.strings.now d.parcel d.label.now d.source again-tried.given (allowed (map_of v) (divided_by d) again-tried.allowed)).as_many
+      (can-divide (map_of v) d.face d.points.now d.strings.now d.parcel d.label.now d.source again-tried.given (allowed (map_of v) (divided_by d) again-tried.allowed)).as_many
 
   pub again-crossing : HasCrossing (map_of v) v.table.rows d cut.start cut.end cut.moved.now
   again-crossing =
       subst (λ (q : Parts). HasCrossing (map_of v) q.table.rows d cut.start cut.end cut.moved.now) view
       (crossing (map_of v) d again-tried inside.table.rows
       (draft-fits inside.rows inside.table inside.kept inside.stars inside.grid v view fit (whole_valid (map_of v) it.valid)).fits.ends cut.start cut.end cut.moved.now
-      (subst (λ (e : Edit). HeldChain (after (map_of v) e) (Parcel d.parcel) d.chain.now cut.start cut.end cut.moved.now) same (told (map_of v) it.holds)))
+      (subst (λ (e : Edit). HeldChain (after (map_of v) e) (Parcel d.parcel) d.points.now cut.start cut.end cut.moved.now) same (told (map_of v) it.holds)))
 
 -- the same division by the same lists
 pub same-lists : (face : Face) (parcel : ℕ) (label : List ℕ) (source : ℕ) (chain points strings along : List ℕ) → chain ≡ points → strings ≡ along

@@ -29,7 +29,7 @@ use Rattle.cad_laws.specs.Local.{IsShown}
 use Rattle.cad_laws.proofs.CallerLemmas.{divided-faces, whole-after}
 use Rattle.cad_laws.specs.Tried.{IsTried}
 use Rattle.cad_surgery.specs.declared.draft.Draft.TheInside.{Inside}
-use Rattle.cad_surgery.specs.declared.edits.try_divide.Division.{Division}
+use Rattle.cad_surgery.specs.declared.edits.given.NewParcel.{NewParcel}
 use Rattle.cad_surgery.specs.declared.edits.try_divide.Cut.{Cut}
 use Rattle.map_parts.specs.declared.map_rows.MapRows.{MapRows}
 use Rattle.edit_records.specs.declared.record.SmallRecord.{SmallRecord}
@@ -63,15 +63,15 @@ first_side (a ∷ []) long = absurd (omega (arith, long))
 first_side (a ∷ b ∷ points) long = Contains-first (a, b) (sides_of_chain (b ∷ points))
 
 -- a path along the strings of a division has a first half
-pub path-some : (d : Division) {m : Map} → IsTried m (divided_by d) → {path : List Half} → path ≡ map forward_of d.strings.now → 0 < length path
+pub path-some : (d : NewParcel) {m : Map} → IsTried m (divided_by d) → {path : List Half} → path ≡ map forward_of d.strings.now → 0 < length path
 path-some d {m} tried path_is =
-    let can = can-divide m d.face d.chain.now d.strings.now d.parcel d.label.now d.source tried.given (allowed m (divided_by d) tried.allowed) in
+    let can = can-divide m d.face d.points.now d.strings.now d.parcel d.label.now d.source tried.given (allowed m (divided_by d) tried.allowed) in
     let long = can.long in
     let as_many = can.as_many in
     let same = ap length path_is ∙ length-map d.strings.now forward_of in
     omega (arith, long, as_many, same)
 
-module _ {T : Type 0} (inside : Inside T) {v : Parts} (view : parts-in inside ≡ v) (fit : FitTogether (parts-in inside)) {d : Division} {moved : List Half}
+module _ {T : Type 0} (inside : Inside T) {v : Parts} (view : parts-in inside ≡ v) (fit : FitTogether (parts-in inside)) {d : NewParcel} {moved : List Half}
     {m : Map} (it : IsDividedBy m (map_of v) d moved) (rest : IsProper (map_of v) v.table.rows (kept_at v))
     {whole_path : List Half} (path_is : whole_path ≡ map forward_of d.strings.now) {first : Half} {others : List Half} (parted : whole_path ≡ first ∷ others) where
   abbrev rows : MapRows
@@ -109,12 +109,12 @@ module _ {T : Type 0} (inside : Inside T) {v : Parts} (view : parts-in inside �
   all : (g : Half) → has table.rows g ≡ has_string now g.string
   all g = draft-all rows table held stars grid v view rest g ∙ ap (λ (q : Map). has_string q g.string) it.is
 
-  pub can : IsAllowed m d.face d.chain.now d.strings.now d.parcel d.label.now d.source
-  can = can-divide m d.face d.chain.now d.strings.now d.parcel d.label.now d.source it.tried.given (allowed m (divided_by d) it.tried.allowed)
+  pub can : IsAllowed m d.face d.points.now d.strings.now d.parcel d.label.now d.source
+  can = can-divide m d.face d.points.now d.strings.now d.parcel d.label.now d.source it.tried.given (allowed m (divided_by d) it.tried.allowed)
 
   abbrev pub is_it : IsDividing m d.face d.strings.now (strings_across d) d.parcel path
   is_it = record {
-    chain = d.chain.now;
+    chain = d.points.now;
     label = d.label.now;
     source = d.source;
     first = can.first;
@@ -122,7 +122,7 @@ module _ {T : Type 0} (inside : Inside T) {v : Parts} (view : parts-in inside �
     tried = it.tried;
     chosen = record { first_is = can.at_first; last_is = can.at_last };
     divided =
-        divided-faces m d.face d.chain.now d.strings.now d.parcel d.label.now d.source can.first can.last
+        divided-faces m d.face d.points.now d.strings.now d.parcel d.label.now d.source can.first can.last
         it.tried.valid it.tried.given it.tried.allowed can.at_first can.at_last;
     added_are = refl;
     path_is = sym parted ∙ path_is;
@@ -134,24 +134,24 @@ module _ {T : Type 0} (inside : Inside T) {v : Parts} (view : parts-in inside �
   abbrev right : Boundary
   right = divides.right_ring m d.face d.strings.now (strings_across d) d.parcel path is_it
 
-  law : IsChainOf m now d.face (Parcel d.parcel) d.chain.now can.first can.last is_it.divided.cut left right (rings_beside is_it)
+  law : IsChainOf m now d.face (Parcel d.parcel) d.points.now can.first can.last is_it.divided.cut left right (rings_beside is_it)
   law = divides.chain-of m d.face d.strings.now (strings_across d) d.parcel path is_it
 
-  on_left : Contains (sides_of left.ring) (start_of d.chain.now, next_of d.chain.now)
-  on_left = law.along (start_of d.chain.now, next_of d.chain.now) (first_side d.chain.now can.long)
+  on_left : Contains (sides_of left.ring) (start_of d.points.now, next_of d.points.now)
+  on_left = law.along (start_of d.points.now, next_of d.points.now) (first_side d.points.now can.long)
 
-  named : NamesRings now moved (rings_but now (Parcel d.parcel) (start_of d.chain.now, next_of d.chain.now))
-  named = subst (λ (q : Map). NamesRings q moved (rings_but q (Parcel d.parcel) (start_of d.chain.now, next_of d.chain.now))) it.is it.named
+  named : NamesRings now moved (rings_but now (Parcel d.parcel) (start_of d.points.now, next_of d.points.now))
+  named = subst (λ (q : Map). NamesRings q moved (rings_but q (Parcel d.parcel) (start_of d.points.now, next_of d.points.now))) it.is it.named
 
   pub moved_are : AreOfRings now table.rows moved (Parcel d.parcel) (rings_beside is_it)
   moved_are =
       named-rings now whole_now (Parcel d.parcel) left right (rings_beside is_it) law.were law.left_face (λ e. law.differ (sym law.right_face ∙ e))
-      (start_of d.chain.now, next_of d.chain.now) on_left table.rows (λ b among h. named-on now table.rows fits.fits.ends b h) moved named
+      (start_of d.points.now, next_of d.points.now) on_left table.rows (λ b among h. named-on now table.rows fits.fits.ends b h) moved named
 
   moved_once : IsPermutation (map (home_of now table.rows) moved) (filter (λ b. is_face (Parcel d.parcel) b.face) (rings_beside is_it))
   moved_once =
       named-once now whole_now (Parcel d.parcel) left right (rings_beside is_it) law.were law.left_face (λ e. law.differ (sym law.right_face ∙ e))
-      (start_of d.chain.now, next_of d.chain.now) on_left table.rows (λ b among h. named-on now table.rows fits.fits.ends b h) moved named
+      (start_of d.points.now, next_of d.points.now) on_left table.rows (λ b among h. named-on now table.rows fits.fits.ends b h) moved named
 
   abbrev pub begins : CanBeginUndivide d.face d.strings.now d.parcel path moved rows table.rows held stars
   begins = record { map = m; added = strings_across d; is = is_it; fits = fits; moved_are = moved_are }
@@ -163,7 +163,7 @@ module _ {T : Type 0} (inside : Inside T) {v : Parts} (view : parts-in inside �
   all-rings =
       face-lengths now whole_now table.rows fits.fits.local (Parcel d.parcel) left right (rings_beside is_it) law.were law.left_face
       (λ e. law.differ (sym law.right_face ∙ e)) first
-      (first-on m now d.face (Parcel d.parcel) d.chain.now can.first can.last is_it.divided.cut left right (rings_beside is_it) law whole_now
+      (first-on m now d.face (Parcel d.parcel) d.points.now can.first can.last is_it.divided.cut left right (rings_beside is_it) law whole_now
       (divides.chain-long m d.face d.strings.now (strings_across d) d.parcel path is_it) first others
       (divides.more m d.face d.strings.now (strings_across d) d.parcel path is_it) table.rows
       (divides.along m d.face d.strings.now (strings_across d) d.parcel path is_it table.rows ends))
@@ -214,8 +214,8 @@ module _ {T : Type 0} (inside : Inside T) {v : Parts} (view : parts-in inside �
 -- ---- By its record
 
 -- the record leads from the map to the one after the division that it tells
-pub by-record : (r : SmallRecord) {d : Division} (cut : Cut) → GivesInRange (edit_of r) → edit_of r ≡ divided_by d
-    → ((b : Map) → Holds r b → HeldChain (after b (edit_of r)) (Parcel d.parcel) d.chain.now cut.start cut.end cut.moved.now)
+pub by-record : (r : SmallRecord) {d : NewParcel} (cut : Cut) → GivesInRange (edit_of r) → edit_of r ≡ divided_by d
+    → ((b : Map) → Holds r b → HeldChain (after b (edit_of r)) (Parcel d.parcel) d.points.now cut.start cut.end cut.moved.now)
     → (m n : Map) → Belongs r m n → IsDividedBy m n d cut.moved.now
 by-record r {d} cut given same told m n it =
     record {
@@ -226,7 +226,7 @@ by-record r {d} cut given same told m n it =
       };
       is = it.leads.is ∙ ap (after m) same;
       named =
-          subst (λ (n : Map). NamesRings n cut.moved.now (rings_but n (Parcel d.parcel) (start_of d.chain.now, next_of d.chain.now)))
+          subst (λ (n : Map). NamesRings n cut.moved.now (rings_but n (Parcel d.parcel) (start_of d.points.now, next_of d.points.now)))
           (sym it.leads.is) (told m it.holds).moved_are;
     }
 

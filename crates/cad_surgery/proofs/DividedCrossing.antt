@@ -22,7 +22,7 @@ use Rattle.cad_laws.specs.Faces.{IsDividedIn, left_of_chain, uncut}
 use Rattle.cad_laws.specs.Local.{IsShown, side_by}
 use Rattle.cad_laws.specs.Tried.{IsTried, AreChosen}
 use Rattle.cad_laws.proofs.CallerLemmas.{divided-faces, whole-after}
-use Rattle.cad_surgery.specs.declared.edits.try_divide.Division.{Division}
+use Rattle.cad_surgery.specs.declared.edits.given.NewParcel.{NewParcel}
 use Rattle.cad_surgery.specs.Divisions.{divided_by, strings_across, HasCrossing}
 use Rattle.edit_records.specs.HeldChains.{LeadsAlong}
 use Rattle.map_parts.specs.Chains.{IsChainOf}
@@ -64,12 +64,12 @@ module _ (d : Parts) (fit : FitTogether d) (now : Map) (added : List StringRow) 
 -- ---- Where the chain crosses
 
 -- halves of holes are in the table
-pub holes-in : (d : Parts) → FitTogether d → (e : Division) (left : Ring) (holes : List Half) → AreOfHoles (map_of d) d.table.rows e.face left holes → AreIn d.table.rows holes
+pub holes-in : (d : Parts) → FitTogether d → (e : NewParcel) (left : Ring) (holes : List Half) → AreOfHoles (map_of d) d.table.rows e.face left holes → AreIn d.table.rows holes
 holes-in d fit e left holes of =
     All-follows (λ h. IsOnRing (map_of d) d.table.rows (home_of (map_of d) d.table.rows h) h) (λ h. has d.table.rows h ≡ true) (λ h on. in_table d fit h on.shown) holes of.on
 
-module _ (d : Parts) (fit : FitTogether d) (e : Division) (tried : IsTried (map_of d) (divided_by e)) (first last : Corner)
-    (chosen : AreChosen (map_of d) e.face e.chain.now first last) where
+module _ (d : Parts) (fit : FitTogether d) (e : NewParcel) (tried : IsTried (map_of d) (divided_by e)) (first last : Corner)
+    (chosen : AreChosen (map_of d) e.face e.points.now first last) where
   abbrev m : Map
   m = map_of d
 
@@ -88,13 +88,13 @@ module _ (d : Parts) (fit : FitTogether d) (e : Division) (tried : IsTried (map_
   whole_now : HasWholeRings now
   whole_now = whole-after m (divided_by e) tried.valid tried.given tried.allowed tt
 
-  abbrev divided : IsDividedIn m now e.face (Parcel e.parcel) e.chain.now first last
+  abbrev divided : IsDividedIn m now e.face (Parcel e.parcel) e.points.now first last
   divided =
-      divided-faces m e.face e.chain.now e.strings.now e.parcel e.label.now e.source first last tried.valid tried.given tried.allowed chosen.first_is chosen.last_is
+      divided-faces m e.face e.points.now e.strings.now e.parcel e.label.now e.source first last tried.valid tried.given tried.allowed chosen.first_is chosen.last_is
 
   abbrev is_it : IsDividing m e.face e.strings.now (strings_across e) e.parcel path
   is_it = record {
-    chain = e.chain.now;
+    chain = e.points.now;
     label = e.label.now;
     source = e.source;
     first = first;
@@ -112,7 +112,7 @@ module _ (d : Parts) (fit : FitTogether d) (e : Division) (tried : IsTried (map_
   abbrev right_now : Boundary
   right_now = divides.right_ring m e.face e.strings.now (strings_across e) e.parcel path is_it
 
-  law : IsChainOf m now e.face (Parcel e.parcel) e.chain.now first last divided.cut left_now right_now (rings_beside is_it)
+  law : IsChainOf m now e.face (Parcel e.parcel) e.points.now first last divided.cut left_now right_now (rings_beside is_it)
   law = divides.chain-of m e.face e.strings.now (strings_across e) e.parcel path is_it
 
   -- the sides that leave the corners are of the ring that is cut
@@ -138,16 +138,16 @@ module _ (d : Parts) (fit : FitTogether d) (e : Division) (tried : IsTried (map_
     pub has-last : has_side (leaving last) (sides_of ring) ≡ true
     has-last = side-on m whole divided.cut divided.there ring ring-same (leaving last) divided.has_last
 
-    module _ (end : Half) (end_on : IsAlong m rows (leaving last) end) (left : Ring) (left_is : left ≡ left_of_chain e.chain.now first last ring)
+    module _ (end : Half) (end_on : IsAlong m rows (leaving last) end) (left : Ring) (left_is : left ≡ left_of_chain e.points.now first last ring)
         (holes : List Half) (of : AreOfHoles m rows e.face left holes)
         (moved : List Half) (moved_is : moved ≡ filter (λ h. not (has_side (side_by rows h) (sides_of ring))) holes) where
       abbrev crossed : Ring
-      crossed = left_of_chain e.chain.now first last divided.cut.ring
+      crossed = left_of_chain e.points.now first last divided.cut.ring
 
       of_left : AreOfHoles m rows e.face crossed holes
       of_left =
           subst (λ (r : Ring). AreOfHoles m rows e.face r holes)
-          (left_is ∙ left-same m whole divided.cut divided.there ring ring-same e.chain.now first last divided.has_first divided.has_last ends-apart) of
+          (left_is ∙ left-same m whole divided.cut divided.there ring ring-same e.points.now first last divided.has_first divided.has_last ends-apart) of
 
       on : (h : Half) → Contains moved h → IsOnRing m rows (home_of m rows h) h
       on = moved-on m whole rows divided.cut divided.there first divided.has_first ring ring-same e.face crossed holes of_left moved moved_is

@@ -18,7 +18,7 @@ use Rattle.half_table.specs.Rows.{HalfRows, has}
 use Rattle.cad_laws.specs.Local.{IsShown, side_by}
 use Rattle.cad_laws.specs.Tried.{IsTried}
 use Rattle.cad_laws.proofs.CallerLemmas.{whole-after}
-use Rattle.cad_surgery.specs.declared.edits.try_divide.Division.{Division}
+use Rattle.cad_surgery.specs.declared.edits.given.NewParcel.{NewParcel}
 use Rattle.cad_surgery.specs.Divisions.{divided_by, strings_across, HasCrossing}
 use Rattle.cad_surgery.specs.Proper.{IsProper}
 use Rattle.edit_records.specs.HeldChains.{LeadsAlong, IsOfRing, HeldChain}
@@ -33,7 +33,7 @@ use Rattle.cad_surgery.proofs.DividedBack.{first_side}
 use Rattle.cad_surgery.proofs.DividedCrossing.{leads-now}
 use Rattle.cad_surgery.proofs.NamedRings.{rings-named}
 
-module _ (d : Parts) (fit : FitTogether d) (rest : IsProper (map_of d) d.table.rows (kept_at d)) (e : Division) (tried : IsTried (map_of d) (divided_by e))
+module _ (d : Parts) (fit : FitTogether d) (rest : IsProper (map_of d) d.table.rows (kept_at d)) (e : NewParcel) (tried : IsTried (map_of d) (divided_by e))
     (start end : Half) (moved : List Half) (seen : HasCrossing (map_of d) d.table.rows e start end moved) where
   abbrev m : Map
   m = map_of d
@@ -48,14 +48,14 @@ module _ (d : Parts) (fit : FitTogether d) (rest : IsProper (map_of d) d.table.r
   path = map forward_of e.strings.now
 
   abbrev s : Side
-  s = (start_of e.chain.now, next_of e.chain.now)
+  s = (start_of e.points.now, next_of e.points.now)
 
   whole_now : HasWholeRings now
   whole_now = whole-after m (divided_by e) tried.valid tried.given tried.allowed tt
 
   abbrev is_it : IsDividing m e.face e.strings.now (strings_across e) e.parcel path
   is_it = record {
-    chain = e.chain.now;
+    chain = e.points.now;
     label = e.label.now;
     source = e.source;
     first = seen.first;
@@ -73,7 +73,7 @@ module _ (d : Parts) (fit : FitTogether d) (rest : IsProper (map_of d) d.table.r
   abbrev right : Boundary
   right = divides.right_ring m e.face e.strings.now (strings_across e) e.parcel path is_it
 
-  law : IsChainOf m now e.face (Parcel e.parcel) e.chain.now seen.first seen.last seen.divided.cut left right (rings_beside is_it)
+  law : IsChainOf m now e.face (Parcel e.parcel) e.points.now seen.first seen.last seen.divided.cut left right (rings_beside is_it)
   law = divides.chain-of m e.face e.strings.now (strings_across e) e.parcel path is_it
 
   lead : (h : Half) → IsShown m h → LeadsAlong now h (side_by rows h)
@@ -92,7 +92,7 @@ module _ (d : Parts) (fit : FitTogether d) (rest : IsProper (map_of d) d.table.r
       omega (arith, one, two)
 
   -- what the record says is so in the map after the division
-  pub holds : HeldChain now (Parcel e.parcel) e.chain.now start end moved
+  pub holds : HeldChain now (Parcel e.parcel) e.points.now start end moved
   holds = record {
     start_is = record {
       to = seen.first.after;
@@ -106,7 +106,7 @@ module _ (d : Parts) (fit : FitTogether d) (rest : IsProper (map_of d) d.table.r
     };
     moved_are =
         rings-named now whole_now (Parcel e.parcel) left right (rings_beside is_it) law.were law.left_face (λ same. law.differ (sym law.right_face ∙ same)) s
-        (law.along s (first_side e.chain.now (can-be m e tried).long)) moved
+        (law.along s (first_side e.points.now (can-be m e tried).long)) moved
         (All-from_each (λ h. (b : Boundary) × Contains (rings_beside is_it) b × IsOfRing now b h × (b.face ≡ Parcel e.parcel)) moved (λ h among.
         let at = All-at_each (λ h. (b : Boundary) × Contains (rings_beside is_it) b × IsOnRing now rows b h × (b.face ≡ Parcel e.parcel)) moved h seen.moved_are.each among in
         (at.0, at.1, of-ring at.0 h among at.2, at.3)))

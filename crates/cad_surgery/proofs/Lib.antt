@@ -4,6 +4,7 @@ pub mod PartsFaces
 pub mod Built
 pub mod ProperParts
 pub mod FitParts
+pub mod ParcelsTried
 pub mod EnclosedDraft
 pub mod EnclosedWork
 pub mod HeldEnclosures

@@ -4,12 +4,13 @@ use Rattle.std.proofs.Common.{◌≡◌, ◌∙◌, refl, ap, subst, List, Bool,
 use Rattle.std.specs.Prelude.{nat_eq}
 use Rattle.std.proofs.lemmas.Cmp.{nat_eq_equiv}
 use Rattle.cad_map.specs.Map.{Map, has_string}
+use Rattle.cad_map.specs.Rings.{HasWholeRings}
 use Rattle.cad_map.proofs.CallerLemmas.{All-from_each, Contains-map, list_any-Contains}
 use Rattle.cell_grid.specs.Grid.{Grid}
 use Rattle.half_table.specs.declared.half.Half.{Half}
-use Rattle.half_table.specs.Rows.{Table, has}
-use Rattle.half_paths.specs.Path.{AreIn, strings_of}
-use Rattle.half_paths.specs.Loose.{is_of, DropsStrings}
+use Rattle.half_table.specs.Rows.{Table, has, next}
+use Rattle.half_paths.specs.Path.{AreIn, AreDifferent, strings_of}
+use Rattle.half_paths.specs.Loose.{is_of, AreLoose, DropsStrings}
 use Rattle.key_lists.specs.Held.{Held}
 use Rattle.cad_laws.specs.Local.{IsShown}
 use Rattle.map_parts.specs.declared.map_rows.MapRows.{MapRows}
@@ -17,7 +18,15 @@ use Rattle.map_parts.specs.declared.stars.Spoke.{Spoke}
 use Rattle.map_parts.specs.Parts.{Parts, FitTogether, map_of, kept_at}
 use Rattle.cad_surgery.specs.Proper.{IsProper}
 use Rattle.cad_surgery.proofs.DraftFits.{settled}
-use Rattle.cad_surgery.proofs.FitParts.{parts, GoWith, stand-for}
+use Rattle.cad_surgery.proofs.FitParts.{parts, GoWith, stand-for, still-whole}
+
+-- what is asked of loose strings that are to go from the table
+pub record AreHidden (path : List Half) (d : Parts) : Type 0 where
+  pub whole : HasWholeRings (map_of d)
+  pub within : AreIn d.table.rows path
+  pub different : AreDifferent path
+  pub loose : AreLoose (next d.table.rows) path
+  pub hidden : (g : Half) → IsShown (map_of d) g → is_of (strings_of path) g ≡ false
 
 -- what comes and goes again leaves what there was
 pub come-and-gone : (b has : Bool) → (has ≡ true → b ≡ false) → (if b then false else (if b then true else has)) ≡ has
@@ -41,6 +50,9 @@ module _ (path : List Half) {m : Map} {rows : MapRows} {table : Table} {held : H
     -- no half of the map is theirs
     pub hidden-off : (g : Half) → IsShown (map_of (parts rows table held stars grid)) g → is_of (strings_of path) g ≡ false
     hidden-off g shown = new g (subst (λ (q : Map). IsShown q g) (stand-for grid it) shown)
+
+    pub hidden-now : AreDifferent path → AreLoose (next table.rows) path → AreHidden path (parts rows table held stars grid)
+    hidden-now different loose = record { whole = still-whole grid it; within = hidden-in; different = different; loose = loose; hidden = hidden-off }
 
     pub hidden-gone : (p : Parts) → FitTogether p → map_of p ≡ map_of (parts rows table held stars grid) → DropsStrings path table.rows p.table.rows
         → IsProper (map_of p) p.table.rows (kept_at p)

@@ -19,7 +19,7 @@ use Rattle.cad_map.specs.Rings.{HasWholeRings}
 use Rattle.half_table.specs.declared.half.Half.{Half}
 use Rattle.half_table.specs.Count.{greatest, ticked}
 use Rattle.half_table.specs.Rows.{HalfRows, Table, has, next}
-use Rattle.half_paths.specs.Path.{AreDifferent, AreIn, strings_of}
+use Rattle.half_paths.specs.Path.{AreDifferent, strings_of}
 use Rattle.half_paths.specs.Loose.{is_of, numbers_of, AreLoose, DropsStrings}
 use Rattle.key_lists.specs.Held.{Held}
 use Rattle.cad_laws.specs.Counts.{sides_of_face, shared_strings}
@@ -47,9 +47,10 @@ use Rattle.map_parts.proofs.Merging as chains
 use Rattle.map_parts.proofs.MergingIsland as islands
 use Rattle.cad_surgery.proofs.DividedBack.{first_side}
 use Rattle.cad_surgery.proofs.DraftFits.{draft-fits, draft-all}
-use Rattle.cad_surgery.proofs.FitParts.{parts, parts-in, GoWith, at-rest, stand-for, still-whole}
+use Rattle.cad_surgery.proofs.FitParts.{parts, parts-in, GoWith, at-rest, stand-for}
 use Rattle.cad_surgery.proofs.GridSteps.{stood}
-use Rattle.cad_surgery.proofs.LooseBeside.{either, hidden-in, hidden-off, hidden-gone}
+use Rattle.cad_surgery.proofs.LooseBeside as unseen
+use Rattle.cad_surgery.proofs.LooseBeside.{AreHidden, either}
 use Rattle.cad_surgery.proofs.Trials.{is-left, is-left-too, is-made}
 use Rattle.cad_surgery.proofs.WorkTaken.{ticks-just, ticks-then, ticks-work, work-allowed}
 
@@ -148,14 +149,6 @@ module _ {m : Map} {g : Merger} {before : Table} {e : EndedParcel} {rows : MapRo
 
 -- ---- On a draft
 
--- what is asked of loose strings that are to go from the table
-pub record AreHidden (path : List Half) (d : Parts) : Type 0 where
-  pub whole : HasWholeRings (map_of d)
-  pub within : AreIn d.table.rows path
-  pub different : AreDifferent path
-  pub loose : AreLoose (next d.table.rows) path
-  pub hidden : (h : Half) → IsShown (map_of d) h → is_of (strings_of path) h ≡ false
-
 module _ {T : Type 0} (inside : Inside T) {v : Parts} (view : parts-in inside ≡ v) (fit : FitTogether (parts-in inside)) (g : Merger)
     (rest : IsProper (map_of v) v.table.rows (kept_at v)) (seen : HasShared g.way (map_of v) v.table.rows g.kept g.ended g.path.now g.moved.now)
     (strings_are : g.strings.now ≡ strings_of g.path.now) where
@@ -206,20 +199,14 @@ module _ {T : Type 0} (inside : Inside T) {v : Parts} (view : parts-in inside �
       stands = stand-for grid gone-through
 
       pub hidden-now : AreHidden g.path.now (parts new t put wide grid)
-      hidden-now = record {
-        whole = still-whole grid gone-through;
-        within = hidden-in g.path.now gone-through now_it.halves;
-        different = strings-differ old g inside.table here;
-        loose = now_it.loose;
-        hidden = hidden-off g.path.now gone-through now_it.halves (strings-new old g inside.table here) grid;
-      }
+      hidden-now = unseen.hidden-now g.path.now gone-through now_it.halves (strings-new old g inside.table here) grid (strings-differ old g inside.table here) now_it.loose
 
       pub done : {A F : Type 0} {a : A} (p : Parts) → p ≡ record (parts new t put wide grid) { table = p.table } → FitTogether p → map_of p ≡ map_of (parts new t put wide grid)
           → DropsStrings g.path.now t.rows p.table.rows → p.table.work ≡ ticked (length g.path.now) t.work → IsMade {A = A} {E = F} (merged_by g) v p (Ok a)
       done p are whole is drops work =
           let most = merge-work old g inside.table here in
           is-made (ap (λ (d : Parts). d.grid) are ∙ ap (λ (d : Parts). d.grid) view)
-          (hidden-gone g.path.now gone-through now_it.halves (strings-new old g inside.table here) grid p whole is drops)
+          (unseen.hidden-gone g.path.now gone-through now_it.halves (strings-new old g inside.table here) grid p whole is drops)
           (in-view (ticks-work inside.table p.table (ticks_by old g + length g.path.now) (work_bound old made) (begins old on).back.within (omega (arith, most))
           (ticks-then inside.table t p.table (ticks_by old g) (length g.path.now) now_it.ticks (ticks-just t p.table (length g.path.now) work))))
           (is ∙ stands)

@@ -21,7 +21,7 @@ use Rattle.cad_laws.specs.Local.{IsShown}
 use Rattle.cad_laws.specs.Tried.{IsTried}
 use Rattle.cad_laws.proofs.CallerLemmas.{whole-after}
 use Rattle.cad_surgery.specs.declared.draft.Draft.TheInside.{Inside}
-use Rattle.cad_surgery.specs.declared.edits.try_enclose.Enclosure.{Enclosure}
+use Rattle.cad_surgery.specs.declared.edits.given.NewParcel.{NewParcel}
 use Rattle.map_parts.specs.declared.map_rows.MapRows.{MapRows}
 use Rattle.map_parts.specs.declared.stars.Spoke.{Spoke}
 use Rattle.map_parts.specs.Enclosing.{IsEnclosing, CanBeginOpen, enclosed}
@@ -42,11 +42,11 @@ use Rattle.cad_surgery.proofs.HeldEnclosures.{holes-named, named-rings, named-le
 use Rattle.cad_surgery.proofs.WorkTaken.{work-allowed, ticks-just, ticks-then}
 
 -- an enclosure that leads from one map to another was tried
-pub was-tried : {e : Enclosure} {moved : List Half} {old now : Map} → GivesInRange (enclosed_by e) → LeadsBy e moved old now → IsTried old (enclosed_by e)
+pub was-tried : {e : NewParcel} {moved : List Half} {old now : Map} → GivesInRange (enclosed_by e) → LeadsBy e moved old now → IsTried old (enclosed_by e)
 was-tried given leads = record { valid = leads.valid; given = given; allowed = leads.leads.allowed }
 
 -- the halves that are kept of the holes name the rings that pass over
-pub names : (d : Parts) → FitTogether d → (e : Enclosure) → IsTried (map_of d) (enclosed_by e) → (moved : List Half)
+pub names : (d : Parts) → FitTogether d → (e : NewParcel) → IsTried (map_of d) (enclosed_by e) → (moved : List Half)
     → AreOfHoles (map_of d) d.table.rows e.face e.points.now moved
     → HeldIsland (after (map_of d) (enclosed_by e)) (Parcel e.parcel) e.points.now moved
 names d fit e tried moved holes =
@@ -55,7 +55,7 @@ names d fit e tried moved holes =
     d.table.rows fit.ends moved holes
 
 module _ {T : Type 0} (inside : Inside T) {v : Parts} (view : parts-in inside ≡ v) (fit : FitTogether (parts-in inside))
-    {e : Enclosure} {moved : List Half} {old : Map} (given : GivesInRange (enclosed_by e)) (leads_by : LeadsBy e moved old (map_of v))
+    {e : NewParcel} {moved : List Half} {old : Map} (given : GivesInRange (enclosed_by e)) (leads_by : LeadsBy e moved old (map_of v))
     (rest : IsProper (map_of v) v.table.rows (kept_at v))
     {whole_path : List Half} (path_is : whole_path ≡ map forward_of e.strings.now) {first : Half} {others : List Half} (parted : whole_path ≡ first ∷ others) where
   abbrev rows : MapRows

@@ -17,8 +17,8 @@ use Rattle.half_table.specs.Rows.{HalfRows}
 use Rattle.half_paths.specs.Path.{AreIn}
 use Rattle.cad_laws.specs.Faces.{IsDividedIn, left_of_chain, uncut}
 use Rattle.cad_laws.specs.Tried.{IsTried, AreChosen}
-use Rattle.cad_surgery.specs.declared.edits.try_divide.Division.{Division}
-use Rattle.cad_surgery.specs.declared.edits.try_divide.Cut.{Cut}
+use Rattle.cad_surgery.specs.declared.edits.given.NewParcel.{NewParcel}
+use Rattle.cad_surgery.specs.Enclosures.{parcel_by}
 use Rattle.edit_records.specs.declared.record.SmallRecord.{SmallRecord}
 use Rattle.edit_records.specs.declared.record.SmallRecord.TheVariants as change
 use Rattle.map_parts.specs.Handing.{home_of}
@@ -29,49 +29,45 @@ use Rattle.map_parts.specs.Islands.{AreOfRings}
 -- ---- What a division names and gives
 
 -- the edit
-abbrev pub divided_by : Division → Edit
-divided_by d = Divide d.face d.chain.now d.strings.now d.parcel d.label.now d.source
+abbrev pub divided_by : NewParcel → Edit
+divided_by d = Divide d.face d.points.now d.strings.now d.parcel d.label.now d.source
 
 -- the rows of the strings along its chain
-abbrev pub strings_across : Division → List StringRow
-strings_across d = strings_along (d.source ∷ []) d.strings.now d.chain.now
-
--- the row of its parcel
-abbrev pub parcel_across : Division → ParcelRow
-parcel_across d = record { number = d.parcel; label = d.label.now; sources = d.source ∷ [] }
+abbrev pub strings_across : NewParcel → List StringRow
+strings_across d = strings_along (d.source ∷ []) d.strings.now d.points.now
 
 -- In a table that goes with the map, the halves that leave the two corners between which the chain
 -- leads, and one half of each ring that passes over.
-pub record HasCrossing (m : Map) (rows : HalfRows) (d : Division) (start end : Half) (moved : List Half) : Type 0 where
+pub record HasCrossing (m : Map) (rows : HalfRows) (d : NewParcel) (start end : Half) (moved : List Half) : Type 0 where
   pub first : Corner
   pub last : Corner
-  pub chosen : AreChosen m d.face d.chain.now first last
-  pub divided : IsDividedIn m (after m (divided_by d)) d.face (Parcel d.parcel) d.chain.now first last
+  pub chosen : AreChosen m d.face d.points.now first last
+  pub divided : IsDividedIn m (after m (divided_by d)) d.face (Parcel d.parcel) d.points.now first last
   pub start_on : IsAlong m rows (leaving first) start
   pub end_on : IsAlong m rows (leaving last) end
   pub moved_in : AreIn rows moved
   pub moved_are : AreOfRings (after m (divided_by d)) rows moved (Parcel d.parcel)
-      (map (hole_placed m d.face (Parcel d.parcel) (left_of_chain d.chain.now first last divided.cut.ring)) (uncut m first))
+      (map (hole_placed m d.face (Parcel d.parcel) (left_of_chain d.points.now first last divided.cut.ring)) (uncut m first))
   pub once : IsPermutation (map (home_of (after m (divided_by d)) rows) moved)
       (filter (λ b. is_face (Parcel d.parcel) b.face)
-      (map (hole_placed m d.face (Parcel d.parcel) (left_of_chain d.chain.now first last divided.cut.ring)) (uncut m first)))
+      (map (hole_placed m d.face (Parcel d.parcel) (left_of_chain d.points.now first last divided.cut.ring)) (uncut m first)))
 
 -- What comes with a division that is tried on the map: the rows, the halves of its strings, and
 -- where its chain crosses the face.
-pub record ComesAcross (m : Map) (rows : HalfRows) (d : Division) (cut : Cut) (strings : List StringRow) (parcel : ParcelRow) (path : List Half) : Type 0 where
+pub record ComesAcross (m : Map) (rows : HalfRows) (d : NewParcel) (start end : Half) (moved : List Half) (strings : List StringRow) (parcel : ParcelRow) (path : List Half) : Type 0 where
   pub strings_are : strings ≡ strings_across d
-  pub parcel_is : parcel ≡ parcel_across d
+  pub parcel_is : parcel ≡ parcel_by d
   pub path_is : path ≡ map forward_of d.strings.now
-  pub crossing : HasCrossing m rows d cut.start cut.end cut.moved.now
+  pub crossing : HasCrossing m rows d start end moved
 
 -- ---- A division that was made
 
 -- The second map is that after the division, which was tried, and the halves name the rings of its
 -- parcel but the one along the chain.
-pub record IsDividedBy (m now : Map) (d : Division) (moved : List Half) : Type 0 where
+pub record IsDividedBy (m now : Map) (d : NewParcel) (moved : List Half) : Type 0 where
   pub tried : IsTried m (divided_by d)
   pub is : now ≡ after m (divided_by d)
-  pub named : NamesRings now moved (rings_but now (Parcel d.parcel) (start_of d.chain.now, next_of d.chain.now))
+  pub named : NamesRings now moved (rings_but now (Parcel d.parcel) (start_of d.points.now, next_of d.points.now))
 
 -- the record is of a division
 abbrev pub IsOfDivide : SmallRecord → Type 0

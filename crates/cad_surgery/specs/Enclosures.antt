@@ -13,32 +13,32 @@ use Rattle.cad_map.specs.Valid.{IsValid}
 use Rattle.half_table.specs.declared.half.Half.{Half}
 use Rattle.half_table.specs.Half.{forward_of}
 use Rattle.half_table.specs.Rows.{HalfRows}
-use Rattle.cad_surgery.specs.declared.edits.try_enclose.Enclosure.{Enclosure}
+use Rattle.cad_surgery.specs.declared.edits.given.NewParcel.{NewParcel}
 use Rattle.edit_records.specs.HeldChains.{HeldIsland}
 use Rattle.map_parts.specs.Placed.{AreOfHoles}
 
 -- the edit
-abbrev pub enclosed_by : Enclosure → Edit
+abbrev pub enclosed_by : NewParcel → Edit
 enclosed_by e = Enclose e.face e.points.now e.strings.now e.parcel e.label.now e.source
 
 -- the rows of the strings round its points
-abbrev pub strings_by : Enclosure → List StringRow
+abbrev pub strings_by : NewParcel → List StringRow
 strings_by e = strings_along (e.source ∷ []) e.strings.now (e.points.now ++ start_of e.points.now ∷ [])
 
--- the row of its parcel
-abbrev pub parcel_by : Enclosure → ParcelRow
+-- the row of its parcel, and of one that comes by a division
+abbrev pub parcel_by : NewParcel → ParcelRow
 parcel_by e = record { number = e.parcel; label = e.label.now; sources = e.source ∷ [] }
 
 -- What comes with an enclosure that is tried on the map: the rows, the halves of its strings, and
 -- those that are kept of the holes that pass over.
-pub record ComesRound (m : Map) (rows : HalfRows) (e : Enclosure) (strings : List StringRow) (parcel : ParcelRow) (path moved : List Half) : Type 0 where
+pub record ComesRound (m : Map) (rows : HalfRows) (e : NewParcel) (strings : List StringRow) (parcel : ParcelRow) (path moved : List Half) : Type 0 where
   pub strings_are : strings ≡ strings_by e
   pub parcel_is : parcel ≡ parcel_by e
   pub path_is : path ≡ map forward_of e.strings.now
   pub holes : AreOfHoles m rows e.face e.points.now moved
 
 -- one map leads to the other by it, and these halves name the rings that pass over
-pub record LeadsBy (e : Enclosure) (moved : List Half) (before now : Map) : Type 0 where
+pub record LeadsBy (e : NewParcel) (moved : List Half) (before now : Map) : Type 0 where
   pub valid : IsValid before
   pub leads : LeadsTo before (enclosed_by e) now
   pub held : HeldIsland (after before (enclosed_by e)) (Parcel e.parcel) e.points.now moved

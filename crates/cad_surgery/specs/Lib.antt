@@ -11,3 +11,4 @@ pub mod IslandMergers
 pub mod ChainStrings
 pub mod Mergers
 pub mod Merging
+pub mod NewParcels

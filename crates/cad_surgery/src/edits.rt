@@ -1,5 +1,6 @@
 //! Edits in place.
 
+pub(crate) mod adding;
 pub(crate) mod chain_strings;
 pub(crate) mod counted;
 pub(crate) mod crossing;

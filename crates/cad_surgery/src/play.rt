@@ -19,8 +19,9 @@ ghost use Rattle.cad_surgery.specs.Trials.{IsReadyFor, IsTakenBack, IsTrialOf, I
 ghost use Rattle.cad_surgery.specs.Work.{TakesWork};
 
 use crate::draft::Draft;
+use crate::edits::given::NewParcel;
 use crate::edits::try_divide::{back_divide, forward_divide, try_divide};
-use crate::edits::try_enclose::{Enclosure, back_enclose, forward_enclose, try_enclose};
+use crate::edits::try_enclose::{back_enclose, forward_enclose, try_enclose};
 use crate::edits::try_join::{back_join, forward_join, try_join};
 use crate::edits::try_merge::try_merge;
 use crate::edits::try_merge_along::{back_merge_along, forward_merge_along};
@@ -236,7 +237,7 @@ fn back_edit<T: Tally>(draft: &mut Draft<T>, change: &SmallRecord) -> Result<(),
             source,
             moved,
         } => {
-            let enclosure = Enclosure {
+            let enclosure = NewParcel {
                 face: *face,
                 points: points.as_slice(),
                 strings: strings.as_slice(),
@@ -286,7 +287,7 @@ fn forward_edit<T: Tally>(draft: &mut Draft<T>, change: &SmallRecord) -> Result<
             source,
             ..
         } => {
-            let enclosure = Enclosure {
+            let enclosure = NewParcel {
                 face: *face,
                 points: points.as_slice(),
                 strings: strings.as_slice(),

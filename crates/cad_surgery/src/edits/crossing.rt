@@ -16,8 +16,8 @@ ghost use Rattle.map_parts.specs.Parts.{map_of};
 ghost use Rattle.cad_surgery.specs.Divisions.{HasCrossing, divided_by};
 
 use crate::draft::{Draft, side};
+use crate::edits::given::NewParcel;
 use crate::edits::moved::moved_halves;
-use crate::edits::try_divide::Division;
 use cad_map::{Corner, chosen_corner};
 use cad_rings::Ring;
 use cad_rows::{Face, Memory, PointNo};
@@ -55,13 +55,13 @@ fn last_corner<T: Tally>(draft: &Draft<T>, face: &Face, chain: &[PointNo]) -> Op
 }
 
 // The two corners of the face between which the chain leads.
-fn corners_of<T: Tally>(draft: &Draft<T>, division: &Division<'_>) -> (Corner, Corner)
+fn corners_of<T: Tally>(draft: &Draft<T>, division: &NewParcel<'_>) -> (Corner, Corner)
     requires { IsTried (map_of draft.now) (divided_by division.now) }
-    ensures { AreChosen (map_of draft.now) division.now.face division.now.chain.now
+    ensures { AreChosen (map_of draft.now) division.now.face division.now.points.now
         result.0 result.1 }
 {
-    let first = first_corner(draft, &division.face, division.chain).unwrap();
-    let last = last_corner(draft, &division.face, division.chain).unwrap();
+    let first = first_corner(draft, &division.face, division.points).unwrap();
+    let last = last_corner(draft, &division.face, division.points).unwrap();
     (first, last)
 }
 
@@ -135,7 +135,7 @@ fn halves_off<T: Tally>(
 /// is cut.
 pub(crate) fn crossing_of<T: Tally>(
     draft: &Draft<T>,
-    division: &Division<'_>,
+    division: &NewParcel<'_>,
 ) -> Result<Crossing, Memory>
     requires { IsTried (map_of draft.now) (divided_by division.now) }
     ensures { IfOk result (λ c. HasCrossing (map_of draft.now) draft.now.table.rows division.now
@@ -146,7 +146,7 @@ pub(crate) fn crossing_of<T: Tally>(
     let start = half_leaving(draft, &first);
     let end = half_leaving(draft, &last);
     let cut = ring_of(alloc, draft, &start)?;
-    let left = left_of(&cut, division.chain, &first, &last)?;
+    let left = left_of(&cut, division.points, &first, &last)?;
     let holes = moved_halves(alloc, draft, &division.face, &left)?;
     let moved = halves_off(alloc, draft, holes.as_slice(), &cut)?;
     Ok(Crossing { start, end, moved })

@@ -1,11 +1,37 @@
 //! What a division or an enclosure gives: the halves along its strings, and what its record keeps.
 ghost use Rattle.std.specs.Prelude.{◌≡◌, ◌<◌, ◌∷◌, length, map as map_by, IfOk};
 ghost use Rattle.half_table.specs.Half.{forward_of};
+ghost use Rattle.cad_surgery.specs.Enclosures.{parcel_by};
 
-use cad_rows::{Label, Memory, Numbers, PointNo, StringNo};
+use cad_rows::{Face, Label, Memory, Numbers, ParcelNo, ParcelRow, PointNo, SourceNo, StringNo};
 use half_table::Half;
 use map_parts::forward;
 use std::alloc::Global;
+
+/// What a division or an enclosure names and gives.
+#[derive(Clone, Copy)]
+pub(crate) struct NewParcel<'a> {
+    pub(crate) face: Face,
+    pub(crate) points: &'a [PointNo],
+    pub(crate) strings: &'a [StringNo],
+    pub(crate) parcel: ParcelNo,
+    pub(crate) label: &'a Label,
+    pub(crate) source: SourceNo,
+}
+
+/// The row of its parcel.
+pub(crate) fn parcel_of(alloc: Global, new: &NewParcel<'_>) -> Result<ParcelRow, Memory>
+    ensures { IfOk result (λ row. row ≡ parcel_by new.now) }
+{
+    let mut sources = Numbers::new(alloc);
+    sources.push(new.source)?;
+    let label = new.label.copy()?;
+    Ok(ParcelRow {
+        number: new.parcel,
+        label,
+        sources,
+    })
+}
 
 /// The first half of a path, and the others.
 pub(crate) fn first_and_rest(path: &[Half]) -> (&Half, &[Half])

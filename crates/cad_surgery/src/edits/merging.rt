@@ -25,8 +25,8 @@ use map_parts::{
     unmerge_island,
 };
 
-/// Where the strings lead that two parcels share: along a chain, with the halves that follow its two
-/// ends, or round an island.
+/// Where strings lead that go or come: along a chain, with the halves that follow its two ends as
+/// long as it isn't there, or round an island.
 #[derive(Clone, Copy)]
 pub(crate) enum Way {
     Along { start: Half, end: Half },

@@ -7,41 +7,31 @@ ghost use Rattle.half_table.specs.Half.{forward_of};
 ghost use Rattle.cad_laws.specs.Tried.{IsTried};
 ghost use Rattle.cad_rows.specs.declared.edits.Edit.TheVariants.{Divide};
 ghost use Rattle.cad_rows.specs.declared.names.Face.TheVariants.{Parcel};
-ghost use Rattle.cad_surgery.specs.Divisions.{HasCrossing, IsDividedBy, IsOfDivide, ComesAcross, divided_by};
-ghost use Rattle.cad_surgery.specs.Divisions.{strings_across, parcel_across};
+ghost use Rattle.cad_surgery.specs.Divisions.{HasCrossing, IsDividedBy, IsOfDivide, divided_by};
+ghost use Rattle.cad_surgery.specs.Divisions.{strings_across};
+ghost use Rattle.cad_surgery.specs.Enclosures.{parcel_by};
 ghost use Rattle.edit_records.specs.declared.record.SmallRecord.TheVariants.{Divide as DivideRecord};
 ghost use Rattle.edit_records.specs.HeldChains.{HeldChain};
-ghost use Rattle.map_parts.specs.Parts.{map_of, kept_at};
-ghost use Rattle.cad_surgery.specs.Proper.{IsProper};
+ghost use Rattle.map_parts.specs.Parts.{map_of};
 ghost use Rattle.edit_records.specs.Record.{edit_of, Holds, Belongs};
-ghost use Rattle.cad_surgery.specs.Trials.{IsReadyFor, IsTakenBack, IsTrialOf, IsMade, IsPlayed, StandsBeside};
+ghost use Rattle.cad_surgery.specs.Trials.{IsReadyFor, IsTakenBack, IsTrialOf, IsMade, StandsBeside};
 
 use crate::draft::Draft;
+use crate::edits::adding::{Course, add_again, add_within_rules};
 use crate::edits::counted::is_work_in_range;
 use crate::edits::crossing::{Crossing, crossing_of};
-use crate::edits::given::{Kept, first_and_rest, halves_of, kept_of};
+use crate::edits::given::{Kept, NewParcel, first_and_rest, halves_of, kept_of, parcel_of};
 use crate::edits::hidden::drop_hidden;
+use crate::edits::merging::Way;
 use cad_edit::rows_along;
 use cad_rows::{
     Face, Label, Memory, Numbers, ParcelNo, ParcelRow, PointNo, Refusal, SourceNo, StringNo,
     StringRow,
 };
-use cad_valid::{Touched, first_broken_near};
+use cad_valid::Touched;
 use edit_records::SmallRecord;
 use half_table::{Half, Tally};
-use map_parts::{begin_divide, begin_undivide, undivide};
-use std::alloc::Global;
-
-/// What a division names and gives.
-#[derive(Clone, Copy)]
-pub(crate) struct Division<'a> {
-    pub(crate) face: Face,
-    pub(crate) chain: &'a [PointNo],
-    pub(crate) strings: &'a [StringNo],
-    pub(crate) parcel: ParcelNo,
-    pub(crate) label: &'a Label,
-    pub(crate) source: SourceNo,
-}
+use map_parts::begin_undivide;
 
 /// The halves that leave the two corners between which a division's chain leads, and one half of each
 /// ring that passes over.
@@ -52,97 +42,10 @@ pub(crate) struct Cut<'a> {
     pub(crate) moved: &'a [Half],
 }
 
-/// Divides a face with the rows that come, and takes it back where it breaks a rule.
-pub(crate) fn divide_within_rules<T: Tally>(
-    draft: &mut Draft<T>,
-    division: &Division<'_>,
-    cut: &Cut<'_>,
-    strings: Vec<StringRow>,
-    parcel: ParcelRow,
-    path: &[Half],
-    touched: &Touched,
-) -> Result<(), Refusal>
-    requires ready { IsReadyFor (divided_by division.now) draft.old touched.now }
-    requires comes { ComesAcross (map_of draft.old) draft.old.table.rows division.now cut.now
-        strings.items parcel path.now }
-    ensures { IsPlayed (divided_by division.now) draft.old draft.new result }
-{
-    is_work_in_range(&draft.table);
-    let (first, rest) = first_and_rest(path);
-    let Ok(()) = begin_divide(
-        &mut draft.rows,
-        &mut draft.table,
-        &mut draft.kept,
-        &mut draft.stars,
-        &division.face,
-        strings,
-        parcel,
-        first,
-        rest,
-        &cut.start,
-        &cut.end,
-        cut.moved,
-    ) else {
-        return Err(Refusal::Memory);
-    };
-    let alloc = draft.rows.points.allocator();
-    if let Some(rule) = first_broken_near(alloc, draft, draft.grid(), touched) {
-        undivide(
-            &mut draft.rows,
-            &mut draft.table,
-            &mut draft.kept,
-            &mut draft.stars,
-            &division.face,
-            division.strings,
-            division.parcel,
-            first,
-            rest,
-            cut.moved,
-        );
-        drop_hidden(draft, path);
-        return Err(Refusal::Breaks(rule));
-    }
-    Ok(())
-}
-
-/// Divides a face again with the rows that come. Where memory runs out the map stays.
-pub(crate) fn divide_again<T: Tally>(
-    draft: &mut Draft<T>,
-    division: &Division<'_>,
-    cut: &Cut<'_>,
-    strings: Vec<StringRow>,
-    parcel: ParcelRow,
-    path: &[Half],
-) -> Result<(), Memory>
-    requires tried { IsTried (map_of draft.old) (divided_by division.now) }
-    requires comes { ComesAcross (map_of draft.old) draft.old.table.rows division.now cut.now
-        strings.items parcel path.now }
-    requires proper { IsProper (map_of draft.old) draft.old.table.rows (kept_at draft.old) }
-    ensures { IsMade (divided_by division.now) draft.old draft.new result }
-{
-    is_work_in_range(&draft.table);
-    let (first, rest) = first_and_rest(path);
-    begin_divide(
-        &mut draft.rows,
-        &mut draft.table,
-        &mut draft.kept,
-        &mut draft.stars,
-        &division.face,
-        strings,
-        parcel,
-        first,
-        rest,
-        &cut.start,
-        &cut.end,
-        cut.moved,
-    )?;
-    Ok(())
-}
-
 // What the record of a division tells.
 #[derive(Clone, Copy)]
 struct Divided<'a> {
-    division: Division<'a>,
+    division: NewParcel<'a>,
     cut: Cut<'a>,
 }
 
@@ -150,7 +53,7 @@ fn division_of(change: &SmallRecord) -> Divided<'_>
     requires { IsOfDivide change.now }
     ensures edit { edit_of change.now ≡ divided_by result.division }
     ensures held { (b : Map) → Holds change.now b → HeldChain (after b (edit_of change.now))
-        (Parcel result.division.parcel) result.division.chain.now result.cut.start
+        (Parcel result.division.parcel) result.division.points.now result.cut.start
         result.cut.end result.cut.moved.now }
 {
     let SmallRecord::Divide {
@@ -168,9 +71,9 @@ fn division_of(change: &SmallRecord) -> Divided<'_>
         unreachable!()
     };
     Divided {
-        division: Division {
+        division: NewParcel {
             face: *face,
-            chain: chain.as_slice(),
+            points: chain.as_slice(),
             strings: strings.as_slice(),
             parcel: *parcel,
             label,
@@ -187,7 +90,7 @@ fn division_of(change: &SmallRecord) -> Divided<'_>
 // Takes a division back, and its strings out of the table.
 fn take_back<T: Tally>(
     draft: &mut Draft<T>,
-    division: &Division<'_>,
+    division: &NewParcel<'_>,
     path: &[Half],
     moved: &[Half],
 ) -> Result<(), Memory>
@@ -233,19 +136,6 @@ pub(crate) fn back_divide<T: Tally>(
     take_back(draft, &told.division, path.as_slice(), told.cut.moved)
 }
 
-// The row of a division's parcel.
-fn parcel_of(alloc: Global, division: &Division<'_>) -> Result<ParcelRow, Memory>
-    ensures { IfOk result (λ row. row ≡ parcel_across division.now) }
-{
-    let mut sources = Numbers::new(alloc);
-    sources.push(division.source)?;
-    Ok(ParcelRow {
-        number: division.parcel,
-        label: division.label.copy()?,
-        sources,
-    })
-}
-
 /// Divides a face again. Where memory runs out the map stays.
 pub(crate) fn forward_divide<T: Tally>(
     draft: &mut Draft<T>,
@@ -260,16 +150,17 @@ pub(crate) fn forward_divide<T: Tally>(
     let told = division_of(change);
     let division = told.division;
     let path = halves_of(alloc, division.strings)?;
-    let strings = rows_along(alloc, division.chain, division.strings, division.source)?;
+    let strings = rows_along(alloc, division.points, division.strings, division.source)?;
     let parcel = parcel_of(alloc, &division)?;
-    divide_again(
-        draft,
-        &division,
-        &told.cut,
-        strings,
-        parcel,
-        path.as_slice(),
-    )
+    let course = Course {
+        way: Way::Along {
+            start: told.cut.start,
+            end: told.cut.end,
+        },
+        path: path.as_slice(),
+        moved: told.cut.moved,
+    };
+    add_again(draft, &division, &course, strings, parcel)
 }
 
 // What comes with a division, and where its chain crosses the face.
@@ -281,16 +172,16 @@ struct Coming {
     crossing: Crossing,
 }
 
-fn coming_by<T: Tally>(draft: &Draft<T>, division: &Division<'_>) -> Result<Coming, Memory>
+fn coming_by<T: Tally>(draft: &Draft<T>, division: &NewParcel<'_>) -> Result<Coming, Memory>
     requires { IsTried (map_of draft.now) (divided_by division.now) }
     ensures strings { IfOk result (λ c. c.strings.items ≡ strings_across division.now) }
-    ensures parcel { IfOk result (λ c. c.parcel ≡ parcel_across division.now) }
+    ensures parcel { IfOk result (λ c. c.parcel ≡ parcel_by division.now) }
     ensures path { IfOk result (λ c. c.path.items ≡ map_by forward_of division.now.strings.now) }
     ensures crossing { IfOk result (λ c. HasCrossing (map_of draft.now) draft.now.table.rows
         division.now c.crossing.start c.crossing.end c.crossing.moved.items) }
 {
     let alloc = draft.rows.points.allocator();
-    let strings = rows_along(alloc, division.chain, division.strings, division.source)?;
+    let strings = rows_along(alloc, division.points, division.strings, division.source)?;
     let parcel = parcel_of(alloc, division)?;
     let path = halves_of(alloc, division.strings)?;
     let crossing = crossing_of(draft, division)?;
@@ -329,13 +220,13 @@ fn record_of_division(
 // Divides a face, and takes it back where it breaks a rule. Gives its record.
 fn divide_recording<T: Tally>(
     draft: &mut Draft<T>,
-    division: &Division<'_>,
+    division: &NewParcel<'_>,
     kept: Kept,
     touched: &Touched,
 ) -> Result<SmallRecord, Refusal>
     requires ready { IsReadyFor (divided_by division.now) draft.old touched.now }
     requires kept { kept ≡ record {
-      points = division.now.chain.now;
+      points = division.now.points.now;
       strings = division.now.strings.now;
       label = division.now.label.now;
     } }
@@ -351,20 +242,15 @@ fn divide_recording<T: Tally>(
         path,
         crossing,
     } = coming;
-    let cut = Cut {
-        start: crossing.start,
-        end: crossing.end,
+    let course = Course {
+        way: Way::Along {
+            start: crossing.start,
+            end: crossing.end,
+        },
+        path: path.as_slice(),
         moved: crossing.moved.as_slice(),
     };
-    divide_within_rules(
-        draft,
-        division,
-        &cut,
-        strings,
-        parcel,
-        path.as_slice(),
-        touched,
-    )?;
+    add_within_rules(draft, division, &course, strings, parcel, touched)?;
     Ok(record_of_division(
         division.face,
         kept,
@@ -397,9 +283,9 @@ pub(crate) fn try_divide<'a, T: Tally>(
     };
     let points = chain.as_slice();
     let along = strings.as_slice();
-    let division = Division {
+    let division = NewParcel {
         face,
-        chain: points,
+        points,
         strings: along,
         parcel,
         label,

@@ -7,15 +7,17 @@ ghost use Rattle.cad_rows.specs.declared.edits.Edit.TheVariants.{Enclose};
 ghost use Rattle.half_table.specs.Half.{forward_of};
 ghost use Rattle.cad_laws.specs.Tried.{IsTried};
 ghost use Rattle.edit_records.specs.declared.record.SmallRecord.TheVariants.{Enclose as EncloseRecord};
-ghost use Rattle.cad_surgery.specs.Enclosures.{LeadsBy, ComesRound, enclosed_by, strings_by, parcel_by};
+ghost use Rattle.cad_surgery.specs.Enclosures.{LeadsBy, ComesRound, enclosed_by, strings_by};
 ghost use Rattle.map_parts.specs.Parts.{map_of, kept_at};
 ghost use Rattle.cad_surgery.specs.Proper.{IsProper};
-ghost use Rattle.cad_surgery.specs.Trials.{IsReadyFor, IsTrialOf, IsMade, IsPlayed, StandsBeside, IsTakenBack};
+ghost use Rattle.cad_surgery.specs.Trials.{IsReadyFor, IsTrialOf, IsMade, StandsBeside, IsTakenBack};
 
 use crate::draft::Draft;
+use crate::edits::adding::{Course, add_again, add_within_rules};
 use crate::edits::counted::is_work_in_range;
-use crate::edits::given::{Kept, first_and_rest, halves_of, kept_of};
+use crate::edits::given::{Kept, NewParcel, first_and_rest, halves_of, kept_of, parcel_of};
 use crate::edits::hidden::drop_hidden;
+use crate::edits::merging::Way;
 use crate::edits::moved::moved_halves;
 use cad_edit::rows_along;
 use cad_rings::Ring;
@@ -23,110 +25,16 @@ use cad_rows::{
     Face, Label, Memory, Numbers, ParcelNo, ParcelRow, PointNo, Refusal, SourceNo, StringNo,
     StringRow,
 };
-use cad_valid::{Touched, first_broken_near};
+use cad_valid::Touched;
 use edit_records::SmallRecord;
 use half_table::{Half, Tally};
-use map_parts::{begin_enclose, begin_open, open};
+use map_parts::begin_open;
 use std::alloc::Global;
-
-/// What an enclosure names and gives.
-#[derive(Clone, Copy)]
-pub(crate) struct Enclosure<'a> {
-    pub(crate) face: Face,
-    pub(crate) points: &'a [PointNo],
-    pub(crate) strings: &'a [StringNo],
-    pub(crate) parcel: ParcelNo,
-    pub(crate) label: &'a Label,
-    pub(crate) source: SourceNo,
-}
-
-// Encloses a part of a face with the rows that come, and takes it back where it breaks a rule.
-fn enclose_within_rules<T: Tally>(
-    draft: &mut Draft<T>,
-    enclosure: &Enclosure<'_>,
-    strings: Vec<StringRow>,
-    parcel: ParcelRow,
-    path: &[Half],
-    moved: &[Half],
-    touched: &Touched,
-) -> Result<(), Refusal>
-    requires ready { IsReadyFor (enclosed_by enclosure.now) draft.old touched.now }
-    requires comes { ComesRound (map_of draft.old) draft.old.table.rows enclosure.now strings.items
-        parcel path.now moved.now }
-    ensures { IsPlayed (enclosed_by enclosure.now) draft.old draft.new result }
-{
-    is_work_in_range(&draft.table);
-    let (first, rest) = first_and_rest(path);
-    let Ok(()) = begin_enclose(
-        &mut draft.rows,
-        &mut draft.table,
-        &mut draft.kept,
-        &mut draft.stars,
-        &enclosure.face,
-        strings,
-        parcel,
-        first,
-        rest,
-        moved,
-    ) else {
-        return Err(Refusal::Memory);
-    };
-    let alloc = draft.rows.points.allocator();
-    if let Some(rule) = first_broken_near(alloc, draft, draft.grid(), touched) {
-        open(
-            &mut draft.rows,
-            &mut draft.table,
-            &mut draft.kept,
-            &mut draft.stars,
-            &enclosure.face,
-            enclosure.strings,
-            enclosure.parcel,
-            first,
-            rest,
-            moved,
-        );
-        drop_hidden(draft, path);
-        return Err(Refusal::Breaks(rule));
-    }
-    Ok(())
-}
-
-// Encloses a part of a face again with the rows that come. Where memory runs out the map stays.
-fn enclose_again<T: Tally>(
-    draft: &mut Draft<T>,
-    enclosure: &Enclosure<'_>,
-    strings: Vec<StringRow>,
-    parcel: ParcelRow,
-    path: &[Half],
-    moved: &[Half],
-) -> Result<(), Memory>
-    requires tried { IsTried (map_of draft.old) (enclosed_by enclosure.now) }
-    requires comes { ComesRound (map_of draft.old) draft.old.table.rows enclosure.now strings.items
-        parcel path.now moved.now }
-    requires proper { IsProper (map_of draft.old) draft.old.table.rows (kept_at draft.old) }
-    ensures { IsMade (enclosed_by enclosure.now) draft.old draft.new result }
-{
-    is_work_in_range(&draft.table);
-    let (first, rest) = first_and_rest(path);
-    begin_enclose(
-        &mut draft.rows,
-        &mut draft.table,
-        &mut draft.kept,
-        &mut draft.stars,
-        &enclosure.face,
-        strings,
-        parcel,
-        first,
-        rest,
-        moved,
-    )?;
-    Ok(())
-}
 
 // Takes an enclosure back, with the halves along its strings.
 fn open_along<T: Tally>(
     draft: &mut Draft<T>,
-    enclosure: &Enclosure<'_>,
+    enclosure: &NewParcel<'_>,
     path: &[Half],
     moved: &[Half],
 ) -> Result<(), Memory>
@@ -159,7 +67,7 @@ fn open_along<T: Tally>(
 /// map stays.
 pub(crate) fn back_enclose<T: Tally>(
     draft: &mut Draft<T>,
-    enclosure: &Enclosure<'_>,
+    enclosure: &NewParcel<'_>,
     moved: &[Half],
 ) -> Result<(), Memory>
     requires given { GivesInRange (enclosed_by enclosure.now) }
@@ -184,7 +92,7 @@ fn closed(alloc: Global, points: &[PointNo]) -> Result<Vec<PointNo>, Memory>
 }
 
 // The rows of the strings round an enclosure's points.
-fn rows_round(alloc: Global, enclosure: &Enclosure<'_>) -> Result<Vec<StringRow>, Memory>
+fn rows_round(alloc: Global, enclosure: &NewParcel<'_>) -> Result<Vec<StringRow>, Memory>
     requires long { 1 ≤ length enclosure.now.points.now }
     requires as_many { length enclosure.now.strings.now ≡ length enclosure.now.points.now }
     ensures { IfOk result (λ rows. rows.items ≡ strings_by enclosure.now) }
@@ -198,20 +106,6 @@ fn rows_round(alloc: Global, enclosure: &Enclosure<'_>) -> Result<Vec<StringRow>
     )
 }
 
-// The row of an enclosure's parcel.
-fn parcel_of(alloc: Global, enclosure: &Enclosure<'_>) -> Result<ParcelRow, Memory>
-    ensures { IfOk result (λ row. row ≡ parcel_by enclosure.now) }
-{
-    let mut sources = Numbers::new(alloc);
-    sources.push(enclosure.source)?;
-    let label = enclosure.label.copy()?;
-    Ok(ParcelRow {
-        number: enclosure.parcel,
-        label,
-        sources,
-    })
-}
-
 // What comes with an enclosure, and the halves that are kept of the holes that pass over.
 #[derive(Drop)]
 struct Coming {
@@ -221,7 +115,7 @@ struct Coming {
     moved: Vec<Half>,
 }
 
-fn coming_by<T: Tally>(draft: &Draft<T>, enclosure: &Enclosure<'_>) -> Result<Coming, Memory>
+fn coming_by<T: Tally>(draft: &Draft<T>, enclosure: &NewParcel<'_>) -> Result<Coming, Memory>
     requires { IsTried (map_of draft.now) (enclosed_by enclosure.now) }
     ensures { IfOk result (λ c. ComesRound (map_of draft.now) draft.now.table.rows enclosure.now
         c.strings.items c.parcel c.path.items c.moved.items) }
@@ -243,7 +137,7 @@ fn coming_by<T: Tally>(draft: &Draft<T>, enclosure: &Enclosure<'_>) -> Result<Co
 /// Encloses a part of a face again. Where memory runs out the map stays.
 pub(crate) fn forward_enclose<T: Tally>(
     draft: &mut Draft<T>,
-    enclosure: &Enclosure<'_>,
+    enclosure: &NewParcel<'_>,
 ) -> Result<(), Memory>
     requires tried { IsTried (map_of draft.old) (enclosed_by enclosure.now) }
     requires proper { IsProper (map_of draft.old) draft.old.table.rows (kept_at draft.old) }
@@ -257,14 +151,12 @@ pub(crate) fn forward_enclose<T: Tally>(
         path,
         moved,
     } = coming;
-    enclose_again(
-        draft,
-        enclosure,
-        strings,
-        parcel,
-        path.as_slice(),
-        moved.as_slice(),
-    )
+    let course = Course {
+        way: Way::Round,
+        path: path.as_slice(),
+        moved: moved.as_slice(),
+    };
+    add_again(draft, enclosure, &course, strings, parcel)
 }
 
 // The record of an enclosure that these halves name the rings of.
@@ -292,7 +184,7 @@ fn record_of_enclosure(
 // Encloses a part of a face, and takes it back where it breaks a rule. Gives its record.
 fn enclose_recording<T: Tally>(
     draft: &mut Draft<T>,
-    enclosure: &Enclosure<'_>,
+    enclosure: &NewParcel<'_>,
     kept: Kept,
     touched: &Touched,
 ) -> Result<SmallRecord, Refusal>
@@ -314,15 +206,12 @@ fn enclose_recording<T: Tally>(
         path,
         moved,
     } = coming;
-    enclose_within_rules(
-        draft,
-        enclosure,
-        strings,
-        parcel,
-        path.as_slice(),
-        moved.as_slice(),
-        touched,
-    )?;
+    let course = Course {
+        way: Way::Round,
+        path: path.as_slice(),
+        moved: moved.as_slice(),
+    };
+    add_within_rules(draft, enclosure, &course, strings, parcel, touched)?;
     Ok(record_of_enclosure(
         enclosure.face,
         kept,
@@ -355,7 +244,7 @@ pub(crate) fn try_enclose<'a, T: Tally>(
     };
     let ring = points.as_slice();
     let along = strings.as_slice();
-    let enclosure = Enclosure {
+    let enclosure = NewParcel {
         face,
         points: ring,
         strings: along,

@@ -16,24 +16,24 @@ use Rattle.cad_surgery.proofs.edits.try_divide.divide_recording.Goals as goal
 pub returns-in_default : goal.returns-in_default
 returns-in_default g c = stays _ _ _ _ c.requires.ready (out_of_memory c.requires.ready.tried.allowed)
 
-pub divide_within_rules-requires-clause-ready : goal.divide_within_rules-requires-clause-ready
-divide_within_rules-requires-clause-ready g c = c.requires.ready
+pub add_within_rules-requires-clause-ready : goal.add_within_rules-requires-clause-ready
+add_within_rules-requires-clause-ready g c = c.requires.ready
 
-pub divide_within_rules-requires-clause-comes : goal.divide_within_rules-requires-clause-comes
-divide_within_rules-requires-clause-comes g c = record {
+pub add_within_rules-requires-clause-comes : goal.add_within_rules-requires-clause-comes
+add_within_rules-requires-clause-comes g c = record {
   strings_are = c.in-Ok.ensures.strings;
   parcel_is = c.in-Ok.ensures.parcel;
-  path_is = c.as_slice-2.ensures.value ∙ c.in-Ok.ensures.path;
+  path_is = c.as_slice.ensures.value ∙ c.in-Ok.ensures.path;
   crossing = subst (HasCrossing (map_of c.args.draft.now) c.args.draft.now.table.rows c.args.division.now
-      c.in-Ok.coming.crossing.start c.in-Ok.coming.crossing.end) (sym c.as_slice.ensures.value) c.in-Ok.ensures.crossing;
+      c.in-Ok.coming.crossing.start c.in-Ok.coming.crossing.end) (sym c.as_slice-2.ensures.value) c.in-Ok.ensures.crossing;
 }
 
-pub returns-in_err-divide_within_rules : goal.returns-in_err-divide_within_rules
-returns-in_err-divide_within_rules g c = passes-on _ c.from_residual.ensures c.in_err-divide_within_rules.ensures
+pub returns-in_err-add_within_rules : goal.returns-in_err-add_within_rules
+returns-in_err-add_within_rules g c = passes-on _ c.from_residual.ensures c.in_err-add_within_rules.ensures
 
 pub returns : goal.returns
 returns g c = record {
-  played = played-with c.in_ok-divide_within_rules.ensures;
+  played = played-with c.in_ok-add_within_rules.ensures;
   edit = let e = c.args.division.now in
       ap edit_of c.record_of_division.ensures
       ∙ (λ i. Divide e.face (c.requires.kept i).points (c.requires.kept i).strings e.parcel (c.requires.kept i).label e.source);

@@ -11,14 +11,14 @@ rows_along-requires g c =
     c.division_of-told.result.division c.division_of-told.result.cut
     c.requires.given c.division_of-told.ensures.edit c.division_of-told.ensures.held c.requires.beside.made.1
 
-pub divide_again-requires-clause-tried : goal.divide_again-requires-clause-tried
-divide_again-requires-clause-tried g c =
+pub add_again-requires-clause-tried : goal.add_again-requires-clause-tried
+add_again-requires-clause-tried g c =
     again-tried c.draft.inside c.draft.view_is c.draft.invariant c.args.change.now
     c.division_of-told.result.division c.division_of-told.result.cut
     c.requires.given c.division_of-told.ensures.edit c.division_of-told.ensures.held c.requires.beside.made.1
 
-pub divide_again-requires-clause-comes : goal.divide_again-requires-clause-comes
-divide_again-requires-clause-comes g c = record {
+pub add_again-requires-clause-comes : goal.add_again-requires-clause-comes
+add_again-requires-clause-comes g c = record {
   strings_are = c.in_ok-strings.ensures;
   parcel_is = c.in_ok-parcel.ensures;
   path_is = c.as_slice.ensures.value ∙ c.in_ok-path.ensures;
@@ -38,5 +38,5 @@ returns-in_err-parcel g c = is-idle c.from_residual-in_err-parcel.ensures.0 c.re
 
 pub returns : goal.returns
 returns g c =
-    subst (λ (e : Edit). IsMade e c.args.draft.now c.divide_again.new.draft c.divide_again.result)
-    (sym c.division_of-told.ensures.edit) c.divide_again.ensures
+    subst (λ (e : Edit). IsMade e c.args.draft.now c.add_again.new.draft c.add_again.result)
+    (sym c.division_of-told.ensures.edit) c.add_again.ensures

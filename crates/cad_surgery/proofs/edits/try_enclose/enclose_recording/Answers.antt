@@ -17,19 +17,19 @@ use Rattle.cad_surgery.proofs.edits.try_enclose.enclose_recording.Goals as goal
 pub returns-in_default : goal.returns-in_default
 returns-in_default g c = stays _ _ _ _ c.requires.ready (out_of_memory c.requires.ready.tried.allowed)
 
-pub enclose_within_rules-requires-clause-comes : goal.enclose_within_rules-requires-clause-comes
-enclose_within_rules-requires-clause-comes g c =
+pub add_within_rules-requires-clause-comes : goal.add_within_rules-requires-clause-comes
+add_within_rules-requires-clause-comes g c =
     let m = map_of c.args.draft.now in
     let rows = c.args.draft.now.table.rows in
     subst (λ (q : List Half × List Half). ComesRound m rows c.args.enclosure.now c.in-Ok.coming.strings.items c.in-Ok.coming.parcel q.0 q.1)
     (λ i. (sym c.as_slice.ensures.value i, sym c.as_slice-2.ensures.value i)) c.in-Ok.ensures
 
-pub returns-in_err-enclose_within_rules : goal.returns-in_err-enclose_within_rules
-returns-in_err-enclose_within_rules g c = passes-on _ c.from_residual.ensures c.in_err-enclose_within_rules.ensures
+pub returns-in_err-add_within_rules : goal.returns-in_err-add_within_rules
+returns-in_err-add_within_rules g c = passes-on _ c.from_residual.ensures c.in_err-add_within_rules.ensures
 
 pub returns : goal.returns
 returns g c = record {
-  played = played-with c.in_ok-enclose_within_rules.ensures;
+  played = played-with c.in_ok-add_within_rules.ensures;
   edit = let e = c.args.enclosure.now in
       ap edit_of c.record_of_enclosure.ensures
       ∙ (λ i. Enclose e.face (c.requires.kept i).points (c.requires.kept i).strings e.parcel (c.requires.kept i).label e.source);
