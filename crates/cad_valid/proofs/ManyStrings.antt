@@ -1,5 +1,5 @@
 -- Where strings and points near very many touched ones pass the test of V4 in groups, nothing crosses what was touched.
-use Rattle.std.proofs.Common.{◌≡◌, ◌≢◌, ◌⊎◌, inl, inr, ◌∙◌, refl, sym, ap, subst, ℕ, ◌+◌, ◌<◌, List, [], ◌∷◌, ◌++◌, map, take, length, get_or, slice_get, Some, None, zero, suc, Bool, true, false, not, true≢false, arith}
+use Rattle.std.proofs.Common.{◌≡◌, ◌≢◌, ◌⊎◌, inl, inr, ◌∙◌, refl, sym, ap, subst, ℕ, ◌+◌, ◌<◌, List, [], ◌∷◌, ◌++◌, map, take, length, get_or, slice_get, Some, None, zero, suc, true, not, true≢false, arith}
 use Rattle.std.specs.Prelude.{◌^◌, IsPermutation}
 use Rattle.std.specs.List.{AllByRecursion, Contains}
 use Rattle.std.proofs.lemmas.Bool.{and_parts, cases_eq, cases_lt, not-true}
@@ -20,21 +20,21 @@ use Rattle.cad_map.specs.Touched.{Touched}
 use Rattle.cad_map.specs.Turn.{AreMetInTurn}
 use Rattle.cad_map.specs.Valid.{HasSoundRows, MeetAtEnds, LiesOnlyAsEnd}
 use Rattle.cad_map.specs.declared.stars.Spoke.{Spoke}
-use Rattle.cad_map.proofs.CallerLemmas.{All-at_each, All-from_each, Contains-filter, meet-at_end, take-more}
+use Rattle.cad_map.proofs.CallerLemmas.{All-at_each, All-from_each, Contains-filter, meet-at_end}
 use Rattle.cad_valid.specs.declared.near.seen.Reach.{Reach}
 use Rattle.cad_valid.specs.declared.placed.Placed.{Placed}
 use Rattle.cad_valid.specs.Boxes.{box_of}
 use Rattle.cad_valid.specs.Hubs.{alone}
 use Rattle.cell_grid.specs.Grid.{Grid, HoldsString, HoldsPoint}
-use Rattle.cad_valid.specs.Many.{HasTouchedIn, AreNamed, HasAllIn, AreAllNear, LeadApart, HasSpokesOf, IsOfPoint, AreGroupsIn, AreRegroupedIn, PassInGroups}
+use Rattle.cad_valid.specs.Many.{AreNamed, HasAllIn, AreAllNear, LeadApart, HasSpokesOf, IsOfPoint, AreGroupsIn, AreRegroupedIn, PassInGroups}
 use Rattle.cad_valid.specs.Near.{HoldsMap, OfPoint, OfString, IsUncrossed, LiesAtEnds, AreUncrossed}
-use Rattle.cad_valid.specs.Placed.{placed_string, placed_point, is_only_end, is_placed_end}
+use Rattle.cad_valid.specs.Placed.{placed_string, placed_point, is_placed_end}
 use Rattle.cad_valid.specs.Seen.{IsInReach, HasInReach, lying_string, lying_point}
 use Rattle.cad_valid.specs.Swept.{is_point, have_no_crossing}
 use Rattle.cad_valid.proofs.BoxesOfMap.{overlap-common}
 use Rattle.cad_valid.proofs.HubFacts.{two-among, two-only_start}
 use Rattle.cad_valid.proofs.PlacedStrings.{is_only_end-is}
-use Rattle.cad_valid.proofs.SeenNear.{one_more, string-gathered, no_string-gathered}
+use Rattle.cad_valid.proofs.SeenNear.{string-gathered, no_string-gathered}
 use Rattle.cad_valid.proofs.SightOfMap.{wider, in_reach}
 use Rattle.cad_valid.proofs.SweptPairs.{get-first, get-second, get-mapped, passed-pair}
 use Rattle.cad_valid.proofs.SweptRules.{string_on, point_on, strings_passed, point_string, string_point, meet-exchanged, point_is}
@@ -130,8 +130,8 @@ apart-in_turn m p spokes order has moved met s t s_in t_in s_end t_end differ =
     (Contains-permutation spokes order (spoke_of m a.0 s p) moved (has.seen a.0 s (there has.strings s a)))
     (Contains-permutation spokes order (spoke_of m b.0 t p) moved (has.seen b.0 t (there has.strings t b)))
     (λ same.
-        let one : Some s ≡ Some t = sym (there has.strings s a) ∙ ap (slice_get has.strings) same ∙ there has.strings t b in
-        differ (ap (λ (r : StringRow). r.number) (some-same s t one)))
+    let one : Some s ≡ Some t = sym (there has.strings s a) ∙ ap (slice_get has.strings) same ∙ there has.strings t b in
+    differ (ap (λ (r : StringRow). r.number) (some-same s t one)))
   where
     told : (s : StringRow) → Contains m.strings s → is_end s p ≡ true → Contains has.strings s
     told s s_in s_end = Contains-permutation (strings_at m p) has.strings s has.each (Contains-filter (λ s. is_end s p) m.strings s s_in s_end)

@@ -1,5 +1,5 @@
 -- What was gathered of an edit, and what is seen of it.
-use Rattle.std.proofs.Common.{◌≡◌, ℕ, List, [], ◌∷◌, ◌++◌, take, Some, None, refl, subst, true, arith, ◌+◌}
+use Rattle.std.proofs.Common.{◌≡◌, ℕ, List, [], ◌∷◌, ◌++◌, take, Some, None, refl, subst, true, ◌+◌}
 use Rattle.std.specs.Prelude.{slice_get}
 use Rattle.std.specs.List.{AllByRecursion, Contains}
 use Rattle.std.proofs.lemmas.List.Elements.{Contains-append_left, Contains-push}
@@ -12,7 +12,7 @@ use Rattle.cad_map.proofs.CallerLemmas.{All-at_each, All-from_each, All-push, ta
 use Rattle.cad_valid.specs.declared.near.seen.Lying.{Lying}
 use Rattle.cad_valid.specs.declared.near.seen.Reach.{Reach}
 use Rattle.cad_valid.specs.Near.{OfPoint, OfString}
-use Rattle.cad_valid.specs.Seen.{lying_string, lying_point, IsInReach, HasInReach}
+use Rattle.cad_valid.specs.Seen.{IsInReach, HasInReach}
 use Rattle.cad_valid.proofs.RowsByNumber.{of_point, of_no_point, of_string, of_no_string}
 
 -- what lies in a box lies in a wider one

@@ -20,6 +20,7 @@ use crate::boxes::boxes_of;
 use crate::hubs::{HUB, each_alone};
 use crate::near::Touched;
 use crate::near::seen::{Reach, grown};
+use crate::near::turns::spokes_at;
 use crate::placed::{Placed, placed_point, placed_string};
 use crate::swept::{Uncrossed, is_point};
 use cad_map::{MapView, Spoke, far_end, position, sort_in_turn};
@@ -87,7 +88,10 @@ fn grown_by_strings<M: MapView>(map: &M, reach: Reach, strings: &[StringNo]) -> 
     let mut so_far = reach;
     for place in 0..strings.len() {
         if let Some(row) = map.string(strings[place]) {
-            so_far = grown(grown(so_far, position(map, row.from)), position(map, row.to));
+            so_far = grown(
+                grown(so_far, position(map, row.from)),
+                position(map, row.to),
+            );
         }
     }
     so_far
@@ -214,29 +218,13 @@ fn items_near<M: MapView>(
 
 // ---- Groups
 
-/// The strings of a point as it sees them.
-fn spokes_of<M: MapView>(alloc: Global, map: &M, point: PointNo) -> Option<Vec<Spoke>>
-    ensures { IfSome result (λ spokes. HasSpokesOf (M.map map.now) point spokes.items) }
-{
-    let mut spokes = Vec::new(alloc);
-    for place in 0..map.degree(point) {
-        let far = far_end(map.string_with(point, place).unwrap(), point);
-        let spoke = Spoke {
-            at: point,
-            far,
-            position: position(map, far),
-            place,
-        };
-        spokes.push(spoke).ok()?;
-    }
-    Some(spokes)
-}
-
 /// Whether no two strings of a point are seen to lead into one direction.
 fn lead_apart<M: MapView>(alloc: Global, map: &M, point: PointNo) -> Option<bool>
     ensures { IfSome result (λ b. OnTrue b (LeadApart (M.map map.now) point)) }
 {
-    let mut spokes = spokes_of(alloc, map, point)?;
+    let Ok(mut spokes) = spokes_at(alloc, map, point) else {
+        return None;
+    };
     Some(sort_in_turn(position(map, point), spokes.as_mut_slice()))
 }
 

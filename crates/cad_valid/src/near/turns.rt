@@ -7,6 +7,7 @@ ghost use Rattle.cad_map.specs.Rings.{HasWholeRings};
 ghost use Rattle.cad_map.specs.Turn.{AreMetInTurn};
 ghost use Rattle.cad_map.specs.Valid.{is_empty_corner as is_empty_corner_of};
 ghost use Rattle.cad_valid.specs.Corners.{is_empty_after as is_empty_after_side};
+ghost use Rattle.cad_valid.specs.Many.{HasSpokesOf};
 ghost use Rattle.cad_valid.specs.Near.{HasEmptyCornersAt};
 ghost use Rattle.cad_valid.specs.Rays.{AreSpokesOf};
 
@@ -15,9 +16,14 @@ use cad_map::{MapView, Spoke, far_end, position, sort_in_turn};
 use cad_rows::{Memory, PointNo};
 use std::alloc::Global;
 
-/// The strings of a point as it sees them.
-fn spokes_at<M: MapView>(alloc: Global, map: &M, point: PointNo) -> Result<Vec<Spoke>, Memory>
-    ensures { IfOk result (λ spokes. AreSpokesOf (M.map map.now) point spokes.items) }
+/// The strings of a point as it sees them, each with its place among these.
+pub(crate) fn spokes_at<M: MapView>(
+    alloc: Global,
+    map: &M,
+    point: PointNo,
+) -> Result<Vec<Spoke>, Memory>
+    ensures rays { IfOk result (λ spokes. AreSpokesOf (M.map map.now) point spokes.items) }
+    ensures strings { IfOk result (λ spokes. HasSpokesOf (M.map map.now) point spokes.items) }
 {
     let degree = map.degree(point);
     let mut spokes = Vec::with_capacity(alloc, degree)?;

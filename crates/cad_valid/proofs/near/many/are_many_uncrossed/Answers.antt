@@ -1,6 +1,4 @@
 use Rattle.cad_valid.specs.Near.{touched_of}
-use Rattle.cad_valid.specs.Many.{PassInGroups}
-use Rattle.std.proofs.Common.{subst}
 use Rattle.std.proofs.lemmas.Bool.{OnTrue_at}
 use Rattle.cad_valid.proofs.ManyStrings.{uncrossed-many}
 use Rattle.cad_valid.proofs.near.many.are_many_uncrossed.Goals as goal

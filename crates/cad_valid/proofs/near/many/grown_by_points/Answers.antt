@@ -1,10 +1,9 @@
-use Rattle.std.proofs.Common.{◌≡◌, ◌+◌, List, Some, refl, sym, subst, take}
+use Rattle.std.proofs.Common.{◌≡◌, ◌+◌, Some, refl, sym, subst, take}
 use Rattle.std.proofs.lemmas.List.{take_all}
 use Rattle.std.proofs.lemmas.Option.{slice_get_read}
 use Rattle.std.specs.Prelude.{slice_get}
 use Rattle.std.specs.List.{AllByRecursion}
 use Rattle.geo_exact.specs.Position.{Position}
-use Rattle.cad_map.specs.Map.{position_of}
 use Rattle.cad_valid.specs.declared.near.seen.Reach.{Reach}
 use Rattle.cad_valid.specs.Near.{OfPoint}
 use Rattle.cad_valid.specs.Seen.{IsInReach, HasInReach, lying_point}

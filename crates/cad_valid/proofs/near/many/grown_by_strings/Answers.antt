@@ -1,4 +1,4 @@
-use Rattle.std.proofs.Common.{◌≡◌, ◌+◌, List, Some, refl, sym, subst, take}
+use Rattle.std.proofs.Common.{◌≡◌, ◌+◌, Some, refl, sym, subst, take}
 use Rattle.std.proofs.lemmas.List.{take_all}
 use Rattle.std.proofs.lemmas.Option.{slice_get_read}
 use Rattle.std.specs.Prelude.{slice_get}
@@ -31,9 +31,9 @@ loop-place-preserved g c =
             all = subst (λ (r : Reach). AllByRecursion (OfString m (λ s. HasInReach r (lying_string m s))) (take (k + 1) numbers)) (sym w.so_far-is)
                 (string-more m c.requires (λ s. HasInReach old (lying_string m s)) (λ s. HasInReach new (lying_string m s)) (λ s h. record { a = wider (position_of m s.from) h.a; b = wider (position_of m s.to) h.b }) numbers k n at w.in-Some.row.now (sym w.in-Some.ensures)
                 (record {
-            a = w.grown-so_far.ensures.kept (position_of m w.in-Some.row.now.from) (subst (IsInReach w.grown.result) w.position.ensures w.grown.ensures.within);
-            b = subst (IsInReach new) w.position-in-Some.ensures w.grown-so_far.ensures.within;
-          }) c.loop-place.invariant.all);
+                  a = w.grown-so_far.ensures.kept (position_of m w.in-Some.row.now.from) (subst (IsInReach w.grown.result) w.position.ensures w.grown.ensures.within);
+                  b = subst (IsInReach new) w.position-in-Some.ensures w.grown-so_far.ensures.within;
+                }) c.loop-place.invariant.all);
             kept = λ q h. subst (λ (r : Reach). IsInReach r q) (sym w.so_far-is) (wider q (c.loop-place.invariant.kept q h));
           }
       | in_default w ↦ record {

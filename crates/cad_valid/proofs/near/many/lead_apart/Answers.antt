@@ -1,4 +1,4 @@
-use Rattle.std.proofs.Common.{subst, List, ◌∙◌}
+use Rattle.std.proofs.Common.{subst, List}
 use Rattle.std.specs.Prelude.{IsPermutation}
 use Rattle.std.proofs.lemmas.Bool.{OnTrue_at, OnTrue_from}
 use Rattle.geo_exact.specs.Position.{Position}
@@ -14,4 +14,4 @@ returns g c =
     let moved = subst (λ (l : List Spoke). IsPermutation l order) c.as_mut_slice.ensures.value c.sort_in_turn.ensures.same in
     OnTrue_from c.sort_in_turn.result _ (λ is.
     let met = subst (λ (v : Position). AreMetInTurn v order) c.position.ensures (OnTrue_at is c.sort_in_turn.ensures.turn) in
-    apart-in_turn m c.args.point c.in_ok-spokes.spokes.items order c.in_ok-spokes.ensures moved met)
+    apart-in_turn m c.args.point c.in-Ok.spokes.items order c.in-Ok.ensures.strings moved met)

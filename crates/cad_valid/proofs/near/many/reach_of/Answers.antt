@@ -1,4 +1,4 @@
-use Rattle.std.proofs.Common.{subst, ℕ, List}
+use Rattle.std.proofs.Common.{subst}
 use Rattle.std.specs.List.{AllByRecursion}
 use Rattle.cad_valid.specs.Near.{OfPoint, OfString}
 use Rattle.cad_valid.specs.Seen.{HasInReach, lying_string, lying_point}

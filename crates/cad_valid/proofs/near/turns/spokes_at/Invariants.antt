@@ -1,6 +1,9 @@
-use Rattle.std.proofs.Common.{◌≡◌, ◌<◌, map, take}
-use Rattle.std.specs.Prelude.{IsPermutation}
+use Rattle.std.proofs.Common.{◌≡◌, ◌<◌, ℕ, Some, map, take}
+use Rattle.std.specs.Prelude.{IsPermutation, slice_get}
+use Rattle.std.specs.List.{Contains}
+use Rattle.cad_rows.specs.declared.rows.StringRow.{StringRow}
 use Rattle.cad_map.specs.Map.{strings_at}
+use Rattle.cad_map.specs.Stars.{spoke_of}
 use Rattle.cad_valid.specs.Rays.{ray_of, ray_along}
 use Rattle.cad_valid.proofs.near.turns.spokes_at.Given as goal
 
@@ -9,6 +12,7 @@ abbrev pub invariant-loop-place : goal.invariant-loop-place
 invariant-loop-place g l =
     let m = g.M.MapView.map l.map in
     let strings = g.M.MapView.view_strings l.map l.point in record {
-      seen : map ray_along l.spokes.items ≡ map (ray_of m l.point) (take l.place strings);
+      rays : map ray_along l.spokes.items ≡ map (ray_of m l.point) (take l.place strings);
+      seen : (k : ℕ) (s : StringRow) → k < l.place → slice_get strings k ≡ Some s → Contains l.spokes.items (spoke_of m k s l.point);
       each : 0 < l.place → IsPermutation (strings_at m l.point) strings;
     }
