@@ -1,5 +1,5 @@
 -- A division that is taken back, with its strings out of the table.
-use Rattle.std.proofs.Common.{◌≡◌, ◌≤◌, ◌<◌, ◌+◌, ◌*◌, ℕ, refl, sym, ap, subst, ◌∙◌, List, [], ◌∷◌, map, filter, length, true, false, if◌then◌else◌, arith}
+use Rattle.std.proofs.Common.{◌≡◌, ◌≤◌, ◌<◌, ◌+◌, ◌*◌, ℕ, refl, sym, ap, subst, ◌∙◌, List, [], ◌∷◌, map, filter, length, true, if◌then◌else◌, arith}
 use Rattle.std.specs.Prelude.{IsPermutation, Result, Ok, Err, OnOk}
 use Rattle.std.specs.List.{AllByRecursion, Contains}
 use Rattle.std.proofs.lemmas.List.{length-map}
@@ -20,12 +20,11 @@ use Rattle.cad_map.proofs.CallerLemmas.{CanDivide as IsAllowed, Contains-first, 
 use Rattle.half_table.specs.declared.half.Half.{Half}
 use Rattle.half_table.specs.Count.{greatest, ticked}
 use Rattle.half_table.specs.Half.{forward_of}
-use Rattle.half_table.specs.Rows.{Table, has, cycle}
+use Rattle.half_table.specs.Rows.{Table, has, cycle, next}
 use Rattle.half_paths.specs.Path.{AreDifferent, strings_of}
-use Rattle.half_paths.specs.Loose.{is_of}
+use Rattle.half_paths.specs.Loose.{is_of, AreLoose, DropsStrings}
 use Rattle.key_lists.specs.Held.{Held}
 use Rattle.cad_laws.specs.Counts.{sides_of_face}
-use Rattle.cad_laws.specs.Local.{IsShown}
 use Rattle.cad_laws.proofs.CallerLemmas.{divided-faces, whole-after}
 use Rattle.cad_laws.specs.Tried.{IsTried}
 use Rattle.cad_surgery.specs.declared.draft.Draft.TheInside.{Inside}
@@ -48,7 +47,8 @@ use Rattle.map_parts.specs.Chains.{IsChainOf}
 use Rattle.map_parts.specs.Dividing.{IsDividing, divided, rings_beside, CanBeginUndivide}
 use Rattle.cad_surgery.specs.Divisions.{divided_by, strings_across, IsDividedBy}
 use Rattle.map_parts.proofs.ChainRings.{first-on}
-use Rattle.cad_surgery.proofs.LooseBeside.{either}
+use Rattle.cad_surgery.proofs.LooseBeside as unseen
+use Rattle.cad_surgery.proofs.LooseBeside.{AreHidden, more-beside}
 use Rattle.cad_surgery.proofs.DraftFits.{draft-fits, draft-all, draft-work}
 use Rattle.cad_surgery.proofs.NamedRings.{named-on, named-rings, named-once}
 use Rattle.cad_surgery.proofs.RingLengths.{face-lengths}
@@ -169,8 +169,11 @@ module _ {T : Type 0} (inside : Inside T) {v : Parts} (view : parts-in inside �
       (divides.along m d.face d.strings.now (strings_across d) d.parcel path is_it table.rows ends))
       moved moved_are moved_once
 
-  more : HasStringsMore m now path
-  more = divides.more m d.face d.strings.now (strings_across d) d.parcel path is_it
+  more : HasStringsMore m now whole_path
+  more = subst (HasStringsMore m now) (sym parted) (divides.more m d.face d.strings.now (strings_across d) d.parcel path is_it)
+
+  differ : AreDifferent whole_path
+  differ = subst AreDifferent (sym parted) (divides.different m d.face d.strings.now (strings_across d) d.parcel path is_it)
 
   module _ {new : MapRows} (t : Table) {put : Held Half} {wide : Held Spoke} where
     -- where memory ran out
@@ -187,16 +190,15 @@ module _ {T : Type 0} (inside : Inside T) {v : Parts} (view : parts-in inside �
       pub gone-back : GoWith m new t put wide
       gone-back = record { whole = whole_old; fits = each begins }
 
-      pub strings-beside : (g : Half) → has t.rows g ≡ (if is_of (strings_of whole_path) g then true else has_string m g.string)
-      strings-beside g =
-          has_same g ∙ all g ∙ more.all g ∙ sym (either (is_of (strings_of path) g) (has_string m g.string))
-          ∙ ap (λ (l : List Half). if is_of (strings_of l) g then true else has_string m g.string) (sym parted)
+      beside : (g : Half) → has t.rows g ≡ (if is_of (strings_of whole_path) g then true else has_string m g.string)
+      beside = more-beside more t.rows (λ g. has_same g ∙ all g)
 
-  pub strings-new : (g : Half) → IsShown m g → is_of (strings_of whole_path) g ≡ false
-  strings-new = subst (λ (l : List Half). (g : Half) → IsShown m g → is_of (strings_of l) g ≡ false) (sym parted) more.new
+      pub hidden-now : AreLoose (next t.rows) (first ∷ others) → AreHidden whole_path (parts new t put wide grid)
+      hidden-now loose = unseen.hidden-now whole_path gone-back beside more.new grid differ (subst (AreLoose (next t.rows)) (sym parted) loose)
 
-  pub strings-differ : AreDifferent whole_path
-  strings-differ = subst AreDifferent (sym parted) (divides.different m d.face d.strings.now (strings_across d) d.parcel path is_it)
+      pub back-rest : (p : Parts) → FitTogether p → map_of p ≡ map_of (parts new t put wide grid) → DropsStrings whole_path t.rows p.table.rows
+          → IsProper (map_of p) p.table.rows (kept_at p)
+      back-rest = unseen.hidden-gone whole_path gone-back beside more.new grid
 
   pub back-work : table.work ≤ greatest → (t u : Table)
       → t.work ≡ ticked (cycles_length table.rows moved + (length (cycle table.rows first) + (length others + 2) + (2 + 2 * length others))) table.work

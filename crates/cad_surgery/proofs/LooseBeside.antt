@@ -1,6 +1,6 @@
 -- Loose strings beside a map's own in a table that goes with it: no look at the map sees them, and
 -- when they are out the table is at rest.
-use Rattle.std.proofs.Common.{◌≡◌, ◌∙◌, refl, ap, subst, List, Bool, true, false, ◌||◌, if◌then◌else◌, true≢false}
+use Rattle.std.proofs.Common.{◌≡◌, ◌∙◌, refl, sym, ap, subst, List, Bool, true, false, ◌||◌, if◌then◌else◌, true≢false}
 use Rattle.std.specs.Prelude.{nat_eq}
 use Rattle.std.proofs.lemmas.Cmp.{nat_eq_equiv}
 use Rattle.cad_map.specs.Map.{Map, has_string}
@@ -8,7 +8,7 @@ use Rattle.cad_map.specs.Rings.{HasWholeRings}
 use Rattle.cad_map.proofs.CallerLemmas.{All-from_each, Contains-map, list_any-Contains}
 use Rattle.cell_grid.specs.Grid.{Grid}
 use Rattle.half_table.specs.declared.half.Half.{Half}
-use Rattle.half_table.specs.Rows.{Table, has, next}
+use Rattle.half_table.specs.Rows.{HalfRows, Table, has, next}
 use Rattle.half_paths.specs.Path.{AreIn, AreDifferent, strings_of}
 use Rattle.half_paths.specs.Loose.{is_of, AreLoose, DropsStrings}
 use Rattle.key_lists.specs.Held.{Held}
@@ -16,6 +16,7 @@ use Rattle.cad_laws.specs.Local.{IsShown}
 use Rattle.map_parts.specs.declared.map_rows.MapRows.{MapRows}
 use Rattle.map_parts.specs.declared.stars.Spoke.{Spoke}
 use Rattle.map_parts.specs.Parts.{Parts, FitTogether, map_of, kept_at}
+use Rattle.map_parts.specs.Paths.{HasStringsMore}
 use Rattle.cad_surgery.specs.Proper.{IsProper}
 use Rattle.cad_surgery.proofs.DraftFits.{settled}
 use Rattle.cad_surgery.proofs.FitParts.{parts, GoWith, stand-for, still-whole}
@@ -37,6 +38,11 @@ come-and-gone false has none = refl
 pub either : (b has : Bool) → (if b then true else has) ≡ (b || has)
 either true has = refl
 either false has = refl
+
+-- a table with a map's strings alone has those that it has more than another one beside that one's
+pub more-beside : {m now : Map} {path : List Half} → HasStringsMore m now path → (rows : HalfRows) → ((g : Half) → has rows g ≡ has_string now g.string)
+    → (g : Half) → has rows g ≡ (if is_of (strings_of path) g then true else has_string m g.string)
+more-beside {m} {path = path} more rows own g = own g ∙ more.all g ∙ sym (either (is_of (strings_of path) g) (has_string m g.string))
 
 module _ (path : List Half) {m : Map} {rows : MapRows} {table : Table} {held : Held Half} {stars : Held Spoke} (it : GoWith m rows table held stars)
     (halves : (g : Half) → has table.rows g ≡ (if is_of (strings_of path) g then true else has_string m g.string)) where

@@ -1,5 +1,5 @@
 -- An enclosure taken back on the parts of a map on half-edges, to rest.
-use Rattle.std.proofs.Common.{◌≡◌, ◌≤◌, ◌+◌, ℕ, refl, sym, ap, subst, ◌∙◌, List, ◌∷◌, map, length, true, false, if◌then◌else◌, arith}
+use Rattle.std.proofs.Common.{◌≡◌, ◌≤◌, ◌+◌, ℕ, refl, sym, ap, subst, ◌∙◌, List, ◌∷◌, map, length, true, if◌then◌else◌, arith}
 use Rattle.std.proofs.lemmas.List.{length-map}
 use Rattle.cad_rows.specs.declared.names.Face.TheVariants.{Parcel}
 use Rattle.cad_rows.specs.declared.rows.StringRow.{StringRow}
@@ -13,11 +13,10 @@ use Rattle.cad_map.proofs.CallerLemmas.{whole_valid}
 use Rattle.half_table.specs.declared.half.Half.{Half}
 use Rattle.half_table.specs.Count.{greatest, ticked}
 use Rattle.half_table.specs.Half.{forward_of, twin}
-use Rattle.half_table.specs.Rows.{Table, has, cycle}
+use Rattle.half_table.specs.Rows.{Table, has, cycle, next}
 use Rattle.half_paths.specs.Path.{AreDifferent, strings_of}
-use Rattle.half_paths.specs.Loose.{is_of}
+use Rattle.half_paths.specs.Loose.{is_of, AreLoose, DropsStrings}
 use Rattle.key_lists.specs.Held.{Held}
-use Rattle.cad_laws.specs.Local.{IsShown}
 use Rattle.cad_laws.specs.Tried.{IsTried}
 use Rattle.cad_laws.proofs.CallerLemmas.{whole-after}
 use Rattle.cad_surgery.specs.declared.draft.Draft.TheInside.{Inside}
@@ -28,6 +27,7 @@ use Rattle.map_parts.specs.Enclosing.{IsEnclosing, CanBeginOpen, enclosed}
 use Rattle.cad_surgery.specs.Enclosures.{LeadsBy, enclosed_by, strings_by}
 use Rattle.edit_records.specs.HeldChains.{HeldIsland}
 use Rattle.map_parts.specs.Placed.{AreOfHoles}
+use Rattle.map_parts.specs.Paths.{HasStringsMore}
 use Rattle.map_parts.specs.Parts.{Parts, FitTogether, map_of, kept_at}
 use Rattle.cad_surgery.specs.Proper.{IsProper}
 use Rattle.map_parts.specs.Relabelled.{cycles_length}
@@ -37,7 +37,8 @@ use Rattle.cad_surgery.proofs.DraftFits.{draft-fits, draft-all, draft-work}
 use Rattle.cad_surgery.proofs.EnclosedWork.{outer-long}
 use Rattle.map_parts.proofs.Enclosing as encloses
 use Rattle.cad_surgery.proofs.FitParts.{parts, parts-in, GoWith, at-rest}
-use Rattle.cad_surgery.proofs.LooseBeside.{either}
+use Rattle.cad_surgery.proofs.LooseBeside as unseen
+use Rattle.cad_surgery.proofs.LooseBeside.{AreHidden, more-beside}
 use Rattle.cad_surgery.proofs.HeldEnclosures.{holes-named, named-rings, named-length}
 use Rattle.cad_surgery.proofs.WorkTaken.{work-allowed, ticks-just, ticks-then}
 
@@ -114,6 +115,12 @@ module _ {T : Type 0} (inside : Inside T) {v : Parts} (view : parts-in inside �
     moved_are = named-rings old e.face e.strings.now added e.parcel path is_it table.rows fits.fits.ends moved leads_by.held;
   }
 
+  more : HasStringsMore old made whole_path
+  more = subst (HasStringsMore old made) (sym parted) (encloses.more old e.face e.strings.now added e.parcel path is_it)
+
+  differ : AreDifferent whole_path
+  differ = subst AreDifferent (sym parted) (encloses.different old e.face e.strings.now added e.parcel path is_it)
+
   module _ {new : MapRows} (t : Table) {put : Held Half} {wide : Held Spoke} where
     -- where memory ran out
     module _ (each : (c : CanBeginOpen e.face e.strings.now e.parcel path moved rows table.rows held stars) → FitMap (enclosed c.is) new t.rows put wide) where
@@ -129,18 +136,15 @@ module _ {T : Type 0} (inside : Inside T) {v : Parts} (view : parts-in inside �
       pub gone-back : GoWith old new t put wide
       gone-back = record { whole = whole_old; fits = each begins }
 
-      pub strings-beside : (g : Half) → has t.rows g ≡ (if is_of (strings_of whole_path) g then true else has_string old g.string)
-      strings-beside g =
-          has_same g ∙ all g ∙ (encloses.more old e.face e.strings.now added e.parcel path is_it).all g ∙ sym (either (is_of (strings_of path) g) (has_string old g.string))
-          ∙ ap (λ (l : List Half). if is_of (strings_of l) g then true else has_string old g.string) (sym parted)
+      beside : (g : Half) → has t.rows g ≡ (if is_of (strings_of whole_path) g then true else has_string old g.string)
+      beside = more-beside more t.rows (λ g. has_same g ∙ all g)
 
-  pub strings-new : (g : Half) → IsShown old g → is_of (strings_of whole_path) g ≡ false
-  strings-new =
-      subst (λ (l : List Half). (g : Half) → IsShown old g → is_of (strings_of l) g ≡ false) (sym parted)
-      (encloses.more old e.face e.strings.now added e.parcel path is_it).new
+      pub hidden-now : AreLoose (next t.rows) (first ∷ others) → AreHidden whole_path (parts new t put wide grid)
+      hidden-now loose = unseen.hidden-now whole_path gone-back beside more.new grid differ (subst (AreLoose (next t.rows)) (sym parted) loose)
 
-  pub strings-differ : AreDifferent whole_path
-  strings-differ = subst AreDifferent (sym parted) (encloses.different old e.face e.strings.now added e.parcel path is_it)
+      pub back-rest : (p : Parts) → FitTogether p → map_of p ≡ map_of (parts new t put wide grid) → DropsStrings whole_path t.rows p.table.rows
+          → IsProper (map_of p) p.table.rows (kept_at p)
+      back-rest = unseen.hidden-gone whole_path gone-back beside more.new grid
 
   abbrev back_ticks : ℕ
   back_ticks = cycles_length table.rows moved + (length (cycle table.rows (twin first)) + (length others + 1))

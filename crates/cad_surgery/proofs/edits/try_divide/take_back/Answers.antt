@@ -1,11 +1,8 @@
-use Rattle.std.proofs.Common.{◌∙◌, ap, sym, subst}
-use Rattle.half_table.specs.Rows.{next}
-use Rattle.half_paths.specs.Loose.{AreLoose}
+use Rattle.std.proofs.Common.{◌∙◌, ap, sym}
 use Rattle.map_parts.specs.Parts.{Parts}
 use Rattle.cad_surgery.proofs.DividedBack as back
-use Rattle.cad_surgery.proofs.FitParts.{together, stand-for, still-whole}
+use Rattle.cad_surgery.proofs.FitParts.{together, stand-for}
 use Rattle.cad_surgery.proofs.GridSteps.{stood}
-use Rattle.cad_surgery.proofs.LooseBeside.{hidden-in, hidden-off, hidden-gone}
 use Rattle.cad_surgery.proofs.Trials.{stays-made}
 use Rattle.cad_surgery.proofs.edits.try_divide.take_back.Goals as goal
 
@@ -41,40 +38,12 @@ invariant_of-draft-2 g c =
     c.requires.beside.proper c.requires.path c.first_and_rest.ensures c.begin_undivide.new.table
     c.in_ok-begin_undivide.ensures.fits c.begin_undivide.ensures.has)
 
-pub drop_hidden-requires-clause-whole : goal.drop_hidden-requires-clause-whole
-drop_hidden-requires-clause-whole g c =
-    still-whole c.draft.inside.grid (back.gone-back c.draft.inside c.draft.view_is c.draft.invariant c.requires.beside.made.1
+pub drop_hidden-requires : goal.drop_hidden-requires
+drop_hidden-requires g c =
+    let now = back.hidden-now c.draft.inside c.draft.view_is c.draft.invariant c.requires.beside.made.1
     c.requires.beside.proper c.requires.path c.first_and_rest.ensures c.begin_undivide.new.table
-    c.in_ok-begin_undivide.ensures.fits c.begin_undivide.ensures.has)
-
-pub drop_hidden-requires-clause-within : goal.drop_hidden-requires-clause-within
-drop_hidden-requires-clause-within g c =
-    hidden-in _ (back.gone-back c.draft.inside c.draft.view_is c.draft.invariant c.requires.beside.made.1
-    c.requires.beside.proper c.requires.path c.first_and_rest.ensures c.begin_undivide.new.table
-    c.in_ok-begin_undivide.ensures.fits c.begin_undivide.ensures.has) (back.strings-beside c.draft.inside c.draft.view_is c.draft.invariant c.requires.beside.made.1
-    c.requires.beside.proper c.requires.path c.first_and_rest.ensures c.begin_undivide.new.table
-    c.in_ok-begin_undivide.ensures.fits c.begin_undivide.ensures.has)
-
-pub drop_hidden-requires-clause-different : goal.drop_hidden-requires-clause-different
-drop_hidden-requires-clause-different g c =
-    back.strings-differ c.draft.inside c.draft.view_is c.draft.invariant c.requires.beside.made.1
-    c.requires.beside.proper c.requires.path c.first_and_rest.ensures
-
-pub drop_hidden-requires-clause-loose : goal.drop_hidden-requires-clause-loose
-drop_hidden-requires-clause-loose g c =
-    subst (AreLoose (next c.begin_undivide.new.table.rows)) (sym c.first_and_rest.ensures)
-    c.in_ok-begin_undivide.ensures.loose
-
-pub drop_hidden-requires-clause-hidden : goal.drop_hidden-requires-clause-hidden
-drop_hidden-requires-clause-hidden g c =
-    hidden-off _ (back.gone-back c.draft.inside c.draft.view_is c.draft.invariant c.requires.beside.made.1
-    c.requires.beside.proper c.requires.path c.first_and_rest.ensures c.begin_undivide.new.table
-    c.in_ok-begin_undivide.ensures.fits c.begin_undivide.ensures.has)
-    (back.strings-beside c.draft.inside c.draft.view_is c.draft.invariant c.requires.beside.made.1
-    c.requires.beside.proper c.requires.path c.first_and_rest.ensures c.begin_undivide.new.table
-    c.in_ok-begin_undivide.ensures.fits c.begin_undivide.ensures.has)
-    (back.strings-new c.draft.inside c.draft.view_is c.draft.invariant c.requires.beside.made.1
-    c.requires.beside.proper c.requires.path c.first_and_rest.ensures) c.draft.inside.grid
+    c.in_ok-begin_undivide.ensures.fits c.begin_undivide.ensures.has c.in_ok-begin_undivide.ensures.loose in
+    record { whole = now.whole; within = now.within; different = now.different; loose = now.loose; hidden = now.hidden }
 
 pub returns : goal.returns
 returns g c = record {
@@ -84,14 +53,9 @@ returns g c = record {
       c.begin_undivide.new.table c.in_ok-begin_undivide.ensures.fits c.begin_undivide.ensures.has);
   err = tt;
   grid = ap (λ (d : Parts). d.grid) c.drop_hidden.ensures.parts ∙ ap (λ (d : Parts). d.grid) c.draft.view_is;
-  proper = hidden-gone _ (back.gone-back c.draft.inside c.draft.view_is c.draft.invariant c.requires.beside.made.1
+  proper = back.back-rest c.draft.inside c.draft.view_is c.draft.invariant c.requires.beside.made.1
       c.requires.beside.proper c.requires.path c.first_and_rest.ensures c.begin_undivide.new.table
-      c.in_ok-begin_undivide.ensures.fits c.begin_undivide.ensures.has)
-      (back.strings-beside c.draft.inside c.draft.view_is c.draft.invariant c.requires.beside.made.1
-      c.requires.beside.proper c.requires.path c.first_and_rest.ensures c.begin_undivide.new.table
-      c.in_ok-begin_undivide.ensures.fits c.begin_undivide.ensures.has)
-      (back.strings-new c.draft.inside c.draft.view_is c.draft.invariant c.requires.beside.made.1
-      c.requires.beside.proper c.requires.path c.first_and_rest.ensures) c.draft.inside.grid _ c.drop_hidden.ensures.fit c.drop_hidden.ensures.map c.drop_hidden.ensures.drops;
+      c.in_ok-begin_undivide.ensures.fits c.begin_undivide.ensures.has _ c.drop_hidden.ensures.fit c.drop_hidden.ensures.map c.drop_hidden.ensures.drops;
   work = λ m made. back.back-work c.draft.inside c.draft.view_is c.draft.invariant made
       c.requires.beside.proper c.requires.path c.first_and_rest.ensures
       c.is_work_in_range.ensures c.begin_undivide.new.table c.drop_hidden.new.draft.table
