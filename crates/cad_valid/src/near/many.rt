@@ -13,7 +13,7 @@ ghost use Rattle.cad_valid.specs.Placed.{placed_point as placed_point_of};
 ghost use Rattle.cad_valid.specs.Seen.{IsInReach, HasInReach};
 ghost use Rattle.cad_valid.specs.Seen.{lying_string as lying_string_of, lying_point as lying_point_of};
 ghost use Rattle.cad_valid.specs.Many.{HasTouchedIn, AreNamed, HasAllIn, AreAllNear};
-ghost use Rattle.cad_valid.specs.Many.{LeadApart, HasSpokesOf, AreGroupsIn, AreRegroupedIn, PassInGroups};
+ghost use Rattle.cad_valid.specs.Many.{LeadApart, AreGroupsIn, AreRegroupedIn, PassInGroups};
 ghost use Rattle.cad_valid.specs.Many.{is_string_of as is_string_of_in};
 
 use crate::boxes::boxes_of;
@@ -23,7 +23,7 @@ use crate::near::seen::{Reach, grown};
 use crate::near::turns::spokes_at;
 use crate::placed::{Placed, placed_point, placed_string};
 use crate::swept::{Uncrossed, is_point};
-use cad_map::{MapView, Spoke, far_end, position, sort_in_turn};
+use cad_map::{MapView, position, sort_in_turn};
 use cad_rows::{PointNo, StringNo};
 use cell_grid::CellGrid;
 use std::alloc::Global;
