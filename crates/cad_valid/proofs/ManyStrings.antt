@@ -20,7 +20,7 @@ use Rattle.cad_map.specs.Touched.{Touched}
 use Rattle.cad_map.specs.Turn.{AreMetInTurn}
 use Rattle.cad_map.specs.Valid.{HasSoundRows, MeetAtEnds, LiesOnlyAsEnd}
 use Rattle.cad_map.specs.declared.stars.Spoke.{Spoke}
-use Rattle.cad_map.proofs.CallerLemmas.{All-at_each, All-from_each, Contains-filter, meet-at_end}
+use Rattle.cad_map.proofs.CallerLemmas.{All-at_each, All-from_each, Contains-filter, meet-at_end, take-more}
 use Rattle.cad_valid.specs.declared.near.seen.Reach.{Reach}
 use Rattle.cad_valid.specs.declared.placed.Placed.{Placed}
 use Rattle.cad_valid.specs.Boxes.{box_of}
@@ -34,7 +34,7 @@ use Rattle.cad_valid.specs.Swept.{is_point, have_no_crossing}
 use Rattle.cad_valid.proofs.BoxesOfMap.{overlap-common}
 use Rattle.cad_valid.proofs.HubFacts.{two-among, two-only_start}
 use Rattle.cad_valid.proofs.PlacedStrings.{is_only_end-is}
-use Rattle.cad_valid.proofs.SeenNear.{string-gathered, no_string-gathered}
+use Rattle.cad_valid.proofs.SeenNear.{one_more, string-gathered, no_string-gathered}
 use Rattle.cad_valid.proofs.SightOfMap.{wider, in_reach}
 use Rattle.cad_valid.proofs.SweptPairs.{get-first, get-second, get-mapped, passed-pair}
 use Rattle.cad_valid.proofs.SweptRules.{string_on, point_on, strings_passed, point_string, string_point, meet-exchanged, point_is}
@@ -66,6 +66,19 @@ module _ (m : Map) (sound : HasSoundRows m) (numbers : List ℕ) (k n : ℕ) whe
     are = before.are;
     all = no_string-gathered m sound (λ (s : StringRow). (s.number, placed_string m s)) before.named numbers k n at none before.all;
   }
+
+-- a number that is named twice in a row names what it named before
+pub named-again : (m : Map) (numbers : List ℕ) (j k n : ℕ) (items : List Placed) → k ≡ j + 1 → slice_get numbers j ≡ Some n → slice_get numbers k ≡ Some n
+    → AreNamed m (take k numbers) items → AreNamed m (take (k + 1) numbers) items
+named-again m numbers j k n items next first second before = record {
+  named = before.named;
+  are = before.are;
+  all =
+      let P = OfString m (λ s. Contains before.named (s.number, placed_string m s)) in
+      one_more P numbers k n second before.all
+      (All-at_each P (take k numbers) n before.all
+      (subst (λ (l : List ℕ). Contains l n) (take-more numbers j n first ∙ ap (λ (i : ℕ). take i numbers) (sym next)) (Contains-push (take j numbers) n)));
+}
 
 -- what lies in a box lies in a wider one
 module _ (m : Map) (r q : Reach) (wide : (p : Position) → IsInReach r p → IsInReach q p) where

@@ -1,10 +1,10 @@
-use Rattle.std.proofs.Common.{◌≡◌, ◌∙◌, ◌+◌, ◌++◌, ◌∷◌, [], List, Some, refl, sym, ap, subst, take}
-use Rattle.std.proofs.lemmas.Option.{slice_get_read}
+use Rattle.std.proofs.Common.{◌≡◌, ◌<◌, ◌-◌, length, eqb-true, arith, ◌∙◌, ◌+◌, ◌++◌, ◌∷◌, [], List, Some, refl, sym, ap, subst, take}
+use Rattle.std.proofs.lemmas.Option.{slice_get_read, slice_get-get_or}
 use Rattle.std.specs.Prelude.{slice_get}
 use Rattle.cad_valid.specs.declared.placed.Placed.{Placed}
 use Rattle.cad_valid.specs.Many.{AreNamed}
 use Rattle.cad_valid.proofs.GrownLists.{where_ok}
-use Rattle.cad_valid.proofs.ManyStrings.{named-more, named-none}
+use Rattle.cad_valid.proofs.ManyStrings.{named-more, named-none, named-again}
 use Rattle.cad_valid.proofs.RowsByNumber.{string-placed}
 use Rattle.cad_valid.proofs.near.many.placed_strings.Goals as goal
 use Rattle.cad_valid.proofs.near.many.placed_strings.Goals.{in-Some+in_ok-ok, in_default}
@@ -31,3 +31,18 @@ loop-place-preserved g c =
           subst (λ (l : List Placed). AreNamed m (take (k + 1) numbers) l) (sym (ap (λ v. v.items) w.items-is))
           (named-none m c.requires.v1 numbers k n before at (sym w.in_default.ensures) c.loop-place.invariant)
     ]
+
+pub loop-place-preserved-then-eq : goal.loop-place-preserved-then-eq
+loop-place-preserved-then-eq g c =
+    let numbers = c.args.numbers.now in
+    let k = c.loop-place.place in
+    let before = c.index-numbers-place.result in
+    let n = c.index-numbers-place-then-place-gt0.result in
+    let same : before ≡ n = eqb-true before n (sym c.eq.ensures ∙ c.if-eq.true) in
+    let more : 0 < k = c.if-place-gt0.true in
+    let end : k < length numbers = c.loop-place-test.true in
+    let next : k ≡ k - 1 + 1 = omega arith in
+    let earlier : k - 1 < length numbers = omega arith in
+    named-again (g.M.MapView.map c.args.map.now) numbers (k - 1) k n c.loop-place.items.items next
+    (slice_get-get_or numbers (k - 1) before earlier ∙ ap Some (sym c.index-numbers-place.is ∙ same))
+    (slice_get-get_or numbers k n end ∙ ap Some (sym c.index-numbers-place-then-place-gt0.is)) c.loop-place.invariant
