@@ -3,8 +3,6 @@ use Rattle.std.proofs.Common.{◌≡◌, ℕ, ◌+◌, inl, inr, not, Bool, fals
 use Rattle.std.specs.List.{AllByRecursion, Contains}
 use Rattle.std.proofs.lemmas.List.Elements.{Contains-append_left, Contains-append_cases}
 use Rattle.cad_rows.specs.declared.edits.Edit.{Edit}
-use Rattle.cad_rows.specs.declared.edits.Edit.TheVariants.{Divide}
-use Rattle.cad_rows.specs.declared.names.Face.{Face}
 use Rattle.cad_rows.specs.declared.names.Face.TheVariants.{Parcel}
 use Rattle.cad_rows.specs.declared.rows.StringRow.{StringRow}
 use Rattle.cad_rings.specs.Cycle.{Side, has_side, opposite, sides_of}
@@ -223,8 +221,3 @@ module _ {T : Type 0} (inside : Inside T) {v : Parts} (view : parts-in inside �
       (crossing (map_of v) d again-tried inside.table.rows
       (draft-fits inside.rows inside.table inside.kept inside.stars inside.grid v view fit (whole_valid (map_of v) it.valid)).fits.ends cut.start cut.end cut.moved.now
       (subst (λ (e : Edit). HeldChain (after (map_of v) e) (Parcel d.parcel) d.points.now cut.start cut.end cut.moved.now) same (told (map_of v) it.holds)))
-
--- the same division by the same lists
-pub same-lists : (face : Face) (parcel : ℕ) (label : List ℕ) (source : ℕ) (chain points strings along : List ℕ) → chain ≡ points → strings ≡ along
-    → Divide face chain strings parcel label source ≡ Divide face points along parcel label source
-same-lists face parcel label source chain points strings along a b = λ i. Divide face (a i) (b i) parcel label source

@@ -1,7 +1,9 @@
 //! What a division or an enclosure gives: the halves along its strings, and what its record keeps.
 ghost use Rattle.std.specs.Prelude.{◌≡◌, ◌<◌, ◌∷◌, length, map as map_by, IfOk};
 ghost use Rattle.half_table.specs.Half.{forward_of};
-ghost use Rattle.cad_surgery.specs.Enclosures.{parcel_by};
+ghost use Rattle.cad_rows.specs.declared.edits.Edit.TheVariants.{Divide, Enclose};
+ghost use Rattle.cad_surgery.specs.Divisions.{divided_by};
+ghost use Rattle.cad_surgery.specs.Enclosures.{enclosed_by, parcel_by};
 
 use cad_rows::{Face, Label, Memory, Numbers, ParcelNo, ParcelRow, PointNo, SourceNo, StringNo};
 use half_table::Half;
@@ -61,8 +63,8 @@ pub(crate) struct Kept {
     pub(crate) label: Label,
 }
 
-/// Copies of what an edit gives.
-pub(crate) fn kept_of(
+// Copies of what an edit gives.
+fn kept_of(
     points: &Numbers<PointNo>,
     strings: &Numbers<StringNo>,
     label: &Label,
@@ -75,4 +77,42 @@ pub(crate) fn kept_of(
         strings: strings.copy()?,
         label: label.copy()?,
     })
+}
+
+/// What a division or an enclosure names and gives, with what its record keeps of it.
+#[derive(Drop)]
+pub(crate) struct Given<'a> {
+    pub(crate) new: NewParcel<'a>,
+    pub(crate) kept: Kept,
+}
+
+/// What an edit gives, and copies of it.
+pub(crate) fn given_by<'a>(
+    face: Face,
+    points: &'a Numbers<PointNo>,
+    strings: &'a Numbers<StringNo>,
+    parcel: ParcelNo,
+    label: &'a Label,
+    source: SourceNo,
+) -> Result<Given<'a>, Memory>
+    ensures divides { IfOk result (λ g. divided_by g.new
+        ≡ Divide face points.now strings.now parcel label.now source) }
+    ensures encloses { IfOk result (λ g. enclosed_by g.new
+        ≡ Enclose face points.now strings.now parcel label.now source) }
+    ensures kept { IfOk result (λ g. g.kept ≡ record {
+      points = g.new.points.now;
+      strings = g.new.strings.now;
+      label = g.new.label.now;
+    }) }
+{
+    let kept = kept_of(points, strings, label)?;
+    let new = NewParcel {
+        face,
+        points: points.as_slice(),
+        strings: strings.as_slice(),
+        parcel,
+        label,
+        source,
+    };
+    Ok(Given { new, kept })
 }

@@ -20,7 +20,7 @@ use crate::draft::Draft;
 use crate::edits::adding::{Course, add_again, add_within_rules};
 use crate::edits::counted::is_work_in_range;
 use crate::edits::crossing::{Crossing, crossing_of};
-use crate::edits::given::{Kept, NewParcel, first_and_rest, halves_of, kept_of, parcel_of};
+use crate::edits::given::{Given, Kept, NewParcel, first_and_rest, given_by, halves_of, parcel_of};
 use crate::edits::hidden::drop_hidden;
 use crate::edits::merging::Way;
 use cad_edit::rows_along;
@@ -277,19 +277,9 @@ pub(crate) fn try_divide<'a, T: Tally>(
     ensures { IsTrialOf (Divide face chain.now strings.now parcel label.now source)
         draft.old draft.new result }
 {
-    is_work_in_range(&draft.table);
-    let Ok(kept) = kept_of(chain, strings, label) else {
+    let Ok(given) = given_by(face, chain, strings, parcel, label, source) else {
         return Err(Refusal::Memory);
     };
-    let points = chain.as_slice();
-    let along = strings.as_slice();
-    let division = NewParcel {
-        face,
-        points,
-        strings: along,
-        parcel,
-        label,
-        source,
-    };
-    divide_recording(draft, &division, kept, touched)
+    let Given { new, kept } = given;
+    divide_recording(draft, &new, kept, touched)
 }

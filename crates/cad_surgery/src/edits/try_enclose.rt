@@ -15,7 +15,7 @@ ghost use Rattle.cad_surgery.specs.Trials.{IsReadyFor, IsTrialOf, IsMade, Stands
 use crate::draft::Draft;
 use crate::edits::adding::{Course, add_again, add_within_rules};
 use crate::edits::counted::is_work_in_range;
-use crate::edits::given::{Kept, NewParcel, first_and_rest, halves_of, kept_of, parcel_of};
+use crate::edits::given::{Given, Kept, NewParcel, first_and_rest, given_by, halves_of, parcel_of};
 use crate::edits::hidden::drop_hidden;
 use crate::edits::merging::Way;
 use crate::edits::moved::moved_halves;
@@ -238,19 +238,9 @@ pub(crate) fn try_enclose<'a, T: Tally>(
     ensures { IsTrialOf (Enclose face points.now strings.now parcel label.now source)
         draft.old draft.new result }
 {
-    is_work_in_range(&draft.table);
-    let Ok(kept) = kept_of(points, strings, label) else {
+    let Ok(given) = given_by(face, points, strings, parcel, label, source) else {
         return Err(Refusal::Memory);
     };
-    let ring = points.as_slice();
-    let along = strings.as_slice();
-    let enclosure = NewParcel {
-        face,
-        points: ring,
-        strings: along,
-        parcel,
-        label,
-        source,
-    };
-    enclose_recording(draft, &enclosure, kept, touched)
+    let Given { new, kept } = given;
+    enclose_recording(draft, &new, kept, touched)
 }
