@@ -59,7 +59,18 @@ fn face_out<M: MapView>(map: &M, point: PointNo, string: &StringRow) -> Face
     }
 }
 
-/// The faces of the rings that pass a point: each ring leaves it along one of its strings.
+/// These faces, each named once. It takes no memory.
+fn each_once(faces: Vec<Face>) -> Vec<Face>
+    ensures { (f : FaceOf) → Contains faces.items f → Contains result.items f }
+{
+    let mut once = faces;
+    once.sort_unstable();
+    once.dedup_by(|a, b| is_face(a, b));
+    once
+}
+
+/// The faces of the rings that pass a point, each named once: each ring leaves it along one of its
+/// strings, and a face may lie between many of these.
 pub(crate) fn faces_at<M: MapView>(
     alloc: Global,
     map: &M,
@@ -74,7 +85,7 @@ pub(crate) fn faces_at<M: MapView>(
         let row = string_at(map, point, place);
         faces.push(face_out(map, point, row))?;
     }
-    Ok(faces)
+    Ok(each_once(faces))
 }
 
 /// The numbers of the strings at a point.

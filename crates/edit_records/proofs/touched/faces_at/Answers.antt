@@ -39,6 +39,6 @@ returns g c b among has =
     let strings = g.M.MapView.view_strings c.args.map.now c.args.point in
     let leaves = leaves-along m c.requires c.args.point b among has in
     let past : length (strings_at m c.args.point) ≤ c.loop-place.place = subst (λ (n : ℕ). n ≤ c.loop-place.place) c.degree-place-end.ensures c.loop-place-test.false in
-    c.loop-place.invariant.faces leaves.string
+    c.each_once.ensures b.face (c.loop-place.invariant.faces leaves.string
     (Contains-permutation (strings_at m c.args.point) (take c.loop-place.place strings) leaves.string (all-told m c.args.point strings c.loop-place.place past c.loop-place.invariant.each) leaves.there)
-    b among leaves.out
+    b among leaves.out)
