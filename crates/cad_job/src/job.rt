@@ -82,7 +82,7 @@ fn store_of(alloc: Global, hash: NumberHash, rows: PlanRows) -> Result<HalfMap<T
     let built = build(alloc, hash, &rows);
     drop(rows);
     let map = built?;
-    match HalfMap::of(alloc, &map, Ticks::new()) {
+    match HalfMap::from_map(alloc, map, Ticks::new()) {
         Ok(store) => Ok(store),
         Err(_) => Err(PlanFault::Memory),
     }

@@ -16,6 +16,7 @@ pub mod Views
 pub mod Walk
 pub mod Crossings
 pub mod Rings
+pub mod RowTables
 pub mod Outline
 pub mod Steps
 pub mod SharedChains

@@ -11,6 +11,7 @@ mod outlines;
 mod plain;
 mod retired;
 mod rings;
+mod row_tables;
 mod shared_chain;
 mod stars;
 mod store;
@@ -26,6 +27,7 @@ pub use look::{far_end, is_end, is_face};
 pub use outlines::outline;
 pub use plain::PlainMap;
 pub use rings::{has_face, position, ring_count, ring_sum, sum_round};
+pub use row_tables::RowTables;
 pub use shared_chain::{
     SharedChain, find_chain_of_sides, find_shared_chain, has_shared_chain, is_shared, shared_count,
 };

@@ -3,6 +3,7 @@ ghost use Rattle.std.specs.Prelude.{◌≡◌, ◌≤◌, ◌++◌, ◌∷◌, [
 ghost use Rattle.std.specs.List.{AllByRecursion};
 ghost use Rattle.cad_map.specs.Boundaries.{canonical_order};
 ghost use Rattle.cad_map.specs.Map.{empty_map, rings_at, source_of, point_of, parcel_of, string_of};
+ghost use Rattle.cad_map.specs.RowTables.{rows_of_tables};
 ghost use Rattle.cad_map.specs.Table.{without_row, with_row};
 ghost use Rattle.cad_map.specs.Valid.{IsValid};
 
@@ -10,6 +11,7 @@ use crate::boundary::Boundary;
 use crate::canonical::in_canonical_order;
 use crate::look;
 use crate::retired::Retired;
+use crate::row_tables::RowTables;
 use crate::store::{Counts, MapView};
 use crate::table::{Numbered, Table};
 use cad_rows::{
@@ -166,6 +168,27 @@ impl PlainMap {
             retired: self.retired.copy()?,
             boundaries: copies(self.allocator(), self.boundaries.as_slice())?,
         })
+    }
+
+    /// The map's rows by themselves; its rings end. It takes no memory.
+    pub fn into_rows(self) -> RowTables
+        ensures { rows_of_tables result ≡ record self { boundaries = [] } }
+    {
+        let PlainMap {
+            sources,
+            points,
+            parcels,
+            strings,
+            retired,
+            boundaries: _boundaries,
+        } = self;
+        RowTables {
+            sources,
+            points,
+            parcels,
+            strings,
+            retired: retired.into_list(),
+        }
     }
 
     /// The rings of all faces, each from the point on from which it comes before its other rotations: the outside's

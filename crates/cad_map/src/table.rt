@@ -1,10 +1,12 @@
 //! Rows in order of entry, found by their numbers.
 ghost use Rattle.std.specs.Prelude.{◌≡◌, ℕ, ◌++◌, ◌∷◌, [], None, length, slice_get, IsSome, IfOk, OnOk, OnErr};
+ghost use Rattle.std.specs.Map.Iter.{GivesInOrder};
 ghost use Rattle.std.specs.Option.{option_copied};
 ghost use Rattle.cad_map.specs.Table.{row_with, without_row, with_row};
 
 use cad_rows::Memory;
 use indexmap::IndexMap;
+use indexmap::map::IntoValues;
 use number_hash::NumberHash;
 use std::alloc::Global;
 use std::marker::Model;
@@ -128,6 +130,14 @@ impl<R: Numbered> Table<R> {
         ensures { self.new ≡ without_row R.number_of number self.old }
     {
         let _ = self.rows.shift_remove(&number);
+    }
+
+    /// The rows themselves, in their order. It takes no memory.
+    pub fn into_rows(self) -> IntoValues<u32, R>
+        ensures rows { result ≡ self }
+        ensures gives { GivesInOrder R }
+    {
+        self.rows.into_values()
     }
 
     /// The same rows.

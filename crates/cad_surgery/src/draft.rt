@@ -69,24 +69,24 @@ pub(crate) fn side<T: Tally>(table: &HalfTable<T>, half: &Half) -> (PointNo, Poi
 }
 
 impl<T: Tally> Draft<T> {
-    /// The map on half-edges of a valid map. It takes time by the map's rows and sides, and by the
-    /// strings at a point for each side that begins there.
-    pub(crate) fn of(alloc: Global, map: &PlainMap, tally: T) -> Result<Draft<T>, Memory>
-        requires { IsValid map.now }
-        ensures is { IfOk result (λ made. map_of made ≡ map.now) }
+    /// The map on half-edges of a valid map, whose rows are moved into it. It takes time by the map's
+    /// rows and sides, and by the strings at the end of each side where few begin.
+    pub(crate) fn of(alloc: Global, map: PlainMap, tally: T) -> Result<Draft<T>, Memory>
+        requires { IsValid map }
+        ensures is { IfOk result (λ made. map_of made ≡ map) }
         ensures fit { IfOk result FitTogether }
-        ensures halves { IfOk result (λ made. (h : HalfOf) → has made.table.rows h ≡ has_string map.now h.string) }
-        ensures grid { IfOk result (λ made. IsGridOf made.grid map.now) }
+        ensures halves { IfOk result (λ made. (h : HalfOf) → has made.table.rows h ≡ has_string map h.string) }
+        ensures grid { IfOk result (λ made. IsGridOf made.grid map) }
     {
-        let rows = MapRows::of(alloc, map)?;
         let counts = map.counts();
         let mut table = HalfTable::with_room(alloc, map.hash(), counts.strings, tally)?;
         let mut stars = KeyLists::with_room(alloc, map.hash(), counts.points)?;
-        add_strings(map, &mut table, &mut stars)?;
+        add_strings(&map, &mut table, &mut stars)?;
         let mut linking = table.open();
-        let kept = link_rings(alloc, map, &mut linking, &stars)?;
+        let kept = link_rings(alloc, &map, &mut linking, &stars)?;
         let table = linking.close();
-        let grid = grid_of(alloc, map)?;
+        let grid = grid_of(alloc, &map)?;
+        let rows = MapRows::of(alloc, map.into_rows())?;
         Ok(Draft {
             rows,
             table,

@@ -37,11 +37,21 @@ impl<T: Tally> Model for HalfMap<T> {
 
 impl<T: Tally> HalfMap<T> {
     /// The map on half-edges of a valid map; the tally counts the work on its table. It takes time
-    /// by the map's rows and sides, and by the strings at a point for each side that begins there.
+    /// by the map's rows and sides, and by the strings at the end of each side where few begin.
     pub fn of(alloc: Global, map: &PlainMap, tally: T) -> Result<HalfMap<T>, Memory>
         requires { IsValid map.now }
         ensures is { IfOk result (λ made. map_of made ≡ map.now) }
         ensures proper { IfOk result (λ made. IsProper map.now made.table.rows (kept_at made)) }
+    {
+        HalfMap::from_map(alloc, map.copy()?, tally)
+    }
+
+    /// As [`of`](HalfMap::of), of a map that ends: its rows are moved and not copied, each kind's
+    /// table ends when they are, and so the two maps never stand whole beside each other.
+    pub fn from_map(alloc: Global, map: PlainMap, tally: T) -> Result<HalfMap<T>, Memory>
+        requires { IsValid map }
+        ensures is { IfOk result (λ made. map_of made ≡ map) }
+        ensures proper { IfOk result (λ made. IsProper map made.table.rows (kept_at made)) }
     {
         let draft = Draft::of(alloc, map, tally)?;
         Ok(HalfMap { draft })

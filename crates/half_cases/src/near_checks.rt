@@ -318,3 +318,13 @@ fn many_rings_are_walked_once_each(rt: HostRuntime) -> Result<(), Fail> {
     assert!(rt; calls < more && more < calls.saturating_mul(3));
     Ok(())
 }
+
+#[test]
+fn a_face_between_many_strings_of_a_point_is_walked_once(rt: HostRuntime) -> Result<(), Fail> {
+    let few = with_petals(rt.alloc(), 40)?;
+    let many = with_petals(rt.alloc(), 80)?;
+    let calls = near_calls(&rt, few.as_str(), "move,1,0,50,,,")?;
+    let more = near_calls(&rt, many.as_str(), "move,1,0,50,,,")?;
+    assert!(rt; calls < more && more < calls.saturating_mul(3));
+    Ok(())
+}

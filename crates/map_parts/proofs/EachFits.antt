@@ -4,7 +4,7 @@ use Rattle.cad_map.specs.Boundaries.{face_place}
 use Rattle.cad_map.specs.Map.{Map}
 use Rattle.cad_map.specs.Rings.{HasWholeRings}
 use Rattle.cad_map.proofs.CallerLemmas.{All-from_each}
-use Rattle.cell_grid.specs.Kept.{Kept}
+use Rattle.cell_grid.specs.Grid.{empty_grid}
 use Rattle.half_table.specs.declared.half.Half.{Half}
 use Rattle.half_table.specs.Rows.{HalfRows, has}
 use Rattle.half_paths.specs.Path.{AreIn}
@@ -21,9 +21,7 @@ use Rattle.map_parts.proofs.KeptEach as kept
 
 module _ (m : Map) (whole : HasWholeRings m) (rows : HalfRows) (held : Held Half) where
   abbrev d : Held Spoke → Parts
-  d stars =
-      let none : Kept = record { lists = []; long = [] } in
-      parts_of m (record { rows = rows; work = 0 }) held stars (record { strings = none; points = none })
+  d stars = parts_of m (record { rows = rows; work = 0 }) held stars empty_grid
 
   pub table-of : FitTable m rows held → FitsTable m rows
   table-of fits = record { local = fits.local; ends = fits.ends; faces = fits.faces }

@@ -1,13 +1,14 @@
 -- Rows under their numbers, and the list of the rows.
-use Rattle.std.proofs.Common.{Bor, ◌≡◌, ◌≢◌, ◌+◌, ◌++◌, take, ℕ, zero, suc, List, [], ◌∷◌, Bool, true, false, ◌==◌, map, find, refl, sym, ap, ◌∙◌, subst, Option, Some, None, slice_get, insert}
+use Rattle.std.proofs.Common.{Bor, ◌≡◌, ◌≢◌, ◌++◌, length, ℕ, zero, suc, List, [], ◌∷◌, Bool, true, false, ◌==◌, map, find, refl, sym, ap, ◌∙◌, subst, Option, Some, None, slice_get, insert}
 use Rattle.std.specs.Option.{option_copied}
 use Rattle.std.specs.Prelude.{IsSome, option_map, is_some, IfSome, IfNone}
 use Rattle.std.specs.List.{list_any}
 use Rattle.std.specs.Map.{values_of}
+use Rattle.std.proofs.Math.Seq.{take-append_seam}
 use Rattle.std.proofs.lemmas.Option.{slice_get-map}
 use Rattle.indexmap.proofs.SetLemmas.{map-insert}
 use Rattle.entry_list.specs.Slots.{Slots, rows_of, row_at, without_number, with_number, StandsAt, PutsIn}
-use Rattle.cad_map.proofs.CallerLemmas.{lookup-row, row_with-earlier, take-more}
+use Rattle.cad_map.proofs.CallerLemmas.{lookup-row, row_with-earlier}
 use Rattle.map_parts.specs.Rows.{rows_in}
 use Rattle.cad_map.specs.Table.{row_with, without_row, with_row, AreNumbered}
 use Rattle.cad_map.specs.Valid.{EachPair}
@@ -121,11 +122,15 @@ pub some-copied : {R : Type 0} (o : Option (Bor R)) (row : R) → option_copied 
 some-copied None row is = cc
 some-copied (Some r) row is = refl
 
--- ---- A copy of each row in turn
+-- ---- Rows moved one after another
 
-module _ {R : Type 0} (number : R → ℕ) (all : List R) (place : ℕ) {so_far : List R} {row copy : R} (were : so_far ≡ take place all) (same : copy ≡ row) (at : Some row ≡ slice_get all place) where
-  pub copy-new : EachPair (λ a b. a ≢ b) (map number all) → row_with number (number copy) so_far ≡ None
-  copy-new each = rw (were, same) (row_with-earlier number all place row each (sym at))
-
-  pub copies-more : {more : List R} → more ≡ so_far ++ copy ∷ [] → more ≡ take (place + 1) all
-  copies-more pushed = pushed ∙ rw (were, same) (take-more all place row (sym at))
+-- no row before one has its number
+pub row-new : {R : Type 0} (number : R → ℕ) (before rest : List R) (row : R) → EachPair (λ a b. a ≢ b) (map number (before ++ row ∷ rest))
+    → row_with number (number row) before ≡ None
+row-new {R} number before rest row each =
+    subst (λ (rs : List R). row_with number (number row) rs ≡ None) (take-append_seam before (row ∷ rest))
+    (row_with-earlier number (before ++ row ∷ rest) (length before) row each (there before))
+  where
+    there : (rs : List R) → slice_get (rs ++ row ∷ rest) (length rs) ≡ Some row
+    there [] = refl
+    there (r ∷ rs) = there rs

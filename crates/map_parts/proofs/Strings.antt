@@ -13,7 +13,7 @@ use Rattle.half_table.specs.Half.{forward_of, backward_of}
 use Rattle.half_table.specs.Rows.{HalfRows, strings, has, origin_of}
 use Rattle.map_parts.specs.declared.stars.Spoke.{Spoke}
 use Rattle.key_lists.specs.Held.{Held}
-use Rattle.cell_grid.specs.Kept.{Kept}
+use Rattle.cell_grid.specs.Grid.{empty_grid}
 use Rattle.cad_laws.specs.Local.{IsShown, side_by}
 use Rattle.map_parts.specs.Parts.{Parts, HasHalves, rows_of}
 use Rattle.map_parts.specs.Stars.{half_by_ends}
@@ -25,9 +25,7 @@ use Rattle.map_parts.proofs.StarHalves.{by_ends-some, told-by_ends}
 
 -- a map's rows with a table and stars alone
 abbrev pub with_stars : Map → HalfRows → Held Spoke → Parts
-with_stars m rows held =
-    let none : Kept = record { lists = []; long = [] } in
-    parts_of m (record { rows = rows; work = 0 }) [] held (record { strings = none; points = none })
+with_stars m rows held = parts_of m (record { rows = rows; work = 0 }) [] held empty_grid
 
 module _ (m : Map) (whole : HasWholeRings m) (rows : HalfRows) (held : Held Spoke) (st : HoldsStrings m rows held) where
   abbrev d : Parts

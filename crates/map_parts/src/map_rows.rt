@@ -1,11 +1,13 @@
 //! The rows of a map.
-ghost use Rattle.std.specs.Prelude.{◌≡◌, [], map as map_of, IfOk};
-ghost use Rattle.cad_map.specs.Valid.{HasSoundRows};
+ghost use Rattle.std.specs.Prelude.{◌≡◌, ◌≢◌, map as map_of, IfOk};
+ghost use Rattle.cad_map.specs.RowTables.{rows_of_tables};
+ghost use Rattle.cad_map.specs.Valid.{EachPair, HasSoundRows};
 ghost use Rattle.map_parts.specs.Rows.{rows_in, map_in};
 
 use crate::rows::Rows;
-use cad_map::{MapView, Numbered, PlainMap};
-use cad_rows::{Memory, ParcelNo, ParcelRow, PointRow, SourceRow, StringRow};
+use cad_map::{Numbered, RowTables, Table};
+use cad_rows::{Memory, Numbers, ParcelNo, ParcelRow, PointRow, SourceRow, StringRow};
+use number_hash::NumberHash;
 use std::alloc::Global;
 
 /// The number of a parcel that a merger ended, as a row.
@@ -49,76 +51,52 @@ impl Drop for MapRows {
 }
 
 impl MapRows {
-    /// The rows of a map whose numbers stand once.
-    pub fn of(alloc: Global, map: &PlainMap) -> Result<MapRows, Memory>
-        requires { HasSoundRows map.now }
-        ensures { IfOk result (λ rows. map_in rows ≡ record map.now { boundaries = [] }) }
+    /// The rows of a map, whose numbers stand once. They are moved, and each table ends when its rows
+    /// are.
+    pub fn of(alloc: Global, tables: RowTables) -> Result<MapRows, Memory>
+        requires { HasSoundRows (rows_of_tables tables) }
+        ensures { IfOk result (λ rows. map_in rows ≡ rows_of_tables tables) }
     {
+        let RowTables {
+            sources,
+            points,
+            parcels,
+            strings,
+            retired,
+        } = tables;
         Ok(MapRows {
-            sources: source_rows(alloc, map)?,
-            points: point_rows(alloc, map)?,
-            parcels: parcel_rows(alloc, map)?,
-            strings: string_rows(alloc, map)?,
-            retired: retired_rows(alloc, map)?,
+            retired: retired_rows(alloc, sources.hash(), &retired)?,
+            sources: moved(alloc, sources)?,
+            points: moved(alloc, points)?,
+            parcels: moved(alloc, parcels)?,
+            strings: moved(alloc, strings)?,
         })
     }
 }
 
-fn source_rows(alloc: Global, map: &PlainMap) -> Result<Rows<SourceRow>, Memory>
-    requires { HasSoundRows map.now }
-    ensures { IfOk result (λ rows. rows_in rows ≡ map.now.sources) }
+// Rows out of a table.
+fn moved<R: Numbered>(alloc: Global, table: Table<R>) -> Result<Rows<R>, Memory>
+    requires { EachPair (λ a b. a ≢ b) (map_of R.number_of table) }
+    ensures { IfOk result (λ rows. rows_in rows ≡ table) }
 {
-    let mut rows = Rows::with_room(alloc, map.hash(), map.counts().sources)?;
-    for place in 0..map.counts().sources {
-        let row = map.source_at(place).unwrap();
-        rows.push(row.copy()?)?;
+    let mut rows = Rows::with_room(alloc, table.hash(), table.len())?;
+    for row in table.into_rows() {
+        rows.push(row)?;
     }
     Ok(rows)
 }
 
-fn point_rows(alloc: Global, map: &PlainMap) -> Result<Rows<PointRow>, Memory>
-    requires { HasSoundRows map.now }
-    ensures { IfOk result (λ rows. rows_in rows ≡ map.now.points) }
+fn retired_rows(
+    alloc: Global,
+    hash: NumberHash,
+    retired: &Numbers<ParcelNo>,
+) -> Result<Rows<RetiredRow>, Memory>
+    requires { EachPair (λ a b. a ≢ b) retired.now }
+    ensures { IfOk result (λ rows. map_of (λ r. r.number) (rows_in rows) ≡ retired.now) }
 {
-    let mut rows = Rows::with_room(alloc, map.hash(), map.counts().points)?;
-    for place in 0..map.counts().points {
-        let row = map.point_at(place).unwrap();
-        rows.push(row.copy()?)?;
-    }
-    Ok(rows)
-}
-
-fn parcel_rows(alloc: Global, map: &PlainMap) -> Result<Rows<ParcelRow>, Memory>
-    requires { HasSoundRows map.now }
-    ensures { IfOk result (λ rows. rows_in rows ≡ map.now.parcels) }
-{
-    let mut rows = Rows::with_room(alloc, map.hash(), map.counts().parcels)?;
-    for place in 0..map.counts().parcels {
-        let row = map.parcel_at(place).unwrap();
-        rows.push(row.copy()?)?;
-    }
-    Ok(rows)
-}
-
-fn string_rows(alloc: Global, map: &PlainMap) -> Result<Rows<StringRow>, Memory>
-    requires { HasSoundRows map.now }
-    ensures { IfOk result (λ rows. rows_in rows ≡ map.now.strings) }
-{
-    let mut rows = Rows::with_room(alloc, map.hash(), map.counts().strings)?;
-    for place in 0..map.counts().strings {
-        let row = map.string_at(place).unwrap();
-        rows.push(row.copy()?)?;
-    }
-    Ok(rows)
-}
-
-fn retired_rows(alloc: Global, map: &PlainMap) -> Result<Rows<RetiredRow>, Memory>
-    requires { HasSoundRows map.now }
-    ensures { IfOk result (λ rows. map_of (λ r. r.number) (rows_in rows) ≡ map.now.retired) }
-{
-    let mut rows = Rows::with_room(alloc, map.hash(), map.counts().retired)?;
-    for place in 0..map.counts().retired {
-        let number = map.retired_at(place).unwrap();
+    let mut rows = Rows::with_room(alloc, hash, retired.len())?;
+    for place in 0..retired.len() {
+        let number = retired.get(place).unwrap();
         rows.push(RetiredRow { number })?;
     }
     Ok(rows)

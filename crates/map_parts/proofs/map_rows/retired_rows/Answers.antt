@@ -13,18 +13,18 @@ map-itself (x ∷ xs) = ap (λ (l : List ℕ). x ∷ l) (map-itself xs)
 
 pub push-requires : goal.push-requires
 push-requires c =
-    let at = rw c.unwrap-number.ensures at c.retired_at.ensures in
-    let retired = c.args.map.now.retired in
-    let distinct = subst (EachPair (λ a b. a ≢ b)) (sym (map-itself retired)) c.requires.retired.distinct in
+    let at = rw c.unwrap-number.ensures at c.get.ensures in
+    let retired = c.args.retired.now in
+    let distinct = subst (EachPair (λ a b. a ≢ b)) (sym (map-itself retired)) c.requires in
     none-by_numbers (λ (r : RetiredRow). r.number) c.unwrap-number.result (rows_in c.loop-place.rows)
     (ap (row_with (λ (n : ℕ). n) c.unwrap-number.result) c.loop-place.invariant
     ∙ row_with-earlier (λ (n : ℕ). n) retired c.loop-place.place c.unwrap-number.result distinct (sym at))
 
 pub loop-place-preserved : goal.loop-place-preserved
 loop-place-preserved c =
-    let at = rw c.unwrap-number.ensures at c.retired_at.ensures in
+    let at = rw c.unwrap-number.ensures at c.get.ensures in
     let n = c.unwrap-number.result in
     ap (map (λ (r : RetiredRow). r.number)) c.in_ok-push.ensures.ok
     ∙ map-push (λ (r : RetiredRow). r.number) (rows_in c.loop-place.rows) (record { number = n })
     ∙ ap (λ (l : List ℕ). l ++ n ∷ []) c.loop-place.invariant
-    ∙ take-more c.args.map.now.retired c.loop-place.place n (sym at)
+    ∙ take-more c.args.retired.now c.loop-place.place n (sym at)

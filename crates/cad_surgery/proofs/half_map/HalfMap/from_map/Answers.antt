@@ -6,13 +6,13 @@ use Rattle.map_parts.specs.Parts.{kept_at}
 use Rattle.cad_surgery.specs.Proper.{IsProper}
 use Rattle.edit_records.specs.Gridded.{IsGridOf}
 use Rattle.cad_surgery.proofs.ProperParts.{proper}
-use Rattle.cad_surgery.proofs.half_map.HalfMap.of.Goals as goal
+use Rattle.cad_surgery.proofs.half_map.HalfMap.from_map.Goals as goal
 
 pub invariant_of-result : goal.invariant_of-result
 invariant_of-result g c =
     let d = c.in_ok-draft.draft in
     let is = c.in_ok-draft.ensures.is in
-    let whole = subst HasWholeRings (sym is) (whole_valid c.args.map.now c.requires) in
+    let whole = subst HasWholeRings (sym is) (whole_valid c.args.map c.requires) in
     record {
       proper = proper d c.in_ok-draft.ensures.fit whole (λ h. c.in_ok-draft.ensures.halves h ∙ ap (λ (m : Map). has_string m h.string) (sym is));
       grid = subst (IsGridOf d.grid) (sym is) c.in_ok-draft.ensures.grid;
@@ -22,6 +22,6 @@ pub returns-clause-proper : goal.returns-clause-proper
 returns-clause-proper g c =
     let d = c.in_ok-draft.draft in
     let is = c.in_ok-draft.ensures.is in
-    let whole = subst HasWholeRings (sym is) (whole_valid c.args.map.now c.requires) in
+    let whole = subst HasWholeRings (sym is) (whole_valid c.args.map c.requires) in
     subst (λ (m : Map). IsProper m d.table.rows (kept_at d)) is
     (proper d c.in_ok-draft.ensures.fit whole (λ h. c.in_ok-draft.ensures.halves h ∙ ap (λ (m : Map). has_string m h.string) (sym is)))
