@@ -1,8 +1,9 @@
 -- The cells of a block, by their places.
-use Rattle.std.proofs.Common.{◌≡◌, ℕ, ◌+◌, ◌*◌, ◌/◌, ◌%◌, ◌-◌, ◌<◌, arith, mul_comm, sym, subst, ◌∙◌}
+use Rattle.std.proofs.Common.{◌≡◌, ℕ, ◌+◌, ◌*◌, ◌/◌, ◌%◌, ◌-◌, ◌<◌, arith, mul_comm, sym, ap, subst, ◌∙◌, true}
+use Rattle.std.proofs.lemmas.Bool.Decides.{nat_tests}
 use Rattle.std.proofs.lemmas.Nat.{div-add-mod', div-mul-add, div_below, mod-mul-add, mul-add-lt}
 use Rattle.cell_grid.specs.declared.block.Block.{Block}
-use Rattle.cell_grid.specs.Cells.{cells_in_row, IsBlock, IsCellOf, width, cell_count, cell_at}
+use Rattle.cell_grid.specs.Cells.{cells_in_row, IsBlock, IsCellOf, width, cell_count, cell_at, is_cell_of}
 
 module _ (b : Block) (h : IsBlock b) where
   some : 0 < width b
@@ -73,3 +74,14 @@ module _ (b : Block) (h : IsBlock b) where
           → (b.bottom + q) * cells_in_row + b.left + r ≡ (b.bottom + p) * cells_in_row + b.left + t
           → q ≡ p
       rows_same q r p t hr ht e = let across = h.across in let right = h.right in omega arith
+
+  -- the test by columns and rows tells the cells of a block
+  pub cell-told : (cell : ℕ) → IsCellOf b cell → is_cell_of b cell ≡ true
+  cell-told cell c =
+      let low : c.x < cells_in_row = let r = c.right in let across = h.right in omega arith in
+      let row : cell / cells_in_row ≡ c.y =
+      ap (λ (n : ℕ). n / cells_in_row) c.is ∙ div-mul-add c.y cells_in_row c.x low in
+      let column : cell % cells_in_row ≡ c.x =
+      ap (λ (n : ℕ). n % cells_in_row) c.is ∙ mod-mul-add c.y cells_in_row c.x low in
+      let l = c.left in let r = c.right in let m = c.bottom in let t = c.top in
+      rw (row, column) (grind (arith, nat_tests))

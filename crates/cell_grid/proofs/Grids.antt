@@ -1,12 +1,12 @@
 -- What a grid holds, by the entries that it keeps.
-use Rattle.std.proofs.Common.{◌≡◌, ℕ, zero, suc, List, [], ◌∷◌, map, refl, sym, ap, subst, ◌∙◌, arith, ◌⊎◌, inl, inr}
+use Rattle.std.proofs.Common.{◌≡◌, zero, suc, List, [], ◌∷◌, map, refl, sym, ap, subst, ◌∙◌, arith, ◌⊎◌, inl, inr}
 use Rattle.geo_exact.specs.SignTest.{boxes_overlap}
 use Rattle.std.specs.Prelude.{IsTrue, ◌↔◌, Result, Ok, Err, OnOk, OnErr}
 use Rattle.std.specs.List.{Contains, AllByRecursion}
 use Rattle.geo_exact.specs.Position.{Position}
 use Rattle.cell_grid.specs.declared.entry.Entry.{Entry}
-use Rattle.cell_grid.specs.Held.{HeldEntries}
-use Rattle.cell_grid.specs.Spread.{IsSpread, Holds}
+use Rattle.cell_grid.specs.Spread.{IsSoundEntry}
+use Rattle.cell_grid.specs.Kept.{Kept, IsHeld}
 use Rattle.cell_grid.specs.declared.entry.HeldString.{HeldString}
 use Rattle.cell_grid.specs.declared.entry.HeldPoint.{HeldPoint}
 use Rattle.cell_grid.specs.Grid.{entry_of, held_string, held_point, IsNumbered}
@@ -36,32 +36,32 @@ module _ {X : Type 0} (read : Entry → X) where
       (later.0, (suc later.1.0, omega (arith, later.1.1), later.1.2), later.2)
 
 -- entries that were given near a segment
-module _ (side : ℕ) (lists : HeldEntries) (long_ones : List Entry) (s : IsSpread side lists long_ones)
+module _ (k : Kept) (sound : (e : Entry) → IsHeld k e → IsSoundEntry e)
     (a b : Position) (xs : List Entry) (held : (e : Entry) → Contains xs e
-    → Holds lists long_ones e × IsTrue (boxes_overlap a b e.from e.to)) where
+    → IsHeld k e × IsTrue (boxes_overlap a b e.from e.to)) where
   pub numbers_given : AllByRecursion IsNumbered xs
-  numbers_given = all_from IsNumbered xs (λ e h. (s.sound e (held e h).0).number)
+  numbers_given = all_from IsNumbered xs (λ e h. (sound e (held e h).0).number)
 
   pub strings_given : (t : HeldString) → Contains (map held_string xs) t
-      → Holds lists long_ones (entry_of t.string t.from t.to) × IsTrue (boxes_overlap a b t.from t.to)
+      → IsHeld k (entry_of t.string t.from t.to) × IsTrue (boxes_overlap a b t.from t.to)
   strings_given t h =
       let f = read-from held_string xs t h in
-      subst (λ (y : HeldString). Holds lists long_ones (entry_of y.string y.from y.to)
+      subst (λ (y : HeldString). IsHeld k (entry_of y.string y.from y.to)
       × IsTrue (boxes_overlap a b y.from y.to)) f.2 (held f.0 f.1)
 
-  pub points_given : ((e : Entry) → Holds lists long_ones e → e.from ≡ e.to) → (p : HeldPoint)
+  pub points_given : ((e : Entry) → IsHeld k e → e.from ≡ e.to) → (p : HeldPoint)
       → Contains (map held_point xs) p
-      → Holds lists long_ones (entry_of p.point p.position p.position)
+      → IsHeld k (entry_of p.point p.position p.position)
       × IsTrue (boxes_overlap a b p.position p.position)
   points_given spots p h =
       let f = read-from held_point xs p h in
       let there = held f.0 f.1 in
       let one = sym (spots f.0 there.0) in
-      let spot : Holds lists long_ones (entry_of f.0.number f.0.from f.0.from)
+      let spot : IsHeld k (entry_of f.0.number f.0.from f.0.from)
       × IsTrue (boxes_overlap a b f.0.from f.0.from) =
-      subst (λ (d : Position). Holds lists long_ones (entry_of f.0.number f.0.from d)
+      subst (λ (d : Position). IsHeld k (entry_of f.0.number f.0.from d)
       × IsTrue (boxes_overlap a b f.0.from d)) one there in
-      subst (λ (y : HeldPoint). Holds lists long_ones (entry_of y.point y.position y.position)
+      subst (λ (y : HeldPoint). IsHeld k (entry_of y.point y.position y.position)
       × IsTrue (boxes_overlap a b y.position y.position)) f.2 spot
 
 -- the entries of points are single positions

@@ -5,6 +5,7 @@ mod Spreading
 mod Spreads
 mod Nearness
 mod Found
+mod Levels
 mod Grids
 mod Passed
 mod Together

@@ -7,7 +7,8 @@ use Rattle.geo_exact.specs.Position.{Position, InRange, OnTheMap}
 use Rattle.geo_exact.specs.SignTest.{overlaps, boxes_overlap}
 use Rattle.geo_exact.proofs.CallerLemmas.{overlaps-shared}
 use Rattle.geo_exact.proofs.SignTestLemmas.{and_left, and_right}
-use Rattle.cell_grid.specs.Cells.{IsSide, cells_in_row, shift, place_along, IsBlock, block_of, IsCellOf}
+use Rattle.cell_grid.specs.declared.block.CellSize.{CellSize}
+use Rattle.cell_grid.specs.Cells.{IsSide, IsCellSize, cells_in_row, shift, place_along, block_of, IsCellOf}
 
 -- the shift is past the coordinate limit, and by a side at most
 shift-past : (side : ℕ) → IsSide side → 10000000000 ≤ shift side
@@ -61,15 +62,6 @@ place-keeps side h y z hy hz le =
     let up : f.n ≤ g.n = omega (arith, ints, f.is, g.is) in
     rw (f.is, g.is) (divided side f.n g.n some up)
 
-pub block_is : (side : ℕ) (a b : Position) → IsSide side → OnTheMap a → OnTheMap b
-    → IsBlock (block_of side a b)
-block_is side a b h on_a on_b =
-    let ax = place-within side h a.x on_a.x_in_range in let bx =
-    place-within side h b.x on_b.x_in_range in
-    let ay = place-within side h a.y on_a.y_in_range in let by =
-    place-within side h b.y on_b.y_in_range in
-    record { across = omega arith; up = omega arith; right = omega arith; top = omega arith }
-
 -- ---- Boxes that overlap
 
 -- one column of both
@@ -114,13 +106,13 @@ one_column side h a b c d ha hb hc hd meet =
       high_second = high_kept side h c d m hc hd hm s.high_second;
     }
 
-pub one_cell : (side : ℕ) (a b c d : Position) → IsSide side → OnTheMap a → OnTheMap b
+pub one_cell : (size : CellSize) (a b c d : Position) → IsCellSize size → OnTheMap a → OnTheMap b
     → OnTheMap c → OnTheMap d → boxes_overlap a b c d ≡ true
-    → (cell : ℕ) × IsCellOf (block_of side a b) cell × IsCellOf (block_of side c d) cell
-one_cell side a b c d h on_a on_b on_c on_d meet =
-    let x = one_column side h a.x b.x c.x d.x on_a.x_in_range on_b.x_in_range on_c.x_in_range
+    → (cell : ℕ) × IsCellOf (block_of size a b) cell × IsCellOf (block_of size c d) cell
+one_cell size a b c d h on_a on_b on_c on_d meet =
+    let x = one_column size.width h.width a.x b.x c.x d.x on_a.x_in_range on_b.x_in_range on_c.x_in_range
     on_d.x_in_range (and_left _ _ meet) in
-    let y = one_column side h a.y b.y c.y d.y on_a.y_in_range on_b.y_in_range on_c.y_in_range
+    let y = one_column size.height h.height a.y b.y c.y d.y on_a.y_in_range on_b.y_in_range on_c.y_in_range
     on_d.y_in_range (and_right _ _ meet) in (
       y.at * cells_in_row + x.at,
       record {

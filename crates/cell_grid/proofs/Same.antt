@@ -1,8 +1,6 @@
 -- Entries that the test takes for the same are.
-use Rattle.std.proofs.Common.{◌≡◌, ℕ, zero, suc, ◌+◌, ◌<◌, ◌≤◌, List, [], ◌∷◌, length, get_or, Bool, true, false, cond, refl, sym, subst, ◌∙◌, arith, ℤ, eqb-true, eq-eqb, inl, inr}
-use Rattle.std.proofs.lemmas.Bool.{true≢false, cases_lt}
+use Rattle.std.proofs.Common.{◌≡◌, ℕ, zero, suc, ◌+◌, ◌≤◌, List, [], ◌∷◌, Bool, true, false, cond, refl, sym, subst, arith, ℤ, eqb-true, eq-eqb}
 use Rattle.std.proofs.lemmas.Bool.Decides.{Decides-int_eq}
-use Rattle.std.proofs.lemmas.List.{get_or_default}
 use Rattle.std.proofs.lemmas.List.Sums.{sum_by-cons}
 use Rattle.std.specs.Prelude.{count_by}
 use Rattle.std.specs.Ordering.{int_eq}
@@ -76,28 +74,3 @@ Contains_from_one (x ∷ xs) e h = by (is_same_entry e x) refl (Contains_from_on
         let more = count_more (is_same_entry e) x xs in
         let there = later (omega arith) in
         (suc there.0, omega (arith, there.1), there.2)
-
--- a list of which each entry is another has no such entry
-pub passed_all : (xs : List Entry) (e : Entry)
-    → ((k : ℕ) (d : Entry) → k < length xs → is_same_entry (get_or xs k d) e ≡ false)
-    → Contains xs e → ⊥
-passed_all xs e others (k, within, is) =
-    true≢false (sym (subst (λ (y : Entry). is_same_entry y e ≡ true) (sym is) (is_itself e))
-    ∙ others k e within)
-
-pub found_here : (xs : List Entry) (i : ℕ) (x e : Entry) → i < length xs → x ≡ get_or xs i x
-    → is_same_entry x e ≡ true → get_or xs i e ≡ e
-found_here xs i x e within is same = get_or_default xs i e x within ∙ sym is ∙ same_entry x e same
-
-pub passed_more : (xs : List Entry) (i : ℕ) (x e : Entry) → i < length xs → x ≡ get_or xs i x
-    → is_same_entry x e ≡ false
-    → ((k : ℕ) (d : Entry) → k < i → is_same_entry (get_or xs k d) e ≡ false)
-    → (k : ℕ) (d : Entry) → k < i + 1 → is_same_entry (get_or xs k d) e ≡ false
-passed_more xs i x e within is other before k d below = elim (cases_lt k i) [
-  | inl lt ↦ before k d lt
-  | inr ge ↦
-      let same : k ≡ i = omega arith in
-      subst (λ (n : ℕ). is_same_entry (get_or xs n d) e ≡ false) (sym same)
-      (subst (λ (y : Entry). is_same_entry y e ≡ false) (is ∙ get_or_default xs i x d within)
-      other)
-]

@@ -1,11 +1,9 @@
 -- An entry goes into the cells of its box one after another, and out of them.
-use Rattle.std.proofs.Common.{◌≡◌, ℕ, ◌+◌, ◌<◌, List, [], ◌∷◌, ◌++◌, length, get_or, sym, ap, subst, ◌∙◌, arith, ◌⊎◌, inl, inr}
+use Rattle.std.proofs.Common.{◌≡◌, ℕ, ◌+◌, ◌<◌, List, [], ◌∷◌, ◌++◌, sym, ap, subst, ◌∙◌, arith, ◌⊎◌, inl, inr}
 use Rattle.std.proofs.lemmas.Bool.{cases_lt}
-use Rattle.std.proofs.lemmas.List.{get_or_default}
-use Rattle.std.proofs.lemmas.List.Sorted.{IsPermutation-swap_remove}
 use Rattle.std.specs.Prelude.{IsPermutation, option_map, unwrap_or}
-use Rattle.std.specs.List.{Contains, swap_remove}
-use Rattle.std.specs.Global.{Vec}
+use Rattle.std.specs.List.{Contains}
+use Rattle.cell_grid.specs.declared.held_list.HeldList.{HeldList}
 use Rattle.cell_grid.specs.declared.block.Block.{Block}
 use Rattle.cell_grid.specs.declared.entry.Entry.{Entry}
 use Rattle.cell_grid.specs.Cells.{IsBlock, cell_count, cell_at}
@@ -16,7 +14,7 @@ use Rattle.cell_grid.proofs.Blocks.{cell-once}
 pub items-kept : (c : ℕ) (old new : HeldEntries) → KeepsOtherCells c old new → (b : ℕ) → ¬ (c ≡ b)
     → entries_at new b ≡ entries_at old b
 items-kept c old new keeps b other =
-    ap (λ o. unwrap_or (option_map (λ (l : Vec Entry). l.items) o) []) (keeps b other)
+    ap (λ o. unwrap_or (option_map (λ (l : HeldList). l.entries.items) o) []) (keeps b other)
 
 pub room-kept : (c : ℕ) (old new : HeldEntries) → KeepsOtherCells c old new → (b : ℕ) → ¬ (c ≡ b)
     → HasRoomInCell old b 1 → HasRoomInCell new b 1
@@ -66,35 +64,22 @@ module _ (b : Block) (h : IsBlock b) (i : ℕ) (within : i < cell_count b) where
         ∙ put.others cell (λ j hj. none j (omega arith));
   }
 
-  pub take-more : (start old new : HeldEntries) (e x : Entry) (place : ℕ) → IsTakenOut start b e i old
-      → place < length (entries_at old (cell_at b i))
-      → get_or (entries_at old (cell_at b i)) place e ≡ e
-      → x ≡ get_or (entries_at old (cell_at b i)) place x
-      → entries_at new (cell_at b i) ≡ swap_remove (entries_at old (cell_at b i)) place x
+  pub take-more : (start old new : HeldEntries) (e : Entry) → IsTakenOut start b e i old
+      → IsPermutation (entries_at old (cell_at b i)) (e ∷ entries_at new (cell_at b i))
       → KeepsOtherCells (cell_at b i) old new → IsTakenOut start b e (i + 1) new
-  take-more start old new e x place taken inside is_e is_x here keeps =
-      let xs = entries_at old (cell_at b i) in
-      let same : x ≡ e = is_x ∙ get_or_default xs place x e inside ∙ is_e in
-      let before : entries_at old (cell_at b i) ≡ entries_at start (cell_at b i) =
-      taken.others (cell_at b i) earlier in
-      let out : IsPermutation xs (x ∷ entries_at new (cell_at b i)) =
-      subst (λ (l : List Entry). IsPermutation xs (x ∷ l)) (sym here)
-      (IsPermutation-swap_remove xs place x inside is_x) in
-      record {
-        there = λ k hk. elim (below_next k i hk) [
-          | inl eq ↦ subst (λ (n : ℕ). IsPermutation (entries_at start (cell_at b n))
-              (e ∷ entries_at new (cell_at b n))) (sym eq)
-              (subst (λ (y : Entry). IsPermutation (entries_at start (cell_at b i))
-              (y ∷ entries_at new (cell_at b i))) same
-              (subst (λ (l : List Entry). IsPermutation l (x ∷ entries_at new (cell_at b i))) before
-              out))
-          | inr lt ↦ subst (λ (l : List Entry). IsPermutation (entries_at start (cell_at b k))
-              (e ∷ l)) (sym (items-kept (cell_at b i) old new keeps (cell_at b k)
-              (other_cell k (omega arith) (λ y. absurd (omega arith))))) (taken.there k lt)
-        ];
-        others = λ cell none. items-kept (cell_at b i) old new keeps cell (none i (omega arith))
-            ∙ taken.others cell (λ j hj. none j (omega arith));
-      }
+  take-more start old new e taken out keeps = record {
+    there = λ k hk. elim (below_next k i hk) [
+      | inl eq ↦ subst (λ (n : ℕ). IsPermutation (entries_at start (cell_at b n))
+          (e ∷ entries_at new (cell_at b n))) (sym eq)
+          (subst (λ (l : List Entry). IsPermutation l (e ∷ entries_at new (cell_at b i)))
+          (taken.others (cell_at b i) earlier) out)
+      | inr lt ↦ subst (λ (l : List Entry). IsPermutation (entries_at start (cell_at b k))
+          (e ∷ l)) (sym (items-kept (cell_at b i) old new keeps (cell_at b k)
+          (other_cell k (omega arith) (λ y. absurd (omega arith))))) (taken.there k lt)
+    ];
+    others = λ cell none. items-kept (cell_at b i) old new keeps cell (none i (omega arith))
+        ∙ taken.others cell (λ j hj. none j (omega arith));
+  }
 
   -- the cell that comes next has what it had at the start
   pub taken-there : (start old : HeldEntries) (e : Entry) → IsTakenOut start b e i old

@@ -1,26 +1,25 @@
--- What a put and a take do to entries that are spread over cells.
-use Rattle.std.proofs.Common.{◌≡◌, ℕ, zero, suc, ◌+◌, ◌<◌, ◌≤◌, List, [], ◌∷◌, ◌++◌, length, get_or, Bool, true, false, cond, refl, sym, subst, ◌∙◌, arith, ◌⊎◌, inl, inr, mul-pos}
-use Rattle.std.proofs.lemmas.Bool.{true≢false, cases_lt, cases_eq, false_from_ne_true}
-use Rattle.std.proofs.lemmas.Bool.Decides.{Decides-ltb}
+-- What a put and a take do to entries that are spread over the cells of one size.
+use Rattle.std.proofs.Common.{◌≡◌, ℕ, zero, suc, ◌+◌, ◌<◌, ◌≤◌, List, [], ◌∷◌, ◌++◌, Bool, true, false, cond, refl, sym, subst, ◌∙◌, arith, ◌⊎◌, inl, inr, mul-pos}
+use Rattle.std.proofs.lemmas.Bool.{cases_lt, cases_eq}
 use Rattle.std.proofs.lemmas.List.Elements.{Contains-append_left, Contains-append_right, Contains-append_cases, Contains-push, Contains-push_cases}
-use Rattle.std.proofs.lemmas.List.Sorted.{sum_by-IsPermutation, Contains-permutation, IsPermutation-sym, IsPermutation-swap_remove}
-use Rattle.std.proofs.lemmas.List.{get_or_default}
+use Rattle.std.proofs.lemmas.List.Sorted.{sum_by-IsPermutation, Contains-permutation, IsPermutation-sym}
 use Rattle.std.proofs.lemmas.List.Sums.{sum_by_push}
-use Rattle.std.specs.Prelude.{count_by, IsPermutation, ◌↔◌, Result, Ok, Err, OnErr}
-use Rattle.std.specs.List.{Contains, swap_remove}
+use Rattle.std.specs.Prelude.{count_by, IsPermutation}
+use Rattle.std.specs.List.{Contains}
 use Rattle.cell_grid.specs.declared.block.Block.{Block}
+use Rattle.cell_grid.specs.declared.block.CellSize.{CellSize}
 use Rattle.cell_grid.specs.declared.entry.Entry.{Entry}
 use Rattle.cell_grid.specs.Entries.{is_same_entry}
 use Rattle.cell_grid.specs.Cells.{IsBlock, IsCellOf, cell_count, cell_at}
 use Rattle.cell_grid.specs.Held.{HeldEntries, entries_at, HasSameEntries}
-use Rattle.cell_grid.specs.Spread.{IsSpread, IsSoundEntry, Holds, is_long, block_at, IsPutIn, IsTakenOut}
+use Rattle.cell_grid.specs.Spread.{IsSpread, IsSoundEntry, Stands, StandsSame, StandsOneMore, StandsOneLess, block_at, IsPutIn, IsTakenOut}
 use Rattle.cell_grid.proofs.Blocks.{cell-of, cell-found}
 use Rattle.cell_grid.proofs.Same.{same_entry, is_itself, one_from_Contains, Contains_from_one, count_more}
 
 -- ---- Cells that were only given room
 
--- the same entries are held as before
-module _ (side : ℕ) (old new : HeldEntries) (long_ones : List Entry) (same : HasSameEntries old new) where
+-- the same entries stand there as before
+module _ (old new : HeldEntries) (same : HasSameEntries old new) where
   into_same : (cell : ℕ) (e : Entry) → Contains (entries_at old cell) e
       → Contains (entries_at new cell) e
   into_same cell e h = subst (λ (l : List Entry). Contains l e) (sym (same cell)) h
@@ -29,29 +28,27 @@ module _ (side : ℕ) (old new : HeldEntries) (long_ones : List Entry) (same : H
       → Contains (entries_at old cell) e
   from_same cell e h = subst (λ (l : List Entry). Contains l e) (same cell) h
 
-  pub holds-same : (e : Entry) → Holds new long_ones e ↔ Holds old long_ones e
-  holds-same e = (back, forth)
-    where
-      back : Holds new long_ones e → Holds old long_ones e
-      back (inl h) = inl (h.0, from_same h.0 e h.1)
-      back (inr h) = inr h
+  pub stands-same : StandsSame old new
+  stands-same e = ((λ h. (h.0, from_same h.0 e h.1)), (λ h. (h.0, into_same h.0 e h.1)))
 
-      forth : Holds old long_ones e → Holds new long_ones e
-      forth (inl h) = inl (h.0, into_same h.0 e h.1)
-      forth (inr h) = inr h
-
-  pub spread-same : IsSpread side old long_ones → IsSpread side new long_ones
-  spread-same s = record {
-    short = λ cell e h. s.short cell e (from_same cell e h);
+  pub spread-same : (size : CellSize) → IsSpread size old → IsSpread size new
+  spread-same size s = record {
+    cells = s.cells;
     in_box = λ cell e h. s.in_box cell e (from_same cell e h);
     everywhere =
         λ from cell e h c. into_same cell e (s.everywhere from cell e (from_same from e h) c);
     once = λ cell e. subst (λ (l : List Entry). count_by (is_same_entry e) l ≤ 1)
         (sym (same cell)) (s.once cell e);
-    long = s.long;
-    long_once = s.long_once;
-    sound = λ e h. s.sound e ((holds-same e).0 h);
+    sound = λ e h. s.sound e ((stands-same e).0 h);
   }
+
+  -- an entry that is put in after that
+  pub stands-through : (e : Entry) (after : HeldEntries) → StandsOneMore new e after
+      → StandsOneMore old e after
+  stands-through e after put x = (
+    (λ h. elim ((put x).0 h) [ inl stood ↦ inl ((stands-same x).0 stood) | inr is ↦ inr is ]),
+    (λ h. (put x).1 (elim h [ inl stood ↦ inl ((stands-same x).1 stood) | inr is ↦ inr is ])),
+  )
 
 -- ---- Numbers below a bound
 
@@ -72,19 +69,8 @@ some_below f c (suc n) = elim (some_below f c n) [
   ]
 ]
 
-long_is : (side : ℕ) (e : Entry) → 64 < cell_count (block_at side e) → is_long side e ≡ true
-long_is side e h = (Decides-ltb 64 (cell_count (block_at side e))).1 h
-
-short_is : (side : ℕ) (e : Entry) → cell_count (block_at side e) ≤ 64 → is_long side e ≡ false
-short_is side e h =
-    false_from_ne_true (is_long side e)
-    (λ t. let lt = (Decides-ltb 64 (cell_count (block_at side e))).0 t in absurd (omega arith))
-
-not_both : (side : ℕ) (e : Entry) → is_long side e ≡ true → is_long side e ≡ false → ⊥
-not_both side e t f = true≢false (sym t ∙ f)
-
 -- a list that may be put into has e no more than once then
-count_pushed : (xs : List Entry) (e x : Entry) → ¬ Contains xs e
+pub count_pushed : (xs : List Entry) (e x : Entry) → ¬ Contains xs e
     → count_by (is_same_entry x) xs ≤ 1 → count_by (is_same_entry x) (xs ++ e ∷ []) ≤ 1
 count_pushed xs e x none few = by (is_same_entry x e) refl
   where
@@ -115,14 +101,14 @@ module _ (old new : List Entry) (e : Entry) (out : IsPermutation old (e ∷ new)
       sym (sum_by-IsPermutation (λ (y : Entry). cond {A = ℕ} (is_same_entry x y) 1 0) old
       (e ∷ new) out) ∙ count_more (is_same_entry x) e new
 
-  few_out : (x : Entry) → count_by (is_same_entry x) old ≤ 1 → count_by (is_same_entry x) new ≤ 1
+  pub few_out : (x : Entry) → count_by (is_same_entry x) old ≤ 1 → count_by (is_same_entry x) new ≤ 1
   few_out x few = let c = count_out x in omega arith
 
-  stood : (x : Entry) → Contains new x → Contains old x
+  pub stood : (x : Entry) → Contains new x → Contains old x
   stood x h = Contains-permutation (e ∷ new) old x (IsPermutation-sym old (e ∷ new) out)
       (Contains-append_right (e ∷ []) new x h)
 
-  gone : count_by (is_same_entry e) old ≤ 1 → ¬ Contains new e
+  pub gone : count_by (is_same_entry e) old ≤ 1 → ¬ Contains new e
   gone few h =
       let c = count_out e in
       let one : cond {A = ℕ} (is_same_entry e e) 1 0 ≡ 1 =
@@ -130,7 +116,7 @@ module _ (old new : List Entry) (e : Entry) (out : IsPermutation old (e ∷ new)
       let more = one_from_Contains new e h in
       absurd (omega arith)
 
-  keeps : (x : Entry) → Contains old x → ¬ (x ≡ e) → Contains new x
+  pub keeps : (x : Entry) → Contains old x → ¬ (x ≡ e) → Contains new x
   keeps x h other =
       elim (Contains-append_cases (e ∷ []) new x (Contains-permutation old (e ∷ new) x out h)) [
         | inl here ↦ absurd (other (only x here))
@@ -185,14 +171,12 @@ take_cases b h e old new out = cases b h old new (IsOut b e old new)
     (λ k low. record { of_block = cell-of b h k low; items = out.there k low }) out.others
 
 -- after a put into each cell of its box
-module _ (side : ℕ) (e : Entry) (h : IsBlock (block_at side e)) (old new : HeldEntries)
-    (long_ones : List Entry) (s : IsSpread side old long_ones)
-    (few : cell_count (block_at side e) ≤ 64) (number : IsSoundEntry e)
-    (absent : ¬ Holds old long_ones e)
-    (put : IsPutIn old (block_at side e) e (cell_count (block_at side e)) new) where
+module _ (size : CellSize) (e : Entry) (h : IsBlock (block_at size e)) (old new : HeldEntries)
+    (s : IsSpread size old) (number : IsSoundEntry e) (absent : ¬ Stands old e)
+    (put : IsPutIn old (block_at size e) e (cell_count (block_at size e)) new) where
   came : (cell : ℕ) (x : Entry) → Contains (entries_at new cell) x
-      → Contains (entries_at old cell) x ⊎ ((x ≡ e) × IsCellOf (block_at side e) cell)
-  came cell x there = elim (put_cases (block_at side e) h e old new put cell) [
+      → Contains (entries_at old cell) x ⊎ ((x ≡ e) × IsCellOf (block_at size e) cell)
+  came cell x there = elim (put_cases (block_at size e) h e old new put cell) [
     | inl i ↦ elim (Contains-push_cases (entries_at old cell) e x
         (subst (λ (l : List Entry). Contains l x) i.items there))
         [ inl stood ↦ inl stood | inr same ↦ inr (sym same, i.of_block) ]
@@ -200,96 +184,82 @@ module _ (side : ℕ) (e : Entry) (h : IsBlock (block_at side e)) (old new : Hel
   ]
 
   stays : (cell : ℕ) (x : Entry) → Contains (entries_at old cell) x → Contains (entries_at new cell) x
-  stays cell x there = elim (put_cases (block_at side e) h e old new put cell) [
+  stays cell x there = elim (put_cases (block_at size e) h e old new put cell) [
     | inl i ↦ subst (λ (l : List Entry). Contains l x) (sym i.items)
         (Contains-append_left (entries_at old cell) (e ∷ []) x there)
     | inr a ↦ subst (λ (l : List Entry). Contains l x) (sym a.items) there
   ]
 
-  arrives : (cell : ℕ) → IsCellOf (block_at side e) cell → Contains (entries_at new cell) e
-  arrives cell c = elim (put_cases (block_at side e) h e old new put cell) [
+  arrives : (cell : ℕ) → IsCellOf (block_at size e) cell → Contains (entries_at new cell) e
+  arrives cell c = elim (put_cases (block_at size e) h e old new put cell) [
     | inl i ↦ subst (λ (l : List Entry). Contains l e) (sym i.items)
         (Contains-push (entries_at old cell) e)
     | inr a ↦ absurd (a.other c)
   ]
 
   few_each : (cell : ℕ) (x : Entry) → count_by (is_same_entry x) (entries_at new cell) ≤ 1
-  few_each cell x = elim (put_cases (block_at side e) h e old new put cell) [
+  few_each cell x = elim (put_cases (block_at size e) h e old new put cell) [
     | inl i ↦ subst (λ (l : List Entry). count_by (is_same_entry x) l ≤ 1) (sym i.items)
-        (count_pushed (entries_at old cell) e x (λ there. absent (inl (cell, there)))
-        (s.once cell x))
+        (count_pushed (entries_at old cell) e x (λ there. absent (cell, there)) (s.once cell x))
     | inr a ↦ subst (λ (l : List Entry). count_by (is_same_entry x) l ≤ 1) (sym a.items)
         (s.once cell x)
   ]
 
-  short_of : (cell : ℕ) (x : Entry) → Contains (entries_at new cell) x → is_long side x ≡ false
-  short_of cell x there =
-      elim (came cell x there) [
-        | inl stood ↦ s.short cell x stood
-        | inr p ↦ subst (λ (y : Entry). is_long side y ≡ false) (sym p.0)
-            (short_is side e few)
-      ]
-
   in_box_of : (cell : ℕ) (x : Entry) → Contains (entries_at new cell) x
-      → IsCellOf (block_at side x) cell
+      → IsCellOf (block_at size x) cell
   in_box_of cell x there =
       elim (came cell x there) [
         | inl stood ↦ s.in_box cell x stood
-        | inr p ↦ subst (λ (y : Entry). IsCellOf (block_at side y) cell) (sym p.0) p.1
+        | inr p ↦ subst (λ (y : Entry). IsCellOf (block_at size y) cell) (sym p.0) p.1
       ]
 
   everywhere_of : (from cell : ℕ) (x : Entry) → Contains (entries_at new from) x
-      → IsCellOf (block_at side x) cell → Contains (entries_at new cell) x
+      → IsCellOf (block_at size x) cell → Contains (entries_at new cell) x
   everywhere_of from cell x there c = elim (came from x there) [
     | inl stood ↦ stays cell x (s.everywhere from cell x stood c)
     | inr p ↦ subst (λ (y : Entry). Contains (entries_at new cell) y) (sym p.0)
-        (arrives cell (subst (λ (y : Entry). IsCellOf (block_at side y) cell) p.0 c))
+        (arrives cell (subst (λ (y : Entry). IsCellOf (block_at size y) cell) p.0 c))
   ]
 
-  pub holds-put : (x : Entry) → Holds new long_ones x ↔ (Holds old long_ones x ⊎ (x ≡ e))
-  holds-put x = (back, forth)
+  pub stands-put : StandsOneMore old e new
+  stands-put x = (back, forth)
     where
-      some_cell : 0 < cell_count (block_at side e)
+      first : ℕ
+      first = cell_at (block_at size e) 0
+
+      some_cell : 0 < cell_count (block_at size e)
       some_cell = mul-pos (omega arith) (omega arith)
 
-      back : Holds new long_ones x → Holds old long_ones x ⊎ (x ≡ e)
-      back (inl t) =
-          elim (came t.0 x t.1) [ inl stood ↦ inl (inl (t.0, stood)) | inr p ↦ inr p.0 ]
-      back (inr t) = inl (inr t)
+      back : Stands new x → Stands old x ⊎ (x ≡ e)
+      back t = elim (came t.0 x t.1) [ inl stood ↦ inl (t.0, stood) | inr p ↦ inr p.0 ]
 
-      forth : Holds old long_ones x ⊎ (x ≡ e) → Holds new long_ones x
-      forth (inl (inl t)) = inl (t.0, stays t.0 x t.1)
-      forth (inl (inr t)) = inr t
-      forth (inr same) =
-          let first = cell_at (block_at side e) 0 in
-          inl (
-            first,
-            subst (λ (y : Entry). Contains (entries_at new first) y) (sym same)
-                (arrives first (cell-of (block_at side e) h 0 some_cell)),
-          )
+      forth : Stands old x ⊎ (x ≡ e) → Stands new x
+      forth (inl t) = (t.0, stays t.0 x t.1)
+      forth (inr same) = (
+        first,
+        subst (λ (y : Entry). Contains (entries_at new first) y) (sym same)
+            (arrives first (cell-of (block_at size e) h 0 some_cell)),
+      )
 
-  pub spread-put : IsSpread side new long_ones
+  pub spread-put : IsSpread size new
   spread-put = record {
-    short = short_of;
+    cells = s.cells;
     in_box = in_box_of;
     everywhere = everywhere_of;
     once = few_each;
-    long = s.long;
-    long_once = s.long_once;
-    sound = λ x t. elim ((holds-put x).0 t) [
+    sound = λ x t. elim ((stands-put x).0 t) [
       | inl stood ↦ s.sound x stood
       | inr same ↦ subst IsSoundEntry (sym same) number
     ];
   }
 
 -- after a take out of each cell of its box
-module _ (side : ℕ) (e : Entry) (h : IsBlock (block_at side e)) (old new : HeldEntries)
-    (long_ones : List Entry) (s : IsSpread side old long_ones)
-    (few : cell_count (block_at side e) ≤ 64)
-    (out : IsTakenOut old (block_at side e) e (cell_count (block_at side e)) new) where
+module _ (size : CellSize) (e : Entry) (h : IsBlock (block_at size e)) (old new : HeldEntries)
+    (s : IsSpread size old)
+    (out : IsTakenOut old (block_at size e) e (cell_count (block_at size e)) new) where
   was : (cell : ℕ) (x : Entry) → Contains (entries_at new cell) x
       → Contains (entries_at old cell) x × ¬ (x ≡ e)
-  was cell x there = elim (take_cases (block_at side e) h e old new out cell) [
+  was cell x there = elim (take_cases (block_at size e) h e old new out cell) [
     | inl o ↦ (
       stood (entries_at old cell) (entries_at new cell) e o.items x there,
       (λ same. gone (entries_at old cell) (entries_at new cell) e o.items (s.once cell e)
@@ -307,162 +277,37 @@ module _ (side : ℕ) (e : Entry) (h : IsBlock (block_at side e)) (old new : Hel
 
   remains : (cell : ℕ) (x : Entry) → Contains (entries_at old cell) x → ¬ (x ≡ e)
       → Contains (entries_at new cell) x
-  remains cell x there other = elim (take_cases (block_at side e) h e old new out cell) [
+  remains cell x there other = elim (take_cases (block_at size e) h e old new out cell) [
     | inl o ↦ keeps (entries_at old cell) (entries_at new cell) e o.items x there other
     | inr a ↦ subst (λ (l : List Entry). Contains l x) (sym a.items) there
   ]
 
   few_left : (cell : ℕ) (x : Entry) → count_by (is_same_entry x) (entries_at new cell) ≤ 1
-  few_left cell x = elim (take_cases (block_at side e) h e old new out cell) [
+  few_left cell x = elim (take_cases (block_at size e) h e old new out cell) [
     | inl o ↦ few_out (entries_at old cell) (entries_at new cell) e o.items x (s.once cell x)
     | inr a ↦ subst (λ (l : List Entry). count_by (is_same_entry x) l ≤ 1) (sym a.items)
         (s.once cell x)
   ]
 
-  pub holds-take : (x : Entry) → Holds new long_ones x ↔ (Holds old long_ones x × ¬ (x ≡ e))
-  holds-take x = (back, (λ p. forth p.0 p.1))
-    where
-      back : Holds new long_ones x → Holds old long_ones x × ¬ (x ≡ e)
-      back (inl t) = let w = was t.0 x t.1 in (inl (t.0, w.0), w.1)
-      back (inr t) = (
-        inr t,
-        (λ same. not_both side e (subst (λ (y : Entry). is_long side y ≡ true) same
-            (s.long x t)) (short_is side e few)),
-      )
+  pub stands-take : StandsOneLess old e new
+  stands-take x = (
+    (λ t. let w = was t.0 x t.1 in ((t.0, w.0), w.1)),
+    (λ p. (p.0.0, remains p.0.0 x p.0.1 p.1)),
+  )
 
-      forth : Holds old long_ones x → ¬ (x ≡ e) → Holds new long_ones x
-      forth (inl t) other = inl (t.0, remains t.0 x t.1 other)
-      forth (inr t) other = inr t
-
-  pub spread-take : IsSpread side new long_ones
+  pub spread-take : IsSpread size new
   spread-take = record {
-    short = λ cell x t. s.short cell x (was cell x t).0;
+    cells = s.cells;
     in_box = λ cell x t. s.in_box cell x (was cell x t).0;
     everywhere = λ from cell x t c. remains cell x (s.everywhere from cell x (was from x t).0 c)
         (was from x t).1;
     once = few_left;
-    long = s.long;
-    long_once = s.long_once;
-    sound = λ x t. s.sound x ((holds-take x).0 t).0;
+    sound = λ x t. s.sound x ((stands-take x).0 t).0;
   }
 
--- ---- Among the long ones
-
-module _ (side : ℕ) (e : Entry) (lists : HeldEntries) (long_ones : List Entry)
-    (s : IsSpread side lists long_ones) (many : 64 < cell_count (block_at side e)) where
-  apart_from_lists : (cell : ℕ) (x : Entry) → Contains (entries_at lists cell) x → ¬ (x ≡ e)
-  apart_from_lists cell x t same =
-      not_both side e (long_is side e many) (subst (λ (y : Entry). is_long side y ≡ false) same
-      (s.short cell x t))
-
-  pub holds-put_long : (x : Entry)
-      → Holds lists (long_ones ++ e ∷ []) x ↔ (Holds lists long_ones x ⊎ (x ≡ e))
-  holds-put_long x = (back, forth)
-    where
-      back : Holds lists (long_ones ++ e ∷ []) x → Holds lists long_ones x ⊎ (x ≡ e)
-      back (inl t) = inl (inl t)
-      back (inr t) =
-          elim (Contains-push_cases long_ones e x t) [
-            | inl there ↦ inl (inr there)
-            | inr same ↦
-                inr (sym same)
-          ]
-
-      forth : Holds lists long_ones x ⊎ (x ≡ e) → Holds lists (long_ones ++ e ∷ []) x
-      forth (inl (inl t)) = inl t
-      forth (inl (inr t)) = inr (Contains-append_left long_ones (e ∷ []) x t)
-      forth (inr same) =
-          inr (subst (λ (y : Entry). Contains (long_ones ++ e ∷ []) y) (sym same)
-          (Contains-push long_ones e))
-
-  pub spread-put_long : IsSoundEntry e → ¬ Holds lists long_ones e
-      → IsSpread side lists (long_ones ++ e ∷ [])
-  spread-put_long number absent = record {
-    short = s.short;
-    in_box = s.in_box;
-    everywhere = s.everywhere;
-    once = s.once;
-    long = λ x t. elim (Contains-push_cases long_ones e x t) [
-      | inl there ↦ s.long x there
-      | inr same ↦ subst (λ (y : Entry). is_long side y ≡ true)
-          same (long_is side e many)
-    ];
-    long_once = λ x. count_pushed long_ones e x (λ t. absent (inr t)) (s.long_once x);
-    sound = λ x t. elim ((holds-put_long x).0 t) [
-      | inl there ↦ s.sound x there
-      | inr same ↦
-          subst IsSoundEntry (sym same) number
-    ];
-  }
-
-  pub long-there : Holds lists long_ones e → Contains long_ones e
-  long-there (inl t) = absurd (apart_from_lists t.0 e t.1 refl)
-  long-there (inr t) = t
-
-  module _ (left : List Entry) (out : IsPermutation long_ones (e ∷ left)) where
-    pub holds-take_long : (x : Entry) → Holds lists left x ↔ (Holds lists long_ones x × ¬ (x ≡ e))
-    holds-take_long x = (back, (λ p. forth p.0 p.1))
-      where
-        back : Holds lists left x → Holds lists long_ones x × ¬ (x ≡ e)
-        back (inl t) = (inl t, apart_from_lists t.0 x t.1)
-        back (inr t) = (
-          inr (stood long_ones left e out x t),
-          (λ same. gone long_ones left e out (s.long_once e)
-              (subst (λ (y : Entry). Contains left y) same t)),
-        )
-
-        forth : Holds lists long_ones x → ¬ (x ≡ e) → Holds lists left x
-        forth (inl t) other = inl t
-        forth (inr t) other = inr (keeps long_ones left e out x t other)
-
-    pub spread-take_long : IsSpread side lists left
-    spread-take_long = record {
-      short = s.short;
-      in_box = s.in_box;
-      everywhere = s.everywhere;
-      once = s.once;
-      long = λ x t. s.long x (stood long_ones left e out x t);
-      long_once = λ x. few_out long_ones left e out x (s.long_once x);
-      sound = λ x t. s.sound x ((holds-take_long x).0 t).0;
-    }
-
--- an entry that is held and isn't long stands in each cell of its box
-pub short-there : (side : ℕ) (e : Entry) (h : IsBlock (block_at side e)) (lists : HeldEntries)
-    (long_ones : List Entry) → IsSpread side lists long_ones → cell_count (block_at side e) ≤ 64
-    → Holds lists long_ones e
-    → (k : ℕ) → k < cell_count (block_at side e)
-    → Contains (entries_at lists (cell_at (block_at side e) k)) e
-short-there side e h lists long_ones s few (inl t) k hk =
-    s.everywhere t.0 (cell_at (block_at side e) k) e t.1 (cell-of (block_at side e) h k hk)
-short-there side e h lists long_ones s few (inr t) k hk =
-    absurd (not_both side e (s.long e t) (short_is side e few))
-
--- what `swap_remove` takes out
-pub taken_out : (xs : List Entry) (i : ℕ) (e x : Entry) (left : List Entry) → i < length xs
-    → get_or xs i e ≡ e → x ≡ get_or xs i x → left ≡ swap_remove xs i x
-    → IsPermutation xs (e ∷ left)
-taken_out xs i e x left within is_e is_x is =
-    let same : x ≡ e = is_x ∙ get_or_default xs i x e within ∙ is_e in
-    subst (λ (y : Entry). IsPermutation xs (y ∷ left)) same
-    (subst (λ (l : List Entry). IsPermutation xs (x ∷ l)) (sym is)
-    (IsPermutation-swap_remove xs i x within is_x))
-
--- a put after lists were given room
-pub holds_through : (old roomy new : HeldEntries) (long_ones : List Entry) (e : Entry)
-    → ((x : Entry) → Holds roomy long_ones x ↔ Holds old long_ones x)
-    → ((x : Entry) → Holds new long_ones x ↔ (Holds roomy long_ones x ⊎ (x ≡ e)))
-    → (x : Entry) → Holds new long_ones x ↔ (Holds old long_ones x ⊎ (x ≡ e))
-holds_through old roomy new long_ones e room put x =
-    ((λ h. back ((put x).0 h)), (λ h. (put x).1 (forth h)))
-  where
-    back : Holds roomy long_ones x ⊎ (x ≡ e) → Holds old long_ones x ⊎ (x ≡ e)
-    back (inl h) = inl ((room x).0 h)
-    back (inr h) = inr h
-
-    forth : Holds old long_ones x ⊎ (x ≡ e) → Holds roomy long_ones x ⊎ (x ≡ e)
-    forth (inl h) = inl ((room x).1 h)
-    forth (inr h) = inr h
-
-pub OnErr_always : {T E P : Type 0} → (r : Result T E) → P → OnErr r P
-OnErr_always (Ok x) p = tt
-OnErr_always (Err x) p = p
+-- an entry that stands in a layer stands in each cell of its box
+pub stands-each : (size : CellSize) (e : Entry) (h : IsBlock (block_at size e)) (lists : HeldEntries)
+    → IsSpread size lists → Stands lists e → (k : ℕ) → k < cell_count (block_at size e)
+    → Contains (entries_at lists (cell_at (block_at size e) k)) e
+stands-each size e h lists s t k low =
+    s.everywhere t.0 (cell_at (block_at size e) k) e t.1 (cell-of (block_at size e) h k low)

@@ -1,12 +1,30 @@
 -- Cells of a grid, each a number, and blocks of them.
-use Rattle.std.specs.Prelude.{◌≡◌, ℕ, ◌+◌, ◌-◌, ◌*◌, ◌/◌, ◌%◌, ◌<◌, ◌≤◌, ℤ, pos, ◌+ℤ◌, min, max, unsigned_abs}
+use Rattle.std.specs.Prelude.{◌≡◌, ℕ, ◌+◌, ◌-◌, ◌*◌, ◌/◌, ◌%◌, ◌<◌, ◌≤◌, ℤ, pos, ◌+ℤ◌, min, max, unsigned_abs, Bool, ◌&&◌, nat_le}
 use Rattle.geo_exact.specs.Position.{Position}
 use Rattle.cell_grid.specs.declared.block.Block.{Block}
+use Rattle.cell_grid.specs.declared.block.CellSize.{CellSize}
 
 -- the sides that cells may have, in millimetres: from a metre to a thousand kilometres
 pub record IsSide (side : ℕ) : Type 0 where
   pub least : 1000 ≤ side
   pub greatest : side ≤ 1000000000
+
+-- the width and the height of cells are sides that cells may have
+pub record IsCellSize (size : CellSize) : Type 0 where
+  pub width : IsSide size.width
+  pub height : IsSide size.height
+
+-- squares with a side
+abbrev pub squares_of : ℕ → CellSize
+squares_of side = record { width = side; height = side }
+
+-- lanes from west to east, a thousand kilometres long and as high as the side
+abbrev pub lanes_east_of : ℕ → CellSize
+lanes_east_of side = record { width = 1000000000; height = side }
+
+-- lanes from south to north, as wide as the side
+abbrev pub lanes_north_of : ℕ → CellSize
+lanes_north_of side = record { width = side; height = 1000000000 }
 
 -- how many numbers a row of cells takes: more than the cells that a row can have
 abbrev pub cells_in_row : ℕ
@@ -28,13 +46,13 @@ pub record IsBlock (b : Block) : Type 0 where
   pub right : b.right < cells_in_row
   pub top : b.top < cells_in_row
 
--- the cells that the box of a segment touches
-abbrev pub block_of : ℕ → Position → Position → Block
-block_of side a b = record {
-  left = min (place_along side a.x) (place_along side b.x);
-  right = max (place_along side a.x) (place_along side b.x);
-  bottom = min (place_along side a.y) (place_along side b.y);
-  top = max (place_along side a.y) (place_along side b.y);
+-- the cells of a size that the box of a segment touches
+abbrev pub block_of : CellSize → Position → Position → Block
+block_of size a b = record {
+  left = min (place_along size.width a.x) (place_along size.width b.x);
+  right = max (place_along size.width a.x) (place_along size.width b.x);
+  bottom = min (place_along size.height a.y) (place_along size.height b.y);
+  top = max (place_along size.height a.y) (place_along size.height b.y);
 }
 
 -- how many columns a block has
@@ -58,3 +76,9 @@ pub record IsCellOf (b : Block) (cell : ℕ) : Type 0 where
   pub bottom : b.bottom ≤ y
   pub top : y ≤ b.top
   pub is : cell ≡ y * cells_in_row + x
+
+-- whether the cell is one of the block's, by its column and row
+abbrev pub is_cell_of : Block → ℕ → Bool
+is_cell_of b cell =
+    nat_le b.left (cell % cells_in_row) && nat_le (cell % cells_in_row) b.right
+    && nat_le b.bottom (cell / cells_in_row) && nat_le (cell / cells_in_row) b.top

@@ -5,12 +5,16 @@ use Rattle.cad_rows.specs.Limits.{IsNumber}
 use Rattle.cell_grid.specs.declared.entry.Entry.{Entry}
 use Rattle.cell_grid.specs.declared.entry.HeldString.{HeldString}
 use Rattle.cell_grid.specs.declared.entry.HeldPoint.{HeldPoint}
-use Rattle.cell_grid.specs.Kept.{Kept, IsHeld}
+use Rattle.cell_grid.specs.Kept.{Kept, nothing_kept, IsHeld}
 
 -- what is kept of strings, and of points
 pub record Grid : Type 0 where
   pub strings : Kept
   pub points : Kept
+
+-- the grid that holds nothing
+abbrev pub empty_grid : Grid
+empty_grid = record { strings = nothing_kept; points = nothing_kept }
 
 -- the entry of a number between two positions
 abbrev pub entry_of : ℕ → Position → Position → Entry

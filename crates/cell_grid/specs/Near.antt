@@ -1,35 +1,32 @@
 -- The entries near a segment.
-use Rattle.std.specs.Prelude.{◌≡◌, ℕ, zero, suc, ◌+◌, ◌-◌, Bool, List, [], ◌∷◌, ◌++◌, nat_lt, length, filter, slice_get, option_map, unwrap_or, if◌then◌else◌, drop, slice_index_or}
+use Rattle.std.specs.Prelude.{◌≡◌, ℕ, zero, suc, ◌+◌, ◌-◌, Bool, List, [], ◌∷◌, ◌++◌, length, filter, if◌then◌else◌, drop, slice_index_or}
 use Rattle.geo_exact.specs.SignTest.{boxes_overlap}
+use Rattle.cell_grid.specs.declared.block.CellSize.{CellSize}
 use Rattle.cell_grid.specs.declared.entry.Entry.{Entry}
 use Rattle.cell_grid.specs.declared.near.Query.{Query}
-use Rattle.cell_grid.specs.Cells.{IsBlock, block_of, cell_count, cell_at}
-use Rattle.cell_grid.specs.Held.{HeldEntries, entries_at}
+use Rattle.cell_grid.specs.declared.near.Scope.{Scope}
+use Rattle.cell_grid.specs.Cells.{IsBlock, block_of, cell_count, cell_at, is_cell_of}
+use Rattle.cell_grid.specs.Held.{HeldEntries, entries_at, cell_in_turn, list_in_turn}
 
 -- the boxes of the segment that is asked about and of an entry have a location in common
 abbrev pub is_near : Query → Entry → Bool
 is_near q e = boxes_overlap q.from q.to e.from e.to
 
 -- the cells that are looked at are those that the segment's box touches
-pub record IsQuery (side : ℕ) (q : Query) : Type 0 where
-  pub block : q.block ≡ block_of side q.from q.to
-  pub is_block : IsBlock q.block
+pub record IsScope (size : CellSize) (q : Query) (s : Scope) : Type 0 where
+  pub block : s.block ≡ block_of size q.from q.to
+  pub is_block : IsBlock s.block
 
--- the entries in the cell that was the k-th to be given room
-abbrev pub list_in_turn : HeldEntries → ℕ → List Entry
-list_in_turn lists k = unwrap_or (option_map (λ p. entries_at lists p.0) (slice_get lists k)) []
+-- how many lists are looked at: one for each cell, or all that there are
+abbrev pub searched_count : HeldEntries → Scope → ℕ
+searched_count lists s = if s.all then length lists else cell_count s.block
 
--- how many lists are looked at: one for each cell, and the one of the long entries
-abbrev pub searched_count : HeldEntries → Query → ℕ
-searched_count lists q = (if q.all then length lists else cell_count q.block) + 1
-
--- the k-th of them: of a cell of the box, or of any cell where the box has too many; then the
--- long ones
-abbrev pub searched_list : HeldEntries → List Entry → Query → ℕ → List Entry
-searched_list lists long_ones q k =
-    if q.all
-    then (if nat_lt k (length lists) then list_in_turn lists k else long_ones)
-    else (if nat_lt k (cell_count q.block) then entries_at lists (cell_at q.block k) else long_ones)
+-- the k-th of them: of a cell of the box, or in turn, where those of other cells are passed over
+abbrev pub searched_list : HeldEntries → Scope → ℕ → List Entry
+searched_list lists s k =
+    if s.all
+    then (if is_cell_of s.block (cell_in_turn lists k) then list_in_turn lists k else [])
+    else entries_at lists (cell_at s.block k)
 
 -- n lists from a place on, one after another
 abbrev pub lists_in_turn : (ℕ → List Entry) → ℕ → ℕ → List Entry
@@ -37,15 +34,14 @@ lists_in_turn list k zero = []
 lists_in_turn list k (suc n) = list k ++ lists_in_turn list (k + 1) n
 
 -- the lists from a place on
-abbrev pub lists_from : HeldEntries → List Entry → Query → ℕ → List Entry
-lists_from lists long_ones q k =
-    lists_in_turn (searched_list lists long_ones q) k (searched_count lists q - k)
+abbrev pub lists_from : HeldEntries → Scope → ℕ → List Entry
+lists_from lists s k = lists_in_turn (searched_list lists s) k (searched_count lists s - k)
 
 -- of the lists from one on, the first near entry stands in the k-th, at this place
-abbrev pub FoundAt : HeldEntries → List Entry → Query → ℕ → ℕ → ℕ → Type 0
-FoundAt lists long_ones q from k place =
+abbrev pub FoundAt : HeldEntries → Query → Scope → ℕ → ℕ → ℕ → Type 0
+FoundAt lists q s from k place =
     (d : Entry)
-    → filter (is_near q) (lists_from lists long_ones q from)
-    ≡ slice_index_or (searched_list lists long_ones q k) place
-    d ∷ (filter (is_near q) (drop (place + 1) (searched_list lists long_ones q k)) ++ filter
-    (is_near q) (lists_from lists long_ones q (k + 1)))
+    → filter (is_near q) (lists_from lists s from)
+    ≡ slice_index_or (searched_list lists s k) place
+    d ∷ (filter (is_near q) (drop (place + 1) (searched_list lists s k)) ++ filter
+    (is_near q) (lists_from lists s (k + 1)))

@@ -1,25 +1,22 @@
--- Entries spread over the cells that their boxes touch.
-use Rattle.std.specs.Prelude.{◌≡◌, ℕ, ◌<◌, ◌≤◌, Bool, true, false, List, [], ◌∷◌, ◌++◌, nat_lt, count_by, ◌⊎◌, IsPermutation}
+-- Entries spread over the cells of one size that their boxes touch.
+use Rattle.std.specs.Prelude.{◌≡◌, ℕ, ◌<◌, ◌≤◌, Bool, ◌∷◌, [], ◌++◌, nat_le, count_by, ◌⊎◌, ◌↔◌, IsPermutation}
 use Rattle.std.specs.List.{Contains}
 use Rattle.geo_exact.specs.Position.{OnTheMap}
 use Rattle.cad_rows.specs.Limits.{IsNumber}
 use Rattle.cell_grid.specs.declared.block.Block.{Block}
+use Rattle.cell_grid.specs.declared.block.CellSize.{CellSize}
 use Rattle.cell_grid.specs.declared.entry.Entry.{Entry}
 use Rattle.cell_grid.specs.Entries.{is_same_entry}
-use Rattle.cell_grid.specs.Cells.{IsCellOf, block_of, cell_count, cell_at}
+use Rattle.cell_grid.specs.Cells.{IsCellOf, IsCellSize, block_of, cell_count, cell_at}
 use Rattle.cell_grid.specs.Held.{HeldEntries, entries_at, HasRoomInCell}
 
--- the cells that an entry's box touches
-abbrev pub block_at : ℕ → Entry → Block
-block_at side e = block_of side e.from e.to
+-- the cells of a size that an entry's box touches
+abbrev pub block_at : CellSize → Entry → Block
+block_at size e = block_of size e.from e.to
 
--- the entry's box touches too many cells: it stands among the long ones
-abbrev pub is_long : ℕ → Entry → Bool
-is_long side e = nat_lt 64 (cell_count (block_at side e))
-
--- the entry stands in a cell, or among the long ones
-abbrev pub Holds : HeldEntries → List Entry → Entry → Type 0
-Holds lists long e = ((cell : ℕ) × Contains (entries_at lists cell) e) ⊎ Contains long e
+-- the entry's box touches no more cells than an entry may stand in
+abbrev pub fits : CellSize → Entry → Bool
+fits size e = nat_le (cell_count (block_at size e)) 64
 
 -- the number is one of a row, and the ends are on the map
 pub record IsSoundEntry (e : Entry) : Type 0 where
@@ -27,17 +24,35 @@ pub record IsSoundEntry (e : Entry) : Type 0 where
   pub from : OnTheMap e.from
   pub to : OnTheMap e.to
 
--- each entry stands once in each cell of its box and in no other, or once among the long ones
-pub record IsSpread (side : ℕ) (lists : HeldEntries) (long_ones : List Entry) : Type 0 where
-  pub short : (cell : ℕ) (e : Entry) → Contains (entries_at lists cell) e → is_long side e ≡ false
+-- the entry stands in a cell
+abbrev pub Stands : HeldEntries → Entry → Type 0
+Stands lists e = (cell : ℕ) × Contains (entries_at lists cell) e
+
+-- no entry does
+abbrev pub StandsNone : HeldEntries → Type 0
+StandsNone lists = (e : Entry) → ¬ Stands lists e
+
+-- the same entries stand there as before
+abbrev pub StandsSame : HeldEntries → HeldEntries → Type 0
+StandsSame old new = (e : Entry) → Stands new e ↔ Stands old e
+
+-- the same, and this entry
+abbrev pub StandsOneMore : HeldEntries → Entry → HeldEntries → Type 0
+StandsOneMore old entry new = (e : Entry) → Stands new e ↔ (Stands old e ⊎ (e ≡ entry))
+
+-- the same, but this entry
+abbrev pub StandsOneLess : HeldEntries → Entry → HeldEntries → Type 0
+StandsOneLess old entry new = (e : Entry) → Stands new e ↔ (Stands old e × ¬ (e ≡ entry))
+
+-- each entry is sound and stands once in each cell of its box and in no other
+pub record IsSpread (size : CellSize) (lists : HeldEntries) : Type 0 where
+  pub cells : IsCellSize size
   pub in_box : (cell : ℕ) (e : Entry) → Contains (entries_at lists cell) e
-      → IsCellOf (block_at side e) cell
+      → IsCellOf (block_at size e) cell
   pub everywhere : (from cell : ℕ) (e : Entry) → Contains (entries_at lists from) e
-      → IsCellOf (block_at side e) cell → Contains (entries_at lists cell) e
+      → IsCellOf (block_at size e) cell → Contains (entries_at lists cell) e
   pub once : (cell : ℕ) (e : Entry) → count_by (is_same_entry e) (entries_at lists cell) ≤ 1
-  pub long : (e : Entry) → Contains long_ones e → is_long side e ≡ true
-  pub long_once : (e : Entry) → count_by (is_same_entry e) long_ones ≤ 1
-  pub sound : (e : Entry) → Holds lists long_ones e → IsSoundEntry e
+  pub sound : (e : Entry) → Stands lists e → IsSoundEntry e
 
 -- the cells of the block from a place on have room for one entry more
 abbrev pub HasRoomIn : HeldEntries → Block → ℕ → Type 0

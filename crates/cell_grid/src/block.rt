@@ -1,12 +1,19 @@
 //! Blocks of cells, and the cells that the box of a segment touches.
 ghost use Rattle.std.specs.Prelude.{◌≡◌, ◌<◌, ◌≤◌, ◌+◌, ◌-◌, ◌*◌, min, max};
 ghost use Rattle.geo_exact.specs.Position.{InRange};
-ghost use Rattle.cell_grid.specs.Cells.{place_along as place_along_of, IsSide, IsBlock, cells_in_row, block_of as block_of_box, width as width_of, cell_count as cell_count_of, cell_at as cell_at_of};
+ghost use Rattle.cell_grid.specs.Cells.{place_along as place_along_of, IsSide, IsCellSize, IsBlock, cells_in_row, block_of as block_of_box, width as width_of, cell_count as cell_count_of, cell_at as cell_at_of, is_cell_of};
 
 use geo_exact::{COORDINATE_LIMIT, Pt};
 
 /// How many numbers a row of cells takes: more than the cells that a row can have.
 pub(crate) const ROW_WIDTH: u64 = 33_554_432;
+
+/// How wide a cell is from west to east, and how high from south to north, in millimetres.
+#[derive(Clone, Copy, Debug)]
+pub(crate) struct CellSize {
+    pub width: u64,
+    pub height: u64,
+}
 
 /// Columns and rows of cells, from the first to the last of each. A cell is the number of its row
 /// times the width of a row, and its column.
@@ -18,8 +25,9 @@ pub(crate) struct Block {
     pub top: u64,
 }
 
-/// The column of an x, or the row of a y: the coordinate divided by the side, rounded down. Columns
-/// are counted from one west of every coordinate, so none is negative.
+/// The column of an x, where the side is the width of a cell, or the row of a y, where it is the
+/// height: the coordinate divided by the side, rounded down. Columns are counted from one west of
+/// every coordinate, so none is negative.
 fn place_along(side: u64, coordinate: i64) -> u64
     requires side { IsSide side }
     requires coordinate { InRange coordinate }
@@ -45,16 +53,16 @@ fn greater(a: u64, b: u64) -> u64
     if a < b { b } else { a }
 }
 
-/// The cells that the box of a segment touches.
-pub(crate) fn block_of(side: u64, a: Pt, b: Pt) -> Block
-    requires { IsSide side }
-    ensures value { result ≡ block_of_box side a b }
+/// The cells of a size that the box of a segment touches.
+pub(crate) fn block_of(size: CellSize, a: Pt, b: Pt) -> Block
+    requires { IsCellSize size }
+    ensures value { result ≡ block_of_box size a b }
     ensures block { IsBlock result }
 {
-    let a_column = place_along(side, a.x);
-    let b_column = place_along(side, b.x);
-    let a_row = place_along(side, a.y);
-    let b_row = place_along(side, b.y);
+    let a_column = place_along(size.width, a.x);
+    let b_column = place_along(size.width, b.x);
+    let a_row = place_along(size.height, a.y);
+    let b_row = place_along(size.height, b.y);
     Block {
         left: lesser(a_column, b_column),
         right: greater(a_column, b_column),
@@ -90,5 +98,14 @@ impl Block {
     {
         let width = self.width();
         (self.bottom + place / width) * ROW_WIDTH + self.left + place % width
+    }
+
+    /// Whether a cell is one of it.
+    pub(crate) fn has(&self, cell: u64) -> bool
+        ensures { result ≡ is_cell_of self.now cell }
+    {
+        let column = cell % ROW_WIDTH;
+        let row = cell / ROW_WIDTH;
+        self.left <= column && column <= self.right && self.bottom <= row && row <= self.top
     }
 }

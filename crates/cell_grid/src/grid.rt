@@ -21,15 +21,20 @@ use number_hash::NumberHash;
 use std::alloc::Global;
 use std::marker::Model;
 
-/// Strings, with the positions of their two ends, and points, by the square cells that they touch.
+/// Strings, with the positions of their two ends, and points, by the cells that they touch.
 ///
-/// The cell of a location is its two coordinates divided by the side, rounded down. A string stands
-/// in every cell that its box touches, or, where these are more than 64, in a list of long ones. A
-/// number may stand at several positions at once.
+/// There are three kinds of cells: squares with the side, lanes from west to east, a thousand
+/// kilometres long and as wide as the side, and such lanes from south to north. The cell of a
+/// location is its two coordinates divided by the width and the height of the kind, rounded down. A
+/// string stands in every cell that its box touches, of the first kind of which these are 64 at
+/// most, or, where they are more of each kind, in a list of long ones: so a string is a long one
+/// only where it goes slantwise over more than 63 sides both ways. A number may stand at several
+/// positions at once.
 ///
-/// Only `new`, `put_string` and `put_point` take memory: some 40 bytes for each cell that an entry
-/// stands in. A cell keeps the room that it was given. A call takes time by the cells of the box
-/// and the entries that stand there.
+/// Only `new` and the puts take memory: some 40 bytes for each cell that an entry stands in. A cell
+/// keeps the room that it was given. A call takes time by the cells of the box and the entries that
+/// stand there; a list remembers where an entry was taken out of it, so that those that were put in
+/// one after another are taken out without a search each.
 pub struct CellGrid {
     strings: Segments,
     points: Segments,
@@ -161,8 +166,9 @@ impl CellGrid {
 
     /// The strings held near the segment ab, each between the positions where it is held: those
     /// whose boxes overlap its own, so all that have a common location with it. A string may come
-    /// several times. It takes no memory, and time by the cells of the box of ab; where these are
-    /// more than 4,096 it goes through all that is held.
+    /// several times. It takes no memory, and time by the cells of the box of ab, or by all cells
+    /// that were given room where these are fewer, by what stands in the cells of the box, and by
+    /// the long ones.
     pub fn candidates(&self, a: Pt, b: Pt) -> Candidates<'_>
         ensures held { (s : HeldStringOf) → Contains result s
             → HoldsString self.now s.string s.from s.to

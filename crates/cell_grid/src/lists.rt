@@ -1,9 +1,10 @@
 //! Lists of entries under cells.
-ghost use Rattle.std.specs.Prelude.{◌≡◌, ℕ, ◌<◌, ◌^◌, ◌++◌, ◌∷◌, [], length, OnOk, OnErr, swap_remove, slice_index_or};
-ghost use Rattle.cell_grid.specs.Held.{entries_at, cell_list, HasRoomInCell, KeepsOtherCells, HasSameEntries};
-ghost use Rattle.cell_grid.specs.Near.{list_in_turn};
+ghost use Rattle.std.specs.Prelude.{◌≡◌, ℕ, ◌<◌, ◌^◌, ◌++◌, ◌∷◌, [], length, IsPermutation, OnOk, OnErr};
+ghost use Rattle.std.specs.List.{Contains};
+ghost use Rattle.cell_grid.specs.Held.{entries_at, cell_list, HasRoomInCell, KeepsOtherCells, HasSameEntries, cell_in_turn, list_in_turn};
 
 use crate::entry::Entry;
+use crate::held_list::HeldList;
 use indexmap::IndexMap;
 use number_hash::NumberHash;
 use std::alloc::{AllocError, Global};
@@ -15,7 +16,7 @@ use std::marker::Model;
 /// where no entry is left.
 #[derive(Drop)]
 pub(crate) struct CellLists {
-    lists: IndexMap<u64, Vec<Entry>, NumberHash>,
+    lists: IndexMap<u64, HeldList, NumberHash>,
 }
 
 impl Model for CellLists {
@@ -41,7 +42,7 @@ impl CellLists {
         ensures { result.now ≡ entries_at self.now cell }
     {
         match self.lists.get(&cell) {
-            Some(list) => list.as_slice(),
+            Some(list) => list.entries.as_slice(),
             None => &[],
         }
     }
@@ -54,13 +55,14 @@ impl CellLists {
         self.lists.len()
     }
 
-    /// The entries in the cell at a place, in the order in which cells were given room.
-    pub(crate) fn list_in_turn(&self, place: usize) -> &[Entry]
+    /// The cell at a place, in the order in which cells were given room, and the entries in it.
+    pub(crate) fn in_turn(&self, place: usize) -> (u64, &[Entry])
         requires { place < length self.now }
-        ensures { result.now ≡ list_in_turn self.now place }
+        ensures cell { result.0 ≡ cell_in_turn self.now place }
+        ensures list { result.1.now ≡ list_in_turn self.now place }
     {
-        let (_, list) = self.lists.get_index(place).unwrap();
-        list.as_slice()
+        let (cell, list) = self.lists.get_index(place).unwrap();
+        (*cell, list.entries.as_slice())
     }
 
     /// Gives a cell room for one entry more. The entries stay as they are, also where memory runs
@@ -71,11 +73,11 @@ impl CellLists {
         ensures others { KeepsOtherCells cell self.old self.new }
     {
         if let Some(list) = self.lists.get_mut(&cell) {
-            list.reserve(1)?;
+            list.reserve()?;
             return Ok(());
         }
-        let mut list = Vec::new(*self.lists.allocator());
-        list.reserve(1)?;
+        let mut list = HeldList::new(*self.lists.allocator());
+        list.reserve()?;
         self.lists.insert(cell, list)?;
         Ok(())
     }
@@ -87,19 +89,19 @@ impl CellLists {
         ensures others { KeepsOtherCells cell self.old self.new }
     {
         if let Some(list) = self.lists.get_mut(&cell) {
-            list.push_reserved(entry);
+            list.put_reserved(entry);
         }
     }
 
-    /// Takes the entry at a place out and gives it; the last one in the cell takes its place.
-    pub(crate) fn take(&mut self, cell: u64, place: usize) -> Entry
-        requires { place < length (entries_at self.old cell) }
-        ensures items { entries_at self.new cell ≡ swap_remove (entries_at self.old cell) place result }
-        ensures value { result ≡ slice_index_or (entries_at self.old cell) place result }
+    /// Takes an entry out of a cell that has it. It takes no memory.
+    pub(crate) fn take(&mut self, cell: u64, entry: &Entry)
+        requires { Contains (entries_at self.old cell) entry.now }
+        ensures items { IsPermutation (entries_at self.old cell)
+            (entry.now ∷ entries_at self.new cell) }
         ensures others { KeepsOtherCells cell self.old self.new }
     {
-        let list = self.lists.get_mut(&cell).unwrap();
-        let _length = list.len();
-        list.swap_remove(place)
+        if let Some(list) = self.lists.get_mut(&cell) {
+            list.take(entry);
+        }
     }
 }

@@ -1,145 +1,125 @@
 //! Segments by the cells that their boxes touch.
-ghost use Rattle.std.specs.Prelude.{◌≡◌, ℕ, ◌<◌, length, OnOk, OnErr, slice_index_or};
-ghost use Rattle.std.specs.List.{Contains};
-ghost use Rattle.cell_grid.specs.Cells.{IsSide, IsBlock, cell_count, cell_at};
-ghost use Rattle.cell_grid.specs.Held.{entries_at, HasSameEntries};
-ghost use Rattle.cell_grid.specs.Spread.{IsSoundEntry, HasRoomIn, IsPutIn, IsTakenOut};
-ghost use Rattle.cell_grid.specs.Kept.{kept, AreSpread, IsHeld, HoldsNone, HoldsSame, HoldsOneMore, HoldsOneLess};
+ghost use Rattle.std.specs.Prelude.{◌≡◌, OnOk, OnErr};
+ghost use Rattle.cell_grid.specs.Cells.{IsSide, squares_of, lanes_east_of, lanes_north_of};
+ghost use Rattle.cell_grid.specs.Spread.{IsSoundEntry};
+ghost use Rattle.cell_grid.specs.Kept.{kept, level_of as level_of_entry, AreSpread, IsHeld, HoldsNone, HoldsSame, HoldsOneMore, HoldsOneLess};
 ghost use Rattle.cell_grid.specs.Together.{HoldsMore, HoldsLess, AreSound, AreNew, AreHeld};
 
-use crate::block::{Block, block_of};
-use crate::entry::{Entry, is_same};
-use crate::lists::CellLists;
+use crate::block::CellSize;
+use crate::entry::Entry;
+use crate::held_list::HeldList;
+use crate::layer::Layer;
 use cad_rows::Memory;
 use number_hash::NumberHash;
 use std::alloc::Global;
 
-/// A segment whose box touches more cells than this stands among the long ones: a list that every
-/// search goes through costs less than entries in so many cells.
-const MOST_CELLS_OF_ENTRY: u64 = 64;
+/// How long a lane is, in millimetres.
+const LANE_LENGTH: u64 = 1_000_000_000;
 
-/// Segments with numbers, each in the list of every cell that its box touches, or among the long
-/// ones. `side` is the side of a cell in millimetres.
+/// Where an entry stands: in square cells, in lanes from west to east, in lanes from south to
+/// north, or among the long ones.
+#[derive(Clone, Copy, Debug)]
+pub(crate) enum Level {
+    Squares,
+    LanesEast,
+    LanesNorth,
+    Long,
+}
+
+/// Segments with numbers, each in cells of the first kind of which its box touches few enough, or
+/// among the long ones, which are those of no kind.
 #[derive(Drop)]
 pub(crate) struct Segments {
-    pub side: u64,
-    pub lists: CellLists,
-    pub long: Vec<Entry>,
-}
-
-/// Gives each cell of a block room for one entry more. No cell has another entry after it, also
-/// where memory runs out.
-fn reserve_each(lists: &mut CellLists, block: &Block) -> Result<(), Memory>
-    requires { IsBlock block.now }
-    ensures room { OnOk result (HasRoomIn lists.new block.now 0) }
-    ensures same { HasSameEntries lists.old lists.new }
-{
-    for place in 0..block.cell_count() {
-        lists.reserve(block.cell_at(place))?;
-    }
-    Ok(())
-}
-
-/// Puts an entry into each cell of a block, which all have room for it. It takes no memory.
-fn put_each(lists: &mut CellLists, block: &Block, entry: &Entry)
-    requires block { IsBlock block.now }
-    requires room { HasRoomIn lists.old block.now 0 }
-    ensures { IsPutIn lists.old block.now entry.now (cell_count block.now) lists.new }
-{
-    for place in 0..block.cell_count() {
-        lists.put(block.cell_at(place), *entry);
-    }
-}
-
-/// The place of an entry in a list that has it.
-fn place_in(list: &[Entry], entry: &Entry) -> usize
-    requires { Contains list.now entry.now }
-    ensures within { result < length list.now }
-    ensures value { slice_index_or list.now result entry.now ≡ entry.now }
-{
-    for (place, other) in list.iter().enumerate() {
-        if is_same(other, entry) {
-            return place;
-        }
-    }
-    0
-}
-
-/// Takes an entry out of each cell of a block, which all have it.
-fn take_each(lists: &mut CellLists, block: &Block, entry: &Entry)
-    requires block { IsBlock block.now }
-    requires there { (k : ℕ) → k < cell_count block.now
-        → Contains (entries_at lists.old (cell_at block.now k)) entry.now }
-    ensures { IsTakenOut lists.old block.now entry.now (cell_count block.now) lists.new }
-{
-    for turn in 0..block.cell_count() {
-        let cell = block.cell_at(turn);
-        let place = place_in(lists.at(cell), entry);
-        lists.take(cell, place);
-    }
+    pub squares: Layer,
+    pub lanes_east: Layer,
+    pub lanes_north: Layer,
+    pub long: HeldList,
 }
 
 impl Segments {
-    /// No segments, in cells of so many millimetres.
+    /// No segments, in squares with a side and lanes of that width, in millimetres.
     pub(crate) fn new(alloc: Global, hash: NumberHash, side: u64) -> Segments
-        ensures side { result.side ≡ side }
+        requires { IsSide side }
+        ensures squares { result.squares.size ≡ squares_of side }
+        ensures lanes_east { result.lanes_east.size ≡ lanes_east_of side }
+        ensures lanes_north { result.lanes_north.size ≡ lanes_north_of side }
         ensures spread { AreSpread result }
         ensures empty { HoldsNone (kept result) }
     {
+        let squares = CellSize {
+            width: side,
+            height: side,
+        };
+        let lanes_east = CellSize {
+            width: LANE_LENGTH,
+            height: side,
+        };
+        let lanes_north = CellSize {
+            width: side,
+            height: LANE_LENGTH,
+        };
         Segments {
-            side,
-            lists: CellLists::new(alloc, hash),
-            long: Vec::new(alloc),
+            squares: Layer::new(alloc, hash, squares),
+            lanes_east: Layer::new(alloc, hash, lanes_east),
+            lanes_north: Layer::new(alloc, hash, lanes_north),
+            long: HeldList::new(alloc),
+        }
+    }
+
+    /// Where an entry stands or is to stand.
+    fn level_of(&self, entry: &Entry) -> Level
+        requires { AreSpread self.now }
+        ensures { result ≡ level_of_entry self.now entry.now }
+    {
+        if self.squares.fits(entry) {
+            Level::Squares
+        } else if self.lanes_east.fits(entry) {
+            Level::LanesEast
+        } else if self.lanes_north.fits(entry) {
+            Level::LanesNorth
+        } else {
+            Level::Long
         }
     }
 
     /// Puts an entry in that isn't held. It makes room in all cells first, so where memory runs out
     /// the same entries are held as before.
     pub(crate) fn put(&mut self, entry: Entry) -> Result<(), Memory>
-        requires side { IsSide self.old.side }
         requires spread { AreSpread self.old }
         requires sound { IsSoundEntry entry }
         requires other { ¬ IsHeld (kept self.old) entry }
-        ensures side { self.new.side ≡ self.old.side }
         ensures spread { AreSpread self.new }
         ensures put { OnOk result (HoldsOneMore (kept self.old) entry (kept self.new)) }
         ensures err { OnErr result (HoldsSame (kept self.old) (kept self.new)) }
     {
-        let block = block_of(self.side, entry.from, entry.to);
-        if block.cell_count() > MOST_CELLS_OF_ENTRY {
-            self.long.push(entry)?;
-            return Ok(());
+        match self.level_of(&entry) {
+            Level::Squares => self.squares.put(entry),
+            Level::LanesEast => self.lanes_east.put(entry),
+            Level::LanesNorth => self.lanes_north.put(entry),
+            Level::Long => self.long.put(entry),
         }
-        reserve_each(&mut self.lists, &block)?;
-        put_each(&mut self.lists, &block, &entry);
-        Ok(())
     }
 
     /// Takes an entry out that is held. It takes no memory.
     pub(crate) fn take(&mut self, entry: Entry)
-        requires side { IsSide self.old.side }
         requires spread { AreSpread self.old }
         requires there { IsHeld (kept self.old) entry }
-        ensures side { self.new.side ≡ self.old.side }
         ensures spread { AreSpread self.new }
         ensures taken { HoldsOneLess (kept self.old) entry (kept self.new) }
     {
-        let block = block_of(self.side, entry.from, entry.to);
-        if block.cell_count() > MOST_CELLS_OF_ENTRY {
-            let place = place_in(self.long.as_slice(), &entry);
-            self.long.swap_remove(place);
-        } else {
-            take_each(&mut self.lists, &block, &entry);
+        match self.level_of(&entry) {
+            Level::Squares => self.squares.take(&entry),
+            Level::LanesEast => self.lanes_east.take(&entry),
+            Level::LanesNorth => self.lanes_north.take(&entry),
+            Level::Long => self.long.take(&entry),
         }
     }
 
     /// Puts entries in, none of which is held: all of them, or none where memory runs out.
     pub(crate) fn put_all(&mut self, entries: &[Entry]) -> Result<(), Memory>
-        requires side { IsSide self.old.side }
         requires spread { AreSpread self.old }
         requires sound { AreSound entries.now }
         requires fresh { AreNew (kept self.old) entries.now }
-        ensures side { self.new.side ≡ self.old.side }
         ensures spread { AreSpread self.new }
         ensures put { OnOk result (HoldsMore (kept self.old) entries.now (kept self.new)) }
         ensures err { OnErr result (HoldsSame (kept self.old) (kept self.new)) }
@@ -155,10 +135,8 @@ impl Segments {
 
     /// Takes entries out that are held. It takes no memory.
     pub(crate) fn take_all(&mut self, entries: &[Entry])
-        requires side { IsSide self.old.side }
         requires spread { AreSpread self.old }
         requires held { AreHeld (kept self.old) entries.now }
-        ensures side { self.new.side ≡ self.old.side }
         ensures spread { AreSpread self.new }
         ensures taken { HoldsLess (kept self.old) entries.now (kept self.new) }
     {

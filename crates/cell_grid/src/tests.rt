@@ -1,10 +1,12 @@
-ghost use Rattle.std.specs.Prelude.{◌≡◌, false, OnOk};
+ghost use Rattle.std.specs.Prelude.{◌≡◌, [], false, OnOk, IfOk};
 ghost use Rattle.cell_grid.specs.Grid.{HoldsString, HoldsPoint};
+ghost use Rattle.cell_grid.specs.Together.{AreDistinct};
 
 use super::*;
 use cad_rows::{Memory, PointNo, StringNo};
 use geo_exact::Pt;
 use number_hash::NumberHash;
+use std::alloc::Global;
 use std::process::Abort;
 use std::test::Fail;
 
@@ -31,7 +33,9 @@ const POINTS: [(u32, Place); 7] = [
     (8, (800, 500)),
 ];
 
-fn string(rt: &impl Abort, number: u32) -> StringNo {
+fn string(rt: &impl Abort, number: u32) -> StringNo
+    ensures { result ≡ number }
+{
     StringNo::new(number).expect(rt, "number")
 }
 
@@ -220,5 +224,154 @@ fn strings_across_many_cells(rt: HostRuntime) -> Result<(), Fail> {
         put(&rt, &mut grid, no, a, position(&rt, (east, 0)))?;
         assert!(rt; is_candidate(&grid, no, below, above));
     }
+    Ok(())
+}
+
+// Strings along both axes, each over more than 64 squares and in one lane, or in four; and a long
+// one.
+const LONG: [(u32, Place, Place); 5] = [
+    (71, (0, 0), (70_000, 0)),
+    (72, (0, 0), (0, 70_000)),
+    (73, (-1_500_000_000, 5), (1_500_000_000, 905)),
+    (74, (5, -1_500_000_000), (905, 1_500_000_000)),
+    (75, (0, 0), (100_000, -100_000)),
+];
+
+// Which of them are candidates of a segment.
+fn long_near(rt: &impl Abort, grid: &CellGrid, from: Place, to: Place) -> [bool; 5] {
+    let a = position(rt, from);
+    let b = position(rt, to);
+    [71, 72, 73, 74, 75].map(|no| is_candidate(grid, string(rt, no), a, b))
+}
+
+// Puts one of them in, takes it out and puts it in again.
+fn put_again(
+    rt: &impl Abort,
+    grid: &mut CellGrid,
+    no: StringNo,
+    a: Pt,
+    b: Pt,
+) -> Result<(), Memory> {
+    put(rt, grid, no, a, b)?;
+    assert!(rt; is_candidate(grid, no, a, a));
+    assert!(rt; is_candidate(grid, no, b, b));
+    grid.take_string(no, a, b);
+    assert!(rt; !is_candidate(grid, no, a, a));
+    assert!(rt; !is_candidate(grid, no, b, b));
+    put(rt, grid, no, a, b)
+}
+
+// All of them.
+fn fill_long(rt: &impl Abort, grid: &mut CellGrid) -> Result<(), Memory> {
+    for (number, from, to) in LONG {
+        let no = string(rt, number);
+        put_again(rt, grid, no, position(rt, from), position(rt, to))?;
+    }
+    Ok(())
+}
+
+const WEST: i64 = -10_000_000_000;
+
+const EAST: i64 = 10_000_000_000;
+
+// What is seen of them from a segment.
+const LOOKS: [(Place, Place, [bool; 5]); 8] = [
+    ((0, 0), (0, 0), [true, true, false, false, true]),
+    ((0, 10), (10, 20), [false, true, true, true, false]),
+    (
+        (-999_999_999, 0),
+        (-999_999_990, 10),
+        [false, false, true, false, false],
+    ),
+    (
+        (900, 999_999_990),
+        (910, 1_000_000_010),
+        [false, false, false, true, false],
+    ),
+    (
+        (100_001, 0),
+        (200_000, 0),
+        [false, false, false, false, false],
+    ),
+    ((WEST, WEST), (EAST, EAST), [true, true, true, true, true]),
+    (
+        (WEST, 1000),
+        (EAST, 2000),
+        [false, true, false, true, false],
+    ),
+    ((1000, EAST), (2000, WEST), [true, false, true, false, true]),
+];
+
+#[test]
+fn lanes_both_ways(rt: HostRuntime) -> Result<(), Fail> {
+    let mut grid = CellGrid::new(rt.alloc(), NumberHash::fixed(), 1000)?;
+    fill_long(&rt, &mut grid)?;
+    for (from, to, seen) in LOOKS {
+        assert_eq!(rt; long_near(&rt, &grid, from, to), seen);
+    }
+    Ok(())
+}
+
+#[test]
+fn very_wide_search(rt: HostRuntime) -> Result<(), Fail> {
+    let mut grid = CellGrid::new(rt.alloc(), NumberHash::fixed(), 1000)?;
+    fill(&rt, &mut grid)?;
+    fill_long(&rt, &mut grid)?;
+    assert_eq!(rt; points_near(&rt, &grid, (WEST, WEST), (EAST, EAST)), ALL);
+    assert_eq!(rt;
+        strings_near(&rt, &grid, (WEST, 450), (EAST, 950)),
+        [false, true, false, true, false, true, true]
+    );
+    Ok(())
+}
+
+const RAYS: u32 = 200;
+
+// One of many strings from one point: near ones in squares, and far ones in lanes or long.
+fn ray(rt: &impl Abort, number: u32) -> (Pt, Pt) {
+    let turn = number as i64;
+    let end = if number % 2 == 0 {
+        (turn, 900)
+    } else {
+        (90_000, turn * 1000)
+    };
+    (position(rt, (0, 0)), position(rt, end))
+}
+
+// All of them.
+fn star(rt: &impl Abort, alloc: Global) -> Result<Entries, Memory>
+    ensures once { IfOk result (λ entries. AreDistinct entries.strings) }
+    ensures points { IfOk result (λ entries. entries.points ≡ []) }
+{
+    let mut entries = Entries::new(alloc);
+    for number in 1..RAYS {
+        let (a, b) = ray(rt, number);
+        entries.add_string(string(rt, number), a, b)?;
+    }
+    Ok(entries)
+}
+
+// How many of them are candidates.
+fn rays_near(rt: &impl Abort, grid: &CellGrid) -> u32 {
+    let mut count = 0;
+    for number in 1..RAYS {
+        let (a, b) = ray(rt, number);
+        if is_candidate(grid, string(rt, number), a, b) {
+            count += 1;
+        }
+    }
+    count
+}
+
+#[test]
+fn many_taken_out_together(rt: HostRuntime) -> Result<(), Fail> {
+    let mut grid = CellGrid::new(rt.alloc(), NumberHash::fixed(), 1000)?;
+    let star = star(&rt, rt.alloc())?;
+    grid.put_all(&star)?;
+    assert_eq!(rt; rays_near(&rt, &grid), 199);
+    grid.take_all(&star);
+    assert_eq!(rt; rays_near(&rt, &grid), 0);
+    grid.put_all(&star)?;
+    assert_eq!(rt; rays_near(&rt, &grid), 199);
     Ok(())
 }

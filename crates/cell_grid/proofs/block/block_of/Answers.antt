@@ -8,8 +8,8 @@ within is low = subst (λ (n : ℕ). n < cells_in_row) (sym is) low
 
 pub returns-clause-block : goal.returns-clause-block
 returns-clause-block c =
-    let ax = within c.place_along-a_column.ensures (place-within c.args.side c.requires _ (search rules)) in
-    let ay = within c.place_along-a_row.ensures (place-within c.args.side c.requires _ (search rules)) in
-    let bx = within c.place_along-b_column.ensures (place-within c.args.side c.requires _ (search rules)) in
-    let by = within c.place_along-b_row.ensures (place-within c.args.side c.requires _ (search rules)) in
+    let ax = within c.place_along-a_column.ensures (place-within c.args.size.width c.requires.width _ (search rules)) in
+    let ay = within c.place_along-a_row.ensures (place-within c.args.size.height c.requires.height _ (search rules)) in
+    let bx = within c.place_along-b_column.ensures (place-within c.args.size.width c.requires.width _ (search rules)) in
+    let by = within c.place_along-b_row.ensures (place-within c.args.size.height c.requires.height _ (search rules)) in
     record { across = omega arith; up = omega arith; right = omega arith; top = omega arith }

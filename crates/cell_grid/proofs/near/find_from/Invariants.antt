@@ -4,5 +4,5 @@ use Rattle.cell_grid.proofs.near.find_from.Given as goal
 
 abbrev pub invariant-loop-step : goal.invariant-loop-step
 invariant-loop-step l =
-    let of = lists_from l.segments.lists l.segments.long.items l.query in
+    let of = lists_from l.layer.lists l.scope in
     filter (is_near l.query) (of l.from) ≡ filter (is_near l.query) (of l.step)

@@ -1,5 +1,3 @@
-use Rattle.std.proofs.Common.{sym, subst}
-use Rattle.cell_grid.specs.Cells.{IsSide}
 use Rattle.cell_grid.proofs.grid.CellGrid.new.Goals as goal
 
 pub returns-clause-strings : goal.returns-clause-strings
@@ -10,8 +8,6 @@ returns-clause-points c = c.new-2.ensures.empty
 
 pub invariant_of-result : goal.invariant_of-result
 invariant_of-result c = record {
-  side = subst IsSide (sym c.new.ensures.side) c.requires;
-  point_side = subst IsSide (sym c.new-2.ensures.side) c.requires;
   strings = c.new.ensures.spread;
   points = c.new-2.ensures.spread;
   spots = λ e h. absurd (c.new-2.ensures.empty e h);

@@ -1,9 +1,8 @@
-use Rattle.std.proofs.Common.{◌≡◌, ◌∙◌, sym, subst}
-use Rattle.cell_grid.specs.Cells.{IsSide}
+use Rattle.std.proofs.Common.{◌≡◌, sym, subst}
 use Rattle.cell_grid.specs.Kept.{kept}
 use Rattle.cell_grid.specs.Grid.{Grid}
 use Rattle.cell_grid.specs.Together.{Listed, AreNew}
-use Rattle.cell_grid.proofs.Spreads.{OnErr_always}
+use Rattle.cell_grid.proofs.Levels.{OnErr_always}
 use Rattle.cell_grid.proofs.Together.{now-held, all-back, held-each}
 use Rattle.cell_grid.proofs.grid.CellGrid.put_all.Goals as goal
 
@@ -36,8 +35,6 @@ pub invariant_of-self-in-Err : goal.invariant_of-self-in-Err
 invariant_of-self-in-Err c =
     let i = c.self.invariant in
     record {
-      side = subst IsSide (sym (c.take_all.ensures.side ∙ c.put_all.ensures.side)) i.side;
-      point_side = subst IsSide (sym c.put_all-2.ensures.side) i.point_side;
       strings = c.take_all.ensures.spread;
       points = c.put_all-2.ensures.spread;
       spots = λ e h. i.spots e ((c.in-Err.ensures.err e).0 h);
@@ -62,8 +59,6 @@ pub invariant_of-self-in_default : goal.invariant_of-self-in_default
 invariant_of-self-in_default c =
     let i = c.self.invariant in
     record {
-      side = subst IsSide (sym c.put_all.ensures.side) i.side;
-      point_side = subst IsSide (sym c.put_all-2.ensures.side) i.point_side;
       strings = c.put_all.ensures.spread;
       points = c.put_all-2.ensures.spread;
       spots = held-each (λ e. e.from ≡ e.to) (kept c.self.inside.points)

@@ -1,6 +1,5 @@
 use Rattle.std.proofs.Common.{refl, sym, subst}
-use Rattle.cell_grid.specs.Cells.{IsSide}
-use Rattle.cell_grid.specs.Spread.{Holds}
+use Rattle.cell_grid.specs.Kept.{kept, IsHeld}
 use Rattle.cell_grid.specs.Grid.{Grid, HoldsPoint}
 use Rattle.cell_grid.proofs.Grids.{spots_put}
 use Rattle.cell_grid.proofs.grid.CellGrid.put_point.Goals as goal
@@ -22,13 +21,9 @@ returns-clause-err c = rw (← c.self.view_is) c.put.ensures.err
 pub invariant_of-self : goal.invariant_of-self
 invariant_of-self c =
     let i = c.self.invariant in
-    let old = c.self.inside.points in
-    let new = c.put.new.self in
     record {
-      side = i.side;
-      point_side = subst IsSide (sym c.put.ensures.side) i.point_side;
       strings = i.strings;
       points = c.put.ensures.spread;
-      spots = spots_put (Holds old.lists old.long.items) (Holds new.lists new.long.items) i.spots
+      spots = spots_put (IsHeld (kept c.self.inside.points)) (IsHeld (kept c.put.new.self)) i.spots
           _ refl c.put.result c.put.ensures.put c.put.ensures.err;
     }

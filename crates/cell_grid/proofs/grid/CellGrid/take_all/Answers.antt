@@ -1,5 +1,3 @@
-use Rattle.std.proofs.Common.{sym, subst}
-use Rattle.cell_grid.specs.Cells.{IsSide}
 use Rattle.cell_grid.proofs.grid.CellGrid.take_all.Goals as goal
 
 pub returns-clause-strings : goal.returns-clause-strings
@@ -16,8 +14,6 @@ pub invariant_of-self : goal.invariant_of-self
 invariant_of-self c =
     let i = c.self.invariant in
     record {
-      side = subst IsSide (sym c.take_all.ensures.side) i.side;
-      point_side = subst IsSide (sym c.take_all-2.ensures.side) i.point_side;
       strings = c.take_all.ensures.spread;
       points = c.take_all-2.ensures.spread;
       spots = λ e h. i.spots e ((c.take_all-2.ensures.taken e).0 h).0;

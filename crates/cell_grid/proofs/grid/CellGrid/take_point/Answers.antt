@@ -1,6 +1,4 @@
-use Rattle.std.proofs.Common.{sym, subst}
-use Rattle.cell_grid.specs.Cells.{IsSide}
-use Rattle.cell_grid.specs.Spread.{Holds}
+use Rattle.cell_grid.specs.Kept.{kept, IsHeld}
 use Rattle.cell_grid.proofs.Grids.{spots_take}
 use Rattle.cell_grid.proofs.grid.CellGrid.take_point.Goals as goal
 
@@ -13,13 +11,9 @@ returns-clause-strings c = rw (← c.self.view_is) (λ e. ((λ h. h), (λ h. h))
 pub invariant_of-self : goal.invariant_of-self
 invariant_of-self c =
     let i = c.self.invariant in
-    let old = c.self.inside.points in
-    let new = c.take.new.self in
     record {
-      side = i.side;
-      point_side = subst IsSide (sym c.take.ensures.side) i.point_side;
       strings = i.strings;
       points = c.take.ensures.spread;
-      spots = spots_take (Holds old.lists old.long.items) (Holds new.lists new.long.items) i.spots
+      spots = spots_take (IsHeld (kept c.self.inside.points)) (IsHeld (kept c.take.new.self)) i.spots
           _ c.take.ensures.taken;
     }

@@ -1,65 +1,124 @@
-use Rattle.std.proofs.Common.{rules, ◌<◌, ◌≤◌, subst, arith}
-use Rattle.cell_grid.specs.Cells.{IsBlock, cell_count}
-use Rattle.cell_grid.specs.Spread.{block_at, IsSpread, Holds}
-use Rattle.cell_grid.proofs.Spreads.{holds-same, spread-same, holds-put, spread-put, holds-put_long, spread-put_long, holds_through, OnErr_always}
+use Rattle.std.proofs.Common.{◌∙◌, ◌≤◌, List, ◌∷◌, ◌++◌, [], sym}
+use Rattle.std.specs.Prelude.{count_by}
+use Rattle.std.specs.List.{Contains}
+use Rattle.cell_grid.specs.declared.entry.Entry.{Entry}
+use Rattle.cell_grid.specs.declared.segments.Segments.{Segments}
+use Rattle.cell_grid.specs.declared.segments.Level.TheVariants.{Squares, LanesEast, LanesNorth, Long}
+use Rattle.cell_grid.specs.Entries.{is_same_entry}
+use Rattle.cell_grid.specs.Spread.{IsSoundEntry}
+use Rattle.cell_grid.specs.Kept.{kept, level_of}
+use Rattle.cell_grid.proofs.Spreads.{count_pushed}
+use Rattle.cell_grid.proofs.Levels.{IsPutAt, but-squares, but-lanes_east, but-lanes_north, but-long, put-more, put-same, put-levels, on_ok, on_err, either, long-more}
+use Rattle.cell_grid.proofs.Together.{each-push}
 use Rattle.cell_grid.proofs.segments.Segments.put.Goals as goal
 
-pub returns-in_err-push-clause-err : goal.returns-in_err-push-clause-err
-returns-in_err-push-clause-err c =
-    OnErr_always c.from_residual.result
-    (rw c.in_err-push.ensures.items (λ e. ((λ h. h), (λ h. h))))
-
-pub returns-then-cell_count-gt-MOST_CELLS_OF_ENTRY :
-    goal.returns-then-cell_count-gt-MOST_CELLS_OF_ENTRY
-returns-then-cell_count-gt-MOST_CELLS_OF_ENTRY c =
+pub returns-in-Squares : goal.returns-in-Squares
+returns-in-Squares c =
     let old = c.args.self.now in
-    let e = c.args.entry in
-    let told = rw c.block_of-block.ensures.value at c.cell_count.ensures in
-    let many : 64 < cell_count (block_at old.side e) =
-    omega (arith, told, c.if-cell_count-gt-MOST_CELLS_OF_ENTRY.true) in
+    let was = c.requires.spread in
+    let told = c.put.ensures in
+    let new : Segments = record { squares = c.put.new.self; lanes_east = old.lanes_east; lanes_north = old.lanes_north; long = old.long } in
+    let put : IsPutAt c.put.result (kept old) Squares c.args.entry (kept new) = record {
+      elsewhere = but-squares old.squares.lists old.lanes_east.lists old.lanes_north.lists
+          old.long.entries.items c.put.new.self.lists;
+      more = told.put;
+      same = told.err;
+    } in
     record {
-      side = search rules;
-      spread = rw c.in_ok-push.ensures.items
-          (spread-put_long old.side e old.lists old.long.items c.requires.spread many
-          c.requires.sound c.requires.other);
-      put = rw c.in_ok-push.ensures.items
-          (holds-put_long old.side e old.lists old.long.items c.requires.spread many);
-      err = search rules;
+      spread = record {
+        squares = told.spread;
+        lanes_east = was.lanes_east;
+        lanes_north = was.lanes_north;
+        long_once = was.long_once;
+        long_sound = was.long_sound;
+        at_level = rw told.size (put-levels c.put.result (kept old) (kept new) Squares c.args.entry put
+            (level_of old) was.at_level (sym c.in-Squares.is ∙ c.level_of.ensures));
+      };
+      put = put-more c.put.result (kept old) (kept new) Squares c.args.entry put;
+      err = put-same c.put.result (kept old) (kept new) Squares c.args.entry put;
     }
 
-pub returns-in_err-reserve_each-clause-spread : goal.returns-in_err-reserve_each-clause-spread
-returns-in_err-reserve_each-clause-spread c =
-    spread-same c.args.self.now.side c.args.self.now.lists c.reserve_each.new.lists
-    c.args.self.now.long.items c.reserve_each.ensures.same c.requires.spread
-
-pub returns-in_err-reserve_each-clause-err : goal.returns-in_err-reserve_each-clause-err
-returns-in_err-reserve_each-clause-err c =
-    OnErr_always c.from_residual-in_err-reserve_each.result
-    (holds-same c.args.self.now.side c.args.self.now.lists c.reserve_each.new.lists
-    c.args.self.now.long.items c.reserve_each.ensures.same)
-
-pub returns : goal.returns
-returns c =
+pub returns-in-LanesEast : goal.returns-in-LanesEast
+returns-in-LanesEast c =
     let old = c.args.self.now in
-    let e = c.args.entry in
-    let roomy = c.reserve_each.new.lists in
-    let same = holds-same old.side old.lists roomy old.long.items c.reserve_each.ensures.same in
-    let spread : IsSpread old.side roomy old.long.items =
-    spread-same old.side old.lists roomy old.long.items c.reserve_each.ensures.same
-    c.requires.spread in
-    let is_block : IsBlock (block_at old.side e) =
-    subst IsBlock c.block_of-block.ensures.value c.block_of-block.ensures.block in
-    let told = rw c.block_of-block.ensures.value at c.cell_count.ensures in
-    let few : cell_count (block_at old.side e) ≤ 64 =
-    omega (arith, told, c.if-cell_count-gt-MOST_CELLS_OF_ENTRY.false) in
-    let put = rw c.block_of-block.ensures.value at c.put_each.ensures in
-    let absent = λ (h : Holds roomy old.long.items e). c.requires.other ((same e).0 h) in
+    let was = c.requires.spread in
+    let told = c.put-in-LanesEast.ensures in
+    let new : Segments = record { squares = old.squares; lanes_east = c.put-in-LanesEast.new.self; lanes_north = old.lanes_north; long = old.long } in
+    let put : IsPutAt c.put-in-LanesEast.result (kept old) LanesEast c.args.entry (kept new) = record {
+      elsewhere = but-lanes_east old.squares.lists old.lanes_east.lists old.lanes_north.lists
+          old.long.entries.items c.put-in-LanesEast.new.self.lists;
+      more = told.put;
+      same = told.err;
+    } in
     record {
-      side = search rules;
-      spread = spread-put old.side e is_block roomy c.put_each.new.lists old.long.items spread
-          few c.requires.sound absent put;
-      put = holds_through old.lists roomy c.put_each.new.lists old.long.items e same
-          (holds-put old.side e is_block roomy c.put_each.new.lists old.long.items spread few
-          c.requires.sound absent put);
-      err = search rules;
+      spread = record {
+        squares = was.squares;
+        lanes_east = told.spread;
+        lanes_north = was.lanes_north;
+        long_once = was.long_once;
+        long_sound = was.long_sound;
+        at_level = rw told.size (put-levels c.put-in-LanesEast.result (kept old) (kept new) LanesEast c.args.entry put
+            (level_of old) was.at_level (sym c.in-LanesEast.is ∙ c.level_of.ensures));
+      };
+      put = put-more c.put-in-LanesEast.result (kept old) (kept new) LanesEast c.args.entry put;
+      err = put-same c.put-in-LanesEast.result (kept old) (kept new) LanesEast c.args.entry put;
+    }
+
+pub returns-in-LanesNorth : goal.returns-in-LanesNorth
+returns-in-LanesNorth c =
+    let old = c.args.self.now in
+    let was = c.requires.spread in
+    let told = c.put-in-LanesNorth.ensures in
+    let new : Segments = record { squares = old.squares; lanes_east = old.lanes_east; lanes_north = c.put-in-LanesNorth.new.self; long = old.long } in
+    let put : IsPutAt c.put-in-LanesNorth.result (kept old) LanesNorth c.args.entry (kept new) = record {
+      elsewhere = but-lanes_north old.squares.lists old.lanes_east.lists old.lanes_north.lists
+          old.long.entries.items c.put-in-LanesNorth.new.self.lists;
+      more = told.put;
+      same = told.err;
+    } in
+    record {
+      spread = record {
+        squares = was.squares;
+        lanes_east = was.lanes_east;
+        lanes_north = told.spread;
+        long_once = was.long_once;
+        long_sound = was.long_sound;
+        at_level = rw told.size (put-levels c.put-in-LanesNorth.result (kept old) (kept new) LanesNorth c.args.entry put
+            (level_of old) was.at_level (sym c.in-LanesNorth.is ∙ c.level_of.ensures));
+      };
+      put = put-more c.put-in-LanesNorth.result (kept old) (kept new) LanesNorth c.args.entry put;
+      err = put-same c.put-in-LanesNorth.result (kept old) (kept new) LanesNorth c.args.entry put;
+    }
+
+pub returns-in-Long : goal.returns-in-Long
+returns-in-Long c =
+    let old = c.args.self.now in
+    let was = c.requires.spread in
+    let e = c.args.entry in
+    let r = c.put-in-Long.result in
+    let told = c.put-in-Long.ensures in
+    let xs = old.long.entries.items in
+    let ys = c.put-in-Long.new.self.entries.items in
+    let new : Segments = record { squares = old.squares; lanes_east = old.lanes_east; lanes_north = old.lanes_north; long = c.put-in-Long.new.self } in
+    let put : IsPutAt r (kept old) Long e (kept new) = record {
+      elsewhere = but-long old.squares.lists old.lanes_east.lists old.lanes_north.lists xs ys;
+      more = on_ok r (λ is. rw is (long-more xs e)) told.put;
+      same = on_err r (λ is. rw is (λ x. ((λ h. h), (λ h. h)))) told.err;
+    } in
+    record {
+      spread = record {
+        squares = was.squares;
+        lanes_east = was.lanes_east;
+        lanes_north = was.lanes_north;
+        long_once = either (λ (l : List Entry). (x : Entry) → count_by (is_same_entry x) l ≤ 1) r xs ys
+            (xs ++ e ∷ []) told.put told.err
+            (λ x. count_pushed xs e x (λ h. c.requires.other (Long, h)) (was.long_once x)) was.long_once;
+        long_sound = either (λ (l : List Entry). (x : Entry) → Contains l x → IsSoundEntry x) r xs ys
+            (xs ++ e ∷ []) told.put told.err
+            (each-push IsSoundEntry xs e was.long_sound c.requires.sound) was.long_sound;
+        at_level = put-levels r (kept old) (kept new) Long e put (level_of old) was.at_level
+            (sym c.in-Long.is ∙ c.level_of.ensures);
+      };
+      put = put-more r (kept old) (kept new) Long e put;
+      err = put-same r (kept old) (kept new) Long e put;
     }

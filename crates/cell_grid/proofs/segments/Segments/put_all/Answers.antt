@@ -1,4 +1,3 @@
-use Rattle.std.proofs.Common.{◌∙◌}
 use Rattle.cell_grid.specs.Kept.{kept}
 use Rattle.cell_grid.proofs.Together.{there, not-yet, more-goes_on, more-ends, can-be_taken, taken-back}
 use Rattle.cell_grid.proofs.segments.Segments.put_all.Goals as goal
@@ -29,7 +28,6 @@ returns-in-Err-clause-err c =
 
 pub loop-place-preserved : goal.loop-place-preserved
 loop-place-preserved c = record {
-  side = c.put.ensures.side ∙ c.loop-place.invariant.side;
   spread = c.put.ensures.spread;
   put = more-goes_on c.args.entries.now c.loop-place.place _ c.loop-place-test.true
       c.index-entries-place.is (kept c.args.self.now) (kept c.loop-place.self)

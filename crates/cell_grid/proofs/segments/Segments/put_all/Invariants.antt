@@ -1,4 +1,4 @@
-use Rattle.std.proofs.Common.{◌≡◌, take}
+use Rattle.std.proofs.Common.{take}
 use Rattle.cell_grid.specs.Kept.{kept, AreSpread}
 use Rattle.cell_grid.specs.Together.{HoldsMore}
 use Rattle.cell_grid.proofs.segments.Segments.put_all.Given as goal
@@ -6,7 +6,6 @@ use Rattle.cell_grid.proofs.segments.Segments.put_all.Given as goal
 -- the first of them are in
 abbrev pub invariant-loop-place : goal.invariant-loop-place
 invariant-loop-place l = record {
-  side : l.self.side ≡ l.initial.self.side;
   spread : AreSpread l.self;
   put : HoldsMore (kept l.initial.self) (take l.place l.entries) (kept l.self);
 }

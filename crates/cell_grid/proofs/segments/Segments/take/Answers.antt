@@ -1,68 +1,112 @@
-use Rattle.std.proofs.Common.{rules, ◌<◌, ◌≤◌, List, subst, sym, arith}
-use Rattle.std.specs.List.{Contains}
-use Rattle.cell_grid.specs.declared.entry.Entry.{Entry}
-use Rattle.cell_grid.specs.Cells.{IsBlock, cell_count}
-use Rattle.cell_grid.specs.Spread.{block_at}
-use Rattle.cell_grid.proofs.Spreads.{holds-take, spread-take, holds-take_long, spread-take_long, long-there, short-there, taken_out}
+use Rattle.std.proofs.Common.{◌∙◌, sym}
+use Rattle.cell_grid.specs.declared.segments.Segments.{Segments}
+use Rattle.cell_grid.specs.declared.segments.Level.TheVariants.{Squares, LanesEast, LanesNorth, Long}
+use Rattle.cell_grid.specs.Kept.{kept, level_of}
+use Rattle.cell_grid.proofs.Spreads.{few_out, stood}
+use Rattle.cell_grid.proofs.Levels.{IsTakenAt, but-squares, but-lanes_east, but-lanes_north, but-long, take-levels, take-less, long-less}
 use Rattle.cell_grid.proofs.segments.Segments.take.Goals as goal
 
-pub place_in-place-requires : goal.place_in-place-requires
-place_in-place-requires c =
-    let told = rw c.block_of-block.ensures.value at c.cell_count.ensures in
-    let many : 64 < cell_count (block_at c.args.self.now.side c.args.entry) =
-    omega (arith, told, c.if-cell_count-gt-MOST_CELLS_OF_ENTRY.true) in
-    subst (λ (l : List Entry). Contains l c.args.entry) (sym c.as_slice.ensures.value)
-    (long-there c.args.self.now.side c.args.entry c.args.self.now.lists c.args.self.now.long.items
-    c.requires.spread many c.requires.there)
-
-pub take_each-requires-clause-there : goal.take_each-requires-clause-there
-take_each-requires-clause-there c =
+pub returns-in-Squares : goal.returns-in-Squares
+returns-in-Squares c =
     let old = c.args.self.now in
+    let was = c.requires.spread in
     let e = c.args.entry in
-    let told = rw c.block_of-block.ensures.value at c.cell_count.ensures in
-    let is_block : IsBlock (block_at old.side e) =
-    subst IsBlock c.block_of-block.ensures.value c.block_of-block.ensures.block in
-    let few : cell_count (block_at old.side e) ≤ 64 =
-    omega (arith, told, c.if-cell_count-gt-MOST_CELLS_OF_ENTRY.false) in
-    rw c.block_of-block.ensures.value (short-there old.side e is_block old.lists old.long.items
-    c.requires.spread few c.requires.there)
-
-pub returns-then-cell_count-gt-MOST_CELLS_OF_ENTRY :
-    goal.returns-then-cell_count-gt-MOST_CELLS_OF_ENTRY
-returns-then-cell_count-gt-MOST_CELLS_OF_ENTRY c =
-    let old = c.args.self.now in
-    let e = c.args.entry in
-    let left = c.swap_remove.new.self.items in
-    let told = rw c.block_of-block.ensures.value at c.cell_count.ensures in
-    let many : 64 < cell_count (block_at old.side e) =
-    omega (arith, told, c.if-cell_count-gt-MOST_CELLS_OF_ENTRY.true) in
-    let place = rw c.as_slice.ensures.value at c.place_in-place.ensures in
-    let out = taken_out old.long.items c.place_in-place.result e c.swap_remove.result left
-    place.within place.value c.swap_remove.ensures.value c.swap_remove.ensures.items in
+    let told = c.take.ensures in
+    let of_e = sym c.in-Squares.is ∙ c.level_of.ensures in
+    let new : Segments = record { squares = c.take.new.self; lanes_east = old.lanes_east; lanes_north = old.lanes_north; long = old.long } in
+    let taken : IsTakenAt (kept old) Squares e (kept new) = record {
+      elsewhere = but-squares old.squares.lists old.lanes_east.lists old.lanes_north.lists
+          old.long.entries.items c.take.new.self.lists;
+      less = told.taken;
+    } in
     record {
-      side = search rules;
-      spread = spread-take_long old.side e old.lists old.long.items c.requires.spread many left
-          out;
-      taken = holds-take_long old.side e old.lists old.long.items c.requires.spread many left
-          out;
+      spread = record {
+        squares = told.spread;
+        lanes_east = was.lanes_east;
+        lanes_north = was.lanes_north;
+        long_once = was.long_once;
+        long_sound = was.long_sound;
+        at_level = rw told.size (take-levels (kept old) Squares e (level_of old) was.at_level of_e
+            (kept new) taken);
+      };
+      taken = take-less (kept old) Squares e (level_of old) was.at_level of_e (kept new) taken;
     }
 
-pub returns-else-cell_count-gt-MOST_CELLS_OF_ENTRY :
-    goal.returns-else-cell_count-gt-MOST_CELLS_OF_ENTRY
-returns-else-cell_count-gt-MOST_CELLS_OF_ENTRY c =
+pub returns-in-LanesEast : goal.returns-in-LanesEast
+returns-in-LanesEast c =
     let old = c.args.self.now in
+    let was = c.requires.spread in
     let e = c.args.entry in
-    let left = c.take_each.new.lists in
-    let told = rw c.block_of-block.ensures.value at c.cell_count.ensures in
-    let is_block : IsBlock (block_at old.side e) =
-    subst IsBlock c.block_of-block.ensures.value c.block_of-block.ensures.block in
-    let few : cell_count (block_at old.side e) ≤ 64 =
-    omega (arith, told, c.if-cell_count-gt-MOST_CELLS_OF_ENTRY.false) in
-    let out = rw c.block_of-block.ensures.value at c.take_each.ensures in
+    let told = c.take-in-LanesEast.ensures in
+    let of_e = sym c.in-LanesEast.is ∙ c.level_of.ensures in
+    let new : Segments = record { squares = old.squares; lanes_east = c.take-in-LanesEast.new.self; lanes_north = old.lanes_north; long = old.long } in
+    let taken : IsTakenAt (kept old) LanesEast e (kept new) = record {
+      elsewhere = but-lanes_east old.squares.lists old.lanes_east.lists old.lanes_north.lists
+          old.long.entries.items c.take-in-LanesEast.new.self.lists;
+      less = told.taken;
+    } in
     record {
-      side = search rules;
-      spread = spread-take old.side e is_block old.lists left old.long.items c.requires.spread
-          few out;
-      taken = holds-take old.side e is_block old.lists left old.long.items c.requires.spread
-          few out;
+      spread = record {
+        squares = was.squares;
+        lanes_east = told.spread;
+        lanes_north = was.lanes_north;
+        long_once = was.long_once;
+        long_sound = was.long_sound;
+        at_level = rw told.size (take-levels (kept old) LanesEast e (level_of old) was.at_level of_e
+            (kept new) taken);
+      };
+      taken = take-less (kept old) LanesEast e (level_of old) was.at_level of_e (kept new) taken;
+    }
+
+pub returns-in-LanesNorth : goal.returns-in-LanesNorth
+returns-in-LanesNorth c =
+    let old = c.args.self.now in
+    let was = c.requires.spread in
+    let e = c.args.entry in
+    let told = c.take-in-LanesNorth.ensures in
+    let of_e = sym c.in-LanesNorth.is ∙ c.level_of.ensures in
+    let new : Segments = record { squares = old.squares; lanes_east = old.lanes_east; lanes_north = c.take-in-LanesNorth.new.self; long = old.long } in
+    let taken : IsTakenAt (kept old) LanesNorth e (kept new) = record {
+      elsewhere = but-lanes_north old.squares.lists old.lanes_east.lists old.lanes_north.lists
+          old.long.entries.items c.take-in-LanesNorth.new.self.lists;
+      less = told.taken;
+    } in
+    record {
+      spread = record {
+        squares = was.squares;
+        lanes_east = was.lanes_east;
+        lanes_north = told.spread;
+        long_once = was.long_once;
+        long_sound = was.long_sound;
+        at_level = rw told.size (take-levels (kept old) LanesNorth e (level_of old) was.at_level of_e
+            (kept new) taken);
+      };
+      taken = take-less (kept old) LanesNorth e (level_of old) was.at_level of_e (kept new) taken;
+    }
+
+pub returns-in-Long : goal.returns-in-Long
+returns-in-Long c =
+    let old = c.args.self.now in
+    let was = c.requires.spread in
+    let e = c.args.entry in
+    let told = c.take-in-Long.ensures in
+    let of_e = sym c.in-Long.is ∙ c.level_of.ensures in
+    let new : Segments = record { squares = old.squares; lanes_east = old.lanes_east; lanes_north = old.lanes_north; long = c.take-in-Long.new.self } in
+    let taken : IsTakenAt (kept old) Long e (kept new) = record {
+      elsewhere = but-long old.squares.lists old.lanes_east.lists old.lanes_north.lists
+          old.long.entries.items c.take-in-Long.new.self.entries.items;
+      less = long-less old.long.entries.items e c.take-in-Long.new.self.entries.items told (was.long_once e);
+    } in
+    record {
+      spread = record {
+        squares = was.squares;
+        lanes_east = was.lanes_east;
+        lanes_north = was.lanes_north;
+        long_once = λ x. few_out old.long.entries.items c.take-in-Long.new.self.entries.items e told x
+            (was.long_once x);
+        long_sound = λ x h. was.long_sound x
+            (stood old.long.entries.items c.take-in-Long.new.self.entries.items e told x h);
+        at_level = take-levels (kept old) Long e (level_of old) was.at_level of_e (kept new) taken;
+      };
+      taken = take-less (kept old) Long e (level_of old) was.at_level of_e (kept new) taken;
     }

@@ -1,4 +1,3 @@
-use Rattle.std.proofs.Common.{◌∙◌}
 use Rattle.cell_grid.specs.Kept.{kept}
 use Rattle.cell_grid.proofs.Together.{less-goes_on, less-ends, still-held}
 use Rattle.cell_grid.proofs.segments.Segments.take_all.Goals as goal
@@ -11,7 +10,6 @@ take-requires-clause-there c =
 
 pub loop-place-preserved : goal.loop-place-preserved
 loop-place-preserved c = record {
-  side = c.take.ensures.side ∙ c.loop-place.invariant.side;
   spread = c.take.ensures.spread;
   taken = less-goes_on c.args.entries.now c.loop-place.place _ c.loop-place-test.true
       c.index-entries-place.is (kept c.args.self.now) (kept c.loop-place.self)

@@ -1,7 +1,7 @@
 use Rattle.std.proofs.Common.{◌<◌, ◌∙◌, subst}
 use Rattle.cell_grid.specs.Cells.{cell_count}
 use Rattle.cell_grid.proofs.Spreading.{room-more}
-use Rattle.cell_grid.proofs.segments.reserve_each.Goals as goal
+use Rattle.cell_grid.proofs.layer.reserve_each.Goals as goal
 
 pub loop-place-preserved : goal.loop-place-preserved
 loop-place-preserved c =

@@ -1,7 +1,7 @@
 use Rattle.std.proofs.Common.{◌<◌, subst, arith}
 use Rattle.cell_grid.specs.Cells.{cell_count}
 use Rattle.cell_grid.proofs.Spreading.{room-less, put-more}
-use Rattle.cell_grid.proofs.segments.put_each.Goals as goal
+use Rattle.cell_grid.proofs.layer.put_each.Goals as goal
 
 pub put-requires : goal.put-requires
 put-requires c =

@@ -1,7 +1,7 @@
 use Rattle.std.proofs.Common.{ℕ, ◌<◌}
 use Rattle.cell_grid.specs.Cells.{cell_at}
 use Rattle.cell_grid.specs.Held.{HasRoomInCell, HasSameEntries}
-use Rattle.cell_grid.proofs.segments.reserve_each.Given as goal
+use Rattle.cell_grid.proofs.layer.reserve_each.Given as goal
 
 abbrev pub invariant-loop-place : goal.invariant-loop-place
 invariant-loop-place l = record {

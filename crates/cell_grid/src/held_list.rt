@@ -1,0 +1,94 @@
+//! One list of entries.
+ghost use Rattle.std.specs.Prelude.{◌≡◌, ◌<◌, ◌≤◌, ◌+◌, ◌∷◌, ◌++◌, [], true, false, length, vec_len, vec_capacity, IsPermutation, OnOk, OnErr, slice_index_or};
+ghost use Rattle.std.specs.List.{Contains};
+
+use crate::entry::{Entry, is_same};
+use cad_rows::Memory;
+use std::alloc::{AllocError, Global};
+
+/// Entries in a list, and the place where one was taken out last: what is taken out one after
+/// another mostly stood side by side.
+#[derive(Drop)]
+pub(crate) struct HeldList {
+    pub entries: Vec<Entry>,
+    pub taken: usize,
+}
+
+/// Whether an entry stands at a place of a list.
+fn is_at(list: &[Entry], place: usize, entry: &Entry) -> bool
+    ensures yes { result ≡ true
+        → (place < length list.now) × (slice_index_or list.now place entry.now ≡ entry.now) }
+    ensures no { result ≡ false → place < length list.now
+        → ¬ (slice_index_or list.now place entry.now ≡ entry.now) }
+{
+    place < list.len() && is_same(&list[place], entry)
+}
+
+/// The place of an entry in a list that has it. It is looked for from a place on, both ways at
+/// once, so that what stands near that place is found soon.
+fn place_in(list: &[Entry], entry: &Entry, from: usize) -> usize
+    requires { Contains list.now entry.now }
+    ensures within { result < length list.now }
+    ensures value { slice_index_or list.now result entry.now ≡ entry.now }
+{
+    let start = from.min(list.len() - 1);
+    for distance in 0..list.len() {
+        if is_at(list, start + distance, entry) {
+            return start + distance;
+        }
+        let before = start.saturating_sub(distance);
+        if is_at(list, before, entry) {
+            return before;
+        }
+    }
+    0
+}
+
+impl HeldList {
+    /// No entries.
+    pub(crate) fn new(alloc: Global) -> HeldList
+        ensures { result.entries.items ≡ [] }
+    {
+        HeldList {
+            entries: Vec::new(alloc),
+            taken: 0,
+        }
+    }
+
+    /// Room for one entry more. The entries stay as they are, also where memory runs out.
+    pub(crate) fn reserve(&mut self) -> Result<(), AllocError>
+        ensures room { OnOk result
+            (vec_len self.new.entries + 1 ≤ vec_capacity self.new.entries) }
+        ensures same { self.new.entries.items ≡ self.old.entries.items }
+    {
+        self.entries.reserve(1)
+    }
+
+    /// Puts an entry last where there is room for it. It takes no memory.
+    pub(crate) fn put_reserved(&mut self, entry: Entry)
+        requires { vec_len self.old.entries + 1 ≤ vec_capacity self.old.entries }
+        ensures { self.new.entries.items ≡ self.old.entries.items ++ entry ∷ [] }
+    {
+        self.entries.push_reserved(entry);
+    }
+
+    /// Puts an entry last. Where memory runs out the entries stay as they are.
+    pub(crate) fn put(&mut self, entry: Entry) -> Result<(), Memory>
+        ensures put { OnOk result
+            (self.new.entries.items ≡ self.old.entries.items ++ entry ∷ []) }
+        ensures err { OnErr result (self.new.entries.items ≡ self.old.entries.items) }
+    {
+        self.entries.push(entry)?;
+        Ok(())
+    }
+
+    /// Takes an entry out; the last one takes its place. It takes no memory.
+    pub(crate) fn take(&mut self, entry: &Entry)
+        requires { Contains self.old.entries.items entry.now }
+        ensures { IsPermutation self.old.entries.items (entry.now ∷ self.new.entries.items) }
+    {
+        let place = place_in(self.entries.as_slice(), entry, self.taken);
+        self.entries.swap_remove(place);
+        self.taken = place;
+    }
+}

@@ -1,0 +1,112 @@
+//! Entries by the cells of one size.
+ghost use Rattle.std.specs.Prelude.{◌≡◌, ℕ, ◌<◌, OnOk, OnErr};
+ghost use Rattle.std.specs.List.{Contains};
+ghost use Rattle.cell_grid.specs.Cells.{IsBlock, IsCellSize, cell_count, cell_at};
+ghost use Rattle.cell_grid.specs.Held.{entries_at, HasSameEntries};
+ghost use Rattle.cell_grid.specs.Spread.{IsSoundEntry, HasRoomIn, IsPutIn, IsTakenOut, IsSpread, Stands, StandsNone, StandsOneMore, StandsOneLess, StandsSame, fits as fits_of};
+
+use crate::block::{Block, CellSize, block_of};
+use crate::entry::Entry;
+use crate::lists::CellLists;
+use cad_rows::Memory;
+use number_hash::NumberHash;
+use std::alloc::Global;
+
+/// An entry whose box touches more cells of a layer than this stands elsewhere: a list that more
+/// searches go through costs less than entries in so many cells.
+const MOST_CELLS_OF_ENTRY: u64 = 64;
+
+/// Entries by the cells of one size, each in the list of every cell that its box touches.
+#[derive(Drop)]
+pub(crate) struct Layer {
+    pub size: CellSize,
+    pub lists: CellLists,
+}
+
+/// Gives each cell of a block room for one entry more. No cell has another entry after it, also
+/// where memory runs out.
+fn reserve_each(lists: &mut CellLists, block: &Block) -> Result<(), Memory>
+    requires { IsBlock block.now }
+    ensures room { OnOk result (HasRoomIn lists.new block.now 0) }
+    ensures same { HasSameEntries lists.old lists.new }
+{
+    for place in 0..block.cell_count() {
+        lists.reserve(block.cell_at(place))?;
+    }
+    Ok(())
+}
+
+/// Puts an entry into each cell of a block, which all have room for it. It takes no memory.
+fn put_each(lists: &mut CellLists, block: &Block, entry: &Entry)
+    requires block { IsBlock block.now }
+    requires room { HasRoomIn lists.old block.now 0 }
+    ensures { IsPutIn lists.old block.now entry.now (cell_count block.now) lists.new }
+{
+    for place in 0..block.cell_count() {
+        lists.put(block.cell_at(place), *entry);
+    }
+}
+
+/// Takes an entry out of each cell of a block, which all have it.
+fn take_each(lists: &mut CellLists, block: &Block, entry: &Entry)
+    requires block { IsBlock block.now }
+    requires there { (k : ℕ) → k < cell_count block.now
+        → Contains (entries_at lists.old (cell_at block.now k)) entry.now }
+    ensures { IsTakenOut lists.old block.now entry.now (cell_count block.now) lists.new }
+{
+    for turn in 0..block.cell_count() {
+        lists.take(block.cell_at(turn), entry);
+    }
+}
+
+impl Layer {
+    /// No entries, in cells of a size.
+    pub(crate) fn new(alloc: Global, hash: NumberHash, size: CellSize) -> Layer
+        requires { IsCellSize size }
+        ensures size { result.size ≡ size }
+        ensures spread { IsSpread result.size result.lists }
+        ensures empty { StandsNone result.lists }
+    {
+        Layer {
+            size,
+            lists: CellLists::new(alloc, hash),
+        }
+    }
+
+    /// Whether the box of an entry touches few enough cells, so that the entry may stand here.
+    pub(crate) fn fits(&self, entry: &Entry) -> bool
+        requires { IsCellSize self.now.size }
+        ensures { result ≡ fits_of self.now.size entry.now }
+    {
+        block_of(self.size, entry.from, entry.to).cell_count() <= MOST_CELLS_OF_ENTRY
+    }
+
+    /// Puts an entry in that doesn't stand here. It makes room in all cells first, so where memory
+    /// runs out the same entries stand here as before.
+    pub(crate) fn put(&mut self, entry: Entry) -> Result<(), Memory>
+        requires spread { IsSpread self.old.size self.old.lists }
+        requires sound { IsSoundEntry entry }
+        requires other { ¬ Stands self.old.lists entry }
+        ensures size { self.new.size ≡ self.old.size }
+        ensures spread { IsSpread self.new.size self.new.lists }
+        ensures put { OnOk result (StandsOneMore self.old.lists entry self.new.lists) }
+        ensures err { OnErr result (StandsSame self.old.lists self.new.lists) }
+    {
+        let block = block_of(self.size, entry.from, entry.to);
+        reserve_each(&mut self.lists, &block)?;
+        put_each(&mut self.lists, &block, &entry);
+        Ok(())
+    }
+
+    /// Takes an entry out that stands here. It takes no memory.
+    pub(crate) fn take(&mut self, entry: &Entry)
+        requires spread { IsSpread self.old.size self.old.lists }
+        requires there { Stands self.old.lists entry.now }
+        ensures size { self.new.size ≡ self.old.size }
+        ensures spread { IsSpread self.new.size self.new.lists }
+        ensures taken { StandsOneLess self.old.lists entry.now self.new.lists }
+    {
+        let block = block_of(self.size, entry.from, entry.to);
+        take_each(&mut self.lists, &block, entry);
+    }
+}
