@@ -4,6 +4,7 @@ use Rattle.std.proofs.lemmas.Bool.Decides.{Decides-eqb}
 use Rattle.half_table.specs.declared.half.Half.{Half}
 use Rattle.half_table.specs.Half.{twin, is_half}
 use Rattle.half_table.specs.Cycle.{holds}
+use Rattle.half_table.specs.Rows.{HalfRows, IsLinked, next, prev}
 use Rattle.half_table.proofs.Halves.{is_half-self, is_half-other, is_half-turned, twin-twin}
 use Rattle.half_paths.specs.Redirect.{redirect}
 use Rattle.half_paths.specs.Path.{AreDifferent, AreElsewhere, last_of}
@@ -16,17 +17,39 @@ use Rattle.half_paths.proofs.Apart.{other, far, last-turned, twin-first, last-ap
 use Rattle.half_paths.proofs.Exchanged.{enters-outside}
 use Rattle.half_paths.proofs.Tied.{unstrung-now, unstrung-elsewhere, loose-all}
 
-module _ (f : Half → Half) (a : Half) (rest : List Half) (different : AreDifferent (a ∷ rest)) (tied : IsStrung f a rest) (before beyond : Half)
-    (enters : f before ≡ a) (returns : f beyond ≡ twin (last_of a rest)) (on_away : AreElsewhere (f (last_of a rest)) (a ∷ rest)) (back_away : AreElsewhere (f (twin a)) (a ∷ rest)) where
+-- What follows what where a path is out and loose, and what followed before.
+pub record IsTakenOut (f new : Half → Half) (a : Half) (rest : List Half) : Type 0 where
+  pub loose : AreLoose new (a ∷ rest)
+  pub enters : (g : Half) → AreElsewhere g (a ∷ rest) → f g ≡ a → new g ≡ f (twin a)
+  pub returns : (g : Half) → AreElsewhere g (a ∷ rest) → f g ≡ twin (last_of a rest) → new g ≡ f (last_of a rest)
+  pub others : (g : Half) → AreElsewhere g (a ∷ rest) → f g ≢ a → f g ≢ twin (last_of a rest) → new g ≡ f g
+
+module _ (rows : HalfRows) (linked : IsLinked rows) (a : Half) (rest : List Half) (different : AreDifferent (a ∷ rest)) (tied : IsStrung (next rows) a rest)
+    (on_away : AreElsewhere (next rows (last_of a rest)) (a ∷ rest)) (back_away : AreElsewhere (next rows (twin a)) (a ∷ rest)) (last : Half) (is_last : last ≡ last_of a rest) where
+  abbrev f : Half → Half
+  f = next rows
+
+  abbrev before : Half
+  before = prev rows a
+
+  abbrev beyond : Half
+  beyond = prev rows (twin (last_of a rest))
+
+  enters : f before ≡ a
+  enters = linked.next_prev a
+
+  returns : f beyond ≡ twin (last_of a rest)
+  returns = linked.next_prev (twin (last_of a rest))
+
   abbrev z : Half
   z = last_of a rest
 
-  pub can_cut : CanCut a z f
-  can_cut = record {
+  can_cut : CanCut a last f
+  can_cut = subst (λ (l : Half). CanCut a l f) (sym is_last) (record {
     two = is_half-other a (twin z) (λ e. true≢false (sym (is_half-self (twin a)) ∙ ap (λ (h : Half). is_half h (twin a)) (ap twin e ∙ twin-twin z) ∙ last-turned a rest different));
     no_ring = other (f z) a on_away.0;
     no_ring_back = other (f (twin a)) (twin z) (far (f (twin a)) a rest back_away);
-  }
+  })
 
   -- a half elsewhere is no end of the path
   not_last : (g : Half) → AreElsewhere g (a ∷ rest) → is_half g z ≡ false
@@ -41,7 +64,10 @@ module _ (f : Half → Half) (a : Half) (rest : List Half) (different : AreDiffe
       clash : twin z ≡ a → ⊥
       clash e = true≢false (sym (is_half-self z) ∙ ap (is_half z) (sym (twin-twin z) ∙ ap twin e) ∙ last-turned a rest different)
 
-  module _ (mid : Half → Half) (is_mid : mid ≡ redirect (cut before beyond a z f) f) where
+  module _ (mid : Half → Half) (cuts : CanCut a last f → (g : Half) → mid g ≡ redirect (cut before (prev rows (twin last)) a last f) f g) where
+    is_mid : mid ≡ redirect (cut before beyond a z f) f
+    is_mid = λ i g. (cuts can_cut g ∙ ap (λ (l : Half). redirect (cut before (prev rows (twin l)) a l f) f g) is_last) i
+
     value : (g : Half) (p q r s : Bool) → is_half g before ≡ p → is_half g (twin a) ≡ q → is_half g z ≡ r → is_half g beyond ≡ s
         → mid g ≡ (if p then f (twin a) else if q then a else if r then twin z else if s then f z else f g)
     value g p q r s e1 e2 e3 e4 =
@@ -65,14 +91,14 @@ module _ (f : Half → Half) (a : Half) (rest : List Half) (different : AreDiffe
     not_before : (g : Half) → f g ≢ a → is_half g before ≡ false
     not_before g far_off = is_half-other g before (λ e. far_off (ap f e ∙ enters))
 
-    pub mid-before : (g : Half) → g ≡ before → mid g ≡ f (twin a)
+    mid-before : (g : Half) → g ≡ before → mid g ≡ f (twin a)
     mid-before g is = value g true (is_half g (twin a)) (is_half g z) (is_half g beyond) (ap (is_half g) (sym is) ∙ is_half-self g) refl refl refl
 
-    pub mid-beyond : (g : Half) → g ≡ beyond → AreElsewhere g (a ∷ rest) → mid g ≡ f z
+    mid-beyond : (g : Half) → g ≡ beyond → AreElsewhere g (a ∷ rest) → mid g ≡ f z
     mid-beyond g is away =
         value g false false false true (ap (λ (h : Half). is_half h before) is ∙ apart) (not_first g away) (not_last g away) (ap (is_half g) (sym is) ∙ is_half-self g)
 
-    pub mid-other : (g : Half) → AreElsewhere g (a ∷ rest) → (g ≡ before → ⊥) → (g ≡ beyond → ⊥) → mid g ≡ f g
+    mid-other : (g : Half) → AreElsewhere g (a ∷ rest) → (g ≡ before → ⊥) → (g ≡ beyond → ⊥) → mid g ≡ f g
     mid-other g away far_off near =
         value g false false false false (is_half-other g before far_off) (not_first g away) (not_last g away) (is_half-other g beyond near)
 
@@ -89,11 +115,20 @@ module _ (f : Half → Half) (a : Half) (rest : List Half) (different : AreDiffe
     mid_last : mid z ≡ twin z
     mid_last = value z false false true (is_half z beyond) not-before_last (last-turned a rest different) (is_half-self z) refl
 
-    module _ (new : Half → Half) (is_new : new ≡ redirect (unstrung a rest) mid) where
-      pub cut-loose : AreLoose new (a ∷ rest)
-      cut-loose =
-          loose-all new a rest (subst (λ n. IsUnstrung n a rest) (sym is_new) (unstrung-now mid a rest different))
-          (ap (λ n. n (twin a)) is_new ∙ first-unstrung mid a rest different ∙ mid_first) (ap (λ n. n z) is_new ∙ last-unstrung mid a rest different ∙ mid_last)
+    module _ (new : Half → Half) (loosens : (g : Half) → new g ≡ redirect (unstrung a rest) mid g) where
+      is_new : new ≡ redirect (unstrung a rest) mid
+      is_new = λ i g. loosens g i
 
-      pub cut-elsewhere : (g : Half) → AreElsewhere g (a ∷ rest) → new g ≡ mid g
-      cut-elsewhere g away = ap (λ n. n g) is_new ∙ unstrung-elsewhere mid a rest g away
+      cut-elsewhere : (g : Half) → AreElsewhere g (a ∷ rest) → new g ≡ mid g
+      cut-elsewhere g away = loosens g ∙ unstrung-elsewhere mid a rest g away
+
+      pub taken-out : IsTakenOut f new a rest
+      taken-out = record {
+        loose =
+            loose-all new a rest (subst (λ n. IsUnstrung n a rest) (sym is_new) (unstrung-now mid a rest different))
+            (ap (λ n. n (twin a)) is_new ∙ first-unstrung mid a rest different ∙ mid_first) (ap (λ n. n z) is_new ∙ last-unstrung mid a rest different ∙ mid_last);
+        enters = λ g away is. cut-elsewhere g away ∙ mid-before g (sym (linked.prev_next g) ∙ ap (prev rows) is);
+        returns = λ g away is. cut-elsewhere g away ∙ mid-beyond g (sym (linked.prev_next g) ∙ ap (prev rows) is) away;
+        others = λ g away far_on near.
+            cut-elsewhere g away ∙ mid-other g away (λ e. far_on (ap f e ∙ enters)) (λ e. near (ap f e ∙ returns));
+      }

@@ -1,34 +1,26 @@
 -- Room in the stars for the halves of strings along a chain.
-use Rattle.std.proofs.Common.{◌≡◌, ◌≢◌, ℕ, zero, suc, ◌+◌, ◌≤◌, ◌==◌, Bool, true, false, true≢false, refl, sym, ap, subst, ◌∙◌, List, [], ◌∷◌, ◌++◌, map, length, arith}
+use Rattle.std.proofs.Common.{◌≡◌, ◌≢◌, ℕ, zero, suc, ◌+◌, ◌<◌, ◌≤◌, ◌==◌, Bool, true, false, refl, sym, ap, subst, ◌∙◌, List, [], ◌∷◌, ◌++◌, map, length, slice_get, Some, arith}
 use Rattle.std.specs.Prelude.{count_by, cond}
 use Rattle.std.specs.List.{AllByRecursion}
-use Rattle.std.proofs.lemmas.Bool.{eqb-true, eq-eqb}
+use Rattle.std.proofs.lemmas.Bool.{eqb-true}
 use Rattle.std.proofs.lemmas.List.Sums.{sum_by-append}
 use Rattle.cad_rows.specs.declared.rows.StringRow.{StringRow}
-use Rattle.cad_rings.specs.Cycle.{Side, sides_along}
+use Rattle.cad_rings.specs.Cycle.{Ring, Side, sides_along, sides_of}
+use Rattle.cad_rings.specs.Surgery.{sides_of_chain}
+use Rattle.cad_rings.proofs.CallerLemmas.{sides_of_chain-is}
+use Rattle.cad_map.specs.Chain.{start_of, end_of, inner_of}
 use Rattle.cad_map.specs.Map.{side_of}
 use Rattle.cad_map.specs.Valid.{EachPair}
-use Rattle.cad_map.proofs.CallerLemmas.{count-yes, count-no}
-use Rattle.key_lists.specs.Held.{Held, capacity_at, HasRoomAt, KeepsOthers, IsSame}
+use Rattle.cad_map.proofs.CallerLemmas.{count-yes, count-no, All-at_each, Contains-at, in_parts}
+use Rattle.key_lists.specs.Held.{Held, HasRoomAt}
 use Rattle.map_parts.specs.declared.stars.Spoke.{Spoke}
+use Rattle.map_parts.specs.Adding.{HasRoomAtEnds}
 use Rattle.map_parts.specs.Stars.{spokes_at}
 use Rattle.map_parts.specs.StringRows.{HasRoomFor}
 use Rattle.map_parts.proofs.AlongPaths.{starts-along}
+use Rattle.map_parts.proofs.ChainAcross.{last-string}
 use Rattle.map_parts.proofs.CycleRings.{map-map}
-use Rattle.map_parts.proofs.IslandRoom.{is, spokes-few, once, room-found, ends-around}
-use Rattle.map_parts.proofs.Passing.StarsChanged.{same-room}
-
--- room at one key takes none from another
-pub room-grows : (key more : ℕ) (old new : Held Spoke) → KeepsOthers key old new → IsSame old new → capacity_at old key ≤ capacity_at new key → (p : ℕ) → HasRoomAt old p more → HasRoomAt new p more
-room-grows key more old new others same wide p room = by (key == p) refl
-  where
-    by : (b : Bool) → (key == p) ≡ b → HasRoomAt new p more
-    by true e =
-        let k = eqb-true key p e in
-        let grown : capacity_at old p ≤ capacity_at new p = subst (λ (n : ℕ). capacity_at old n ≤ capacity_at new n) k wide in
-        let items = ap length (same p) in
-        omega (arith, grown, items, room)
-    by false e = same-room old new p more (others p (λ is_it. true≢false (sym (eq-eqb key p is_it) ∙ e))) room
+use Rattle.map_parts.proofs.IslandRoom.{is, spokes-few, once, room-found, ring-room, ends-around}
 
 module _ (p : ℕ) where
   -- how often the point stands there
@@ -53,7 +45,7 @@ module _ (p : ℕ) where
       by false e = let none = count-no (is p) z [] e in absurd (omega (arith, none, some))
 
 -- room for two at the first point of each string of a chain, and for one at its end, is room for all their halves
-pub chain-room : (added : List StringRow) (a : ℕ) (inner : List ℕ) (z : ℕ) → map side_of added ≡ sides_along a inner z → EachPair (λ m n. m ≢ n) (a ∷ inner ++ z ∷ [])
+chain-room : (added : List StringRow) (a : ℕ) (inner : List ℕ) (z : ℕ) → map side_of added ≡ sides_along a inner z → EachPair (λ m n. m ≢ n) (a ∷ inner ++ z ∷ [])
     → (stars : Held Spoke) → AllByRecursion (λ (s : StringRow). HasRoomAt stars s.from 2) added → HasRoomAt stars z 1 → HasRoomFor added stars
 chain-room added a inner z sides each stars room end_room p some = by (often p (a ∷ inner)) refl
   where
@@ -84,3 +76,29 @@ chain-room added a inner z sides each stars room end_room p some = by (often p (
     by (suc n) there =
         let two = room-found p stars added (omega (arith, from_count, there)) room in
         omega (arith, few, from_count, to_count, there, first_more, all_once, two)
+
+first-ends : (stars : Held Spoke) (rows : List StringRow) → AllByRecursion (HasRoomAtEnds stars) rows → AllByRecursion (λ (s : StringRow). HasRoomAt stars s.from 2) rows
+first-ends stars [] all = tt
+first-ends stars (r ∷ rows) all = (all.0.0, first-ends stars rows all.1)
+
+last-of : (xs : List StringRow) → 0 < length xs → (n : ℕ) × (s : StringRow) × (suc n ≡ length xs) × (slice_get xs n ≡ Some s)
+last-of [] some = absurd (omega (arith, some))
+last-of (x ∷ []) some = (0, x, refl, refl)
+last-of (x ∷ y ∷ xs) some = let it = last-of (y ∷ xs) (omega arith) in (suc it.0, it.1, ap suc it.2, it.3)
+
+-- room for two at both ends of each string of a chain is room for all their halves
+pub chain_ends-room : (added : List StringRow) (chain : List ℕ) → 2 ≤ length chain → EachPair (λ a b. a ≢ b) chain → map side_of added ≡ sides_of_chain chain
+    → (stars : Held Spoke) → AllByRecursion (HasRoomAtEnds stars) added → HasRoomFor added stars
+chain_ends-room added chain long each sides stars all =
+    let parts = in_parts chain long in
+    let last = last-string added chain long sides in
+    let at = last-of added last.0 in
+    let both = All-at_each (HasRoomAtEnds stars) added at.1 all (Contains-at added at.0 at.1 at.3) in
+    let at_end : HasRoomAt stars (end_of chain) 2 = subst (λ (n : ℕ). HasRoomAt stars n 2) (last.1 at.0 at.2 at.1 at.3) both.1 in
+    chain-room added (start_of chain) (inner_of chain) (end_of chain) (sides ∙ ap sides_of_chain parts ∙ sides_of_chain-is (start_of chain) (inner_of chain) (end_of chain))
+    (subst (EachPair (λ a b. a ≢ b)) parts each) stars (first-ends stars added all) (omega (arith, at_end))
+
+-- and so it is where they close a ring
+pub ring_ends-room : (added : List StringRow) (ring : Ring) → EachPair (λ a b. a ≢ b) ring → map side_of added ≡ sides_of ring
+    → (stars : Held Spoke) → AllByRecursion (HasRoomAtEnds stars) added → HasRoomFor added stars
+ring_ends-room added ring each sides stars all = ring-room added ring sides each stars (first-ends stars added all)

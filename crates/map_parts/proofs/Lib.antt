@@ -35,7 +35,6 @@ pub mod Enclosing
 pub mod IslandRoom
 pub mod IslandPoints
 pub mod PlacedHalves
-pub mod EnclosingBegun
 pub mod RowsUndone
 pub mod ChainTable
 pub mod ChainPut
@@ -56,9 +55,10 @@ pub mod SharedRows
 pub mod MergedRows
 pub mod ChainAcross
 pub mod AddedRows
+pub mod RoomMade
+pub mod AddedMap
 pub mod Dividing
 pub mod ChainRoom
-pub mod DividingBegun
 pub mod Merging
 pub mod MergingIsland
 pub mod MergingBegun

@@ -1,5 +1,5 @@
 -- The rows of a map after a merger, and those before it: the strings that the two parcels share and the ended one go, and come back.
-use Rattle.std.proofs.Common.{◌≡◌, ◌≢◌, inl, inr, ℕ, ◌==◌, Bool, true, false, not, true≢false, refl, sym, ap, subst, ◌∙◌, List, [], ◌∷◌, ◌++◌, map, filter, slice_get, Some, arith}
+use Rattle.std.proofs.Common.{◌≡◌, ◌≢◌, inl, inr, ℕ, ◌==◌, Bool, true, false, not, true≢false, refl, sym, ap, subst, ◌∙◌, List, [], ◌∷◌, ◌++◌, ◌+◌, map, length, filter, slice_get, Some, arith}
 use Rattle.std.specs.Prelude.{IsSome, IsFalse, IsPermutation}
 use Rattle.std.specs.List.{AllByRecursion, Contains}
 use Rattle.std.proofs.lemmas.Bool.{eqb-true}
@@ -18,29 +18,31 @@ use Rattle.cad_map.specs.Table.{row_with, without_row}
 use Rattle.cad_map.specs.Valid.{EachPair}
 use Rattle.cad_map.proofs.CallerLemmas.{whole_valid, allowed, can-merge, All-follows, All-from_each, All-at_each, list_any-none, Contains-cases, Contains-filter, filter-Contains, Contains-map, map-Contains, Contains-at}
 use Rattle.half_table.specs.declared.half.Half.{Half}
-use Rattle.half_table.specs.Rows.{HalfRows, has}
+use Rattle.half_table.specs.Rows.{HalfRows, has, next}
 use Rattle.half_paths.specs.Path.{AreIn, AreDifferent, strings_of}
-use Rattle.half_paths.specs.Loose.{numbers_of}
+use Rattle.half_paths.specs.Loose.{AreLoose, numbers_of}
 use Rattle.entry_list.specs.Slots.{HasSlot}
-use Rattle.key_lists.specs.Held.{Held}
+use Rattle.key_lists.specs.Held.{Held, items_at, HasRoomAt}
 use Rattle.cad_laws.specs.Counts.{shared_strings}
 use Rattle.cad_laws.specs.Tried.{IsTried}
 use Rattle.cad_laws.proofs.CallerLemmas.{whole-after, of-parcels}
 use Rattle.map_parts.specs.declared.edits.placed_strings.PlacedString.{PlacedString}
 use Rattle.map_parts.specs.declared.map_rows.MapRows.{MapRows}
 use Rattle.map_parts.specs.declared.stars.Spoke.{Spoke}
+use Rattle.map_parts.specs.Adding.{HasRoomToExchange}
 use Rattle.map_parts.specs.Rows.{map_in}
 use Rattle.map_parts.specs.Parts.{HasHalves}
 use Rattle.map_parts.specs.Paths.{HasStringsMore}
 use Rattle.map_parts.specs.Islands.{FitsTable, AreOfRings}
 use Rattle.map_parts.specs.Labels.{IsOnRing}
-use Rattle.map_parts.specs.Handing.{KeepsEach, HaveTwoFaces}
+use Rattle.map_parts.specs.Handing.{KeepsEach, KeepsEnds, KeepsNoMore, HaveTwoFaces}
 use Rattle.map_parts.specs.Splitting.{FitMap, AreStarsOf}
 use Rattle.map_parts.specs.StringRows.{without_rows}
 use Rattle.map_parts.specs.PlacedStrings.{numbers_placed, StoodIn}
 use Rattle.map_parts.specs.Merging.{CanComeBack, CanEnd, HaveGone, StoodThere, HaveRoomBack, without_ended}
 use Rattle.map_parts.proofs.AddedStrings.{numbers-distinct}
 use Rattle.map_parts.proofs.EachFits as fits
+use Rattle.map_parts.proofs.IslandFits.{ends-same}
 use Rattle.map_parts.proofs.MergedChain.{merged-face, faces-apart}
 use Rattle.map_parts.proofs.KeptEach.{place-same}
 use Rattle.map_parts.proofs.KeptShown.{bare}
@@ -56,6 +58,22 @@ stood-there rows (k ∷ gone) stood g among = elim (Contains-cases k gone g amon
   | inr later ↦ (filter-Contains (λ (r : StringRow). not (r.number == k.row.number)) rows g.row (stood-there (without_row (λ (r : StringRow). r.number) k.row.number rows) gone stood.1 g later)).0
 ]
 
+-- The halves that are kept for the rings of a parcel and of a face can be parted again.
+pub record HasRoomBack (keeper : Face) (ended : ℕ) (put : Held Half) : Type 0 where
+  pub inner : HasRoomAt put (face_place (Parcel ended)) (length (items_at put (face_place keeper)) + 1)
+  pub outer : HasRoomAt put (face_place keeper) 1
+
+-- there is room for that where they could be exchanged and no more are kept
+pub room-left : {keeper : Face} {ended : ℕ} {held put : Held Half} → HasRoomToExchange keeper ended held → KeepsNoMore (face_place (Parcel ended)) (face_place keeper) held put
+    → HasRoomBack keeper ended put
+room-left {keeper} {ended} room kept =
+    let few = kept.few in
+    let inner_cap = kept.capacity (face_place (Parcel ended)) in
+    let outer_cap = kept.capacity (face_place keeper) in
+    let inner_had = room.inner in
+    let outer_had = room.outer in
+    record { inner = omega (arith, few, inner_cap, inner_had); outer = omega (arith, few, outer_cap, outer_had) }
+
 -- what went from the rows of a map went from it, with its rings
 pub had : {m n : Map} {ended : ℕ} {strings : List ℕ} {row : ParcelRow} {place : ℕ} {gone : List PlacedString} → n ≡ record m { boundaries = [] } → HaveGone n ended strings row place gone → HaveGone m ended strings row place gone
 had {ended = ended} {row = row} {place = place} {gone = gone} same went = record {
@@ -64,6 +82,29 @@ had {ended = ended} {row = row} {place = place} {gone = gone} same went = record
   numbers = went.numbers;
   stood = subst (λ (q : Map). StoodIn q.strings gone) same went.stood;
 }
+
+-- What a merger left of the parts, where what it took can come back: its rows, its strings, loose, and
+-- room for all of it.
+pub record HasGone (after_it : Map) (keeper : Face) (ended : ℕ) (strings : List ℕ) (path : List Half) (row : ParcelRow) (place : ℕ) (gone : List PlacedString)
+    (rows new : MapRows) (table wide : HalfRows) (put : Held Half) (filled : Held Spoke) : Type 0 where
+  pub fits : FitMap after_it new wide put filled
+  pub halves : KeepsEnds table wide
+  pub loose : AreLoose (next wide) path
+  pub went : HaveGone (map_in rows) ended strings row place gone
+  pub room : HaveRoomBack row gone new filled
+  pub kept_room : HasRoomBack keeper ended put
+
+module _ {after_it : Map} {keeper : Face} {ended : ℕ} {strings : List ℕ} {path : List Half} {row : ParcelRow} {place : ℕ} {gone : List PlacedString}
+    {rows new : MapRows} {table wide : HalfRows} {put : Held Half} {filled : Held Spoke} (it : HasGone after_it keeper ended strings path row place gone rows new table wide put filled)
+    {m : Map} {held : Held Half} {stars : Held Spoke} (fit : FitMap m rows table held stars) where
+  pub gone-stood : strings ≡ strings_of path → StoodThere m (strings_of path) row place gone
+  gone-stood are = let before = had {m = m} fit.rows_are it.went in record { row = before.row; numbers = before.numbers ∙ are; stood = before.stood }
+
+  pub gone-there : AllByRecursion (λ (g : PlacedString). HasHalves wide g.row) gone
+  gone-there =
+      let ends = ends-same table wide it.halves.origin it.halves.has m.strings fit.fits.ends in
+      All-from_each (λ (g : PlacedString). HasHalves wide g.row) gone
+      (λ g among. All-at_each (HasHalves wide) m.strings g.row ends (stood-there m.strings gone (had {m = m} fit.rows_are it.went).stood g among))
 
 -- The merger is tried, and the path has the strings that the two share.
 module _ (m : Map) (keeper : Face) (ended : ℕ) (path : List Half) (tried : IsTried m (Merge keeper (Parcel ended)))

@@ -24,21 +24,23 @@ use Rattle.cad_map.proofs.CallerLemmas.{IsFound, found, along-passed, pairs-from
 use Rattle.half_table.specs.declared.half.Half.{Half}
 use Rattle.half_table.specs.Rows.{HalfRows}
 use Rattle.half_paths.specs.Path.{last_of}
-use Rattle.key_lists.specs.Held.{Held}
+use Rattle.key_lists.specs.Held.{Held, IsSame}
 use Rattle.cad_laws.specs.Local.{IsShown, side_by}
 use Rattle.map_parts.specs.declared.edits.placed_strings.PlacedString.{PlacedString}
 use Rattle.map_parts.specs.declared.map_rows.MapRows.{MapRows}
 use Rattle.map_parts.specs.declared.stars.Spoke.{Spoke}
+use Rattle.map_parts.specs.Adding.{HasRoomToExchange}
 use Rattle.map_parts.specs.Parts.{HasHalves}
 use Rattle.map_parts.specs.Paths.{AreAlong, HasStringsMore}
 use Rattle.map_parts.specs.Islands.{FitsTable, AreOfRings}
 use Rattle.map_parts.specs.Chains.{IsChainOf}
 use Rattle.map_parts.specs.FaceChanges.{CanBringAcross, CanTakeAcross}
 use Rattle.map_parts.specs.Handing.{KeepsEach, HaveTwoFaces}
-use Rattle.map_parts.specs.Merging.{IsMerging, merged, shared_chain, first_corner, last_corner, rings_past, CanMerge, CanUnmerge}
+use Rattle.map_parts.specs.Merging.{IsMerging, merged, shared_chain, first_corner, last_corner, rings_past, CanBeginMerge, CanUnmerge}
 use Rattle.map_parts.proofs.ChainAcross.{first-along, last-along, start-away, end-away, start-differs, path-strung, on-away, back-away, two-last, ends-last}
 use Rattle.map_parts.proofs.EachFits as fits
 use Rattle.map_parts.proofs.MergedRows as rows_of
+use Rattle.map_parts.proofs.RoomMade.{fit-room}
 
 -- ---- The shared chain
 
@@ -118,7 +120,8 @@ module _ (m : Map) (keeper : Face) (ended : ℕ) (path : List Half) (is : IsMerg
 -- ---- It is made
 
 module _ {keeper : Face} {ended : ℕ} {strings : List ℕ} {first : Half} {rest moved : List Half} {rows : MapRows} {table : HalfRows}
-    {held : Held Half} {stars : Held Spoke} (c : CanMerge keeper ended strings (first ∷ rest) moved rows table held stars) where
+    {held : Held Half} {stars : Held Spoke} (c : CanBeginMerge keeper ended strings (first ∷ rest) moved rows table held stars)
+    {wide : Held Half} (alike : IsSame held wide) (room : HasRoomToExchange keeper ended wide) where
   abbrev m : Map
   m = c.map
 
@@ -138,8 +141,8 @@ module _ {keeper : Face} {ended : ℕ} {strings : List ℕ} {first : Half} {rest
   table_is : FitsTable m table
   table_is = fits.table-of m whole_is table held c.fits.fits
 
-  keeps : KeepsEach m table held
-  keeps = fits.each-of m whole_is table held stars c.fits.are_stars c.fits.fits
+  keeps : KeepsEach m table wide
+  keeps = fits.each-of m whole_is table wide stars c.fits.are_stars (fit-room m table held wide alike c.fits.fits)
 
   open_is : IsOpenChain chain
   open_is = chain-open m keeper ended path c.is
@@ -147,7 +150,7 @@ module _ {keeper : Face} {ended : ℕ} {strings : List ℕ} {first : Half} {rest
   more_is : HasStringsMore (merged c.is) m path
   more_is = more m keeper ended path c.is
 
-  pub made-can : CanTakeAcross first rest keeper (Parcel ended) moved table held
+  pub made-can : CanTakeAcross first rest keeper (Parcel ended) moved table wide
   made-can = record {
     linked = c.fits.fits.local.linked;
     within = rows_of.within m keeper ended path c.is.tried c.is.shared table table_is.ends;
@@ -156,15 +159,15 @@ module _ {keeper : Face} {ended : ℕ} {strings : List ℕ} {first : Half} {rest
     on_away = on-away (merged c.is) m whole_is chain open_is.long (first_corner c.is) (last_corner c.is) law.corners first rest more_is table c.fits.fits.local c.leads;
     back_away = back-away (merged c.is) m whole_is chain open_is.long (first_corner c.is) (last_corner c.is) law.corners first rest more_is table c.fits.fits.local c.leads;
     moved_in = rows_of.moved-in m keeper ended path c.is.tried c.is.shared (rings_past c.is) table table_is.ends moved c.moved_are;
-    outer_in = fits.kept-in m whole_is table held table_is keeps keeper;
-    inner_in = fits.kept-in m whole_is table held table_is keeps (Parcel ended);
+    outer_in = fits.kept-in m whole_is table wide table_is keeps keeper;
+    inner_in = fits.kept-in m whole_is table wide table_is keeps (Parcel ended);
     faces = rows_of.places-differ m keeper ended path c.is.tried c.is.shared;
-    inner_room = c.inner_room;
-    outer_room = c.outer_room;
+    inner_room = let more = room.inner in omega (arith, more);
+    outer_room = room.outer;
   }
 
   -- the table goes with the map after it
-  pub made-table : (wide : HalfRows) (put : Held Half)
+  pub made-table : (done : HalfRows) (put : Held Half)
       → ((whole parted : Map) (chain : List ℕ) (fc lc : Corner) (one left right : Boundary) (others : List Boundary)
       → HasWholeRings whole → HasWholeRings parted → 2 ≤ length chain
       → IsChainOf whole parted keeper (Parcel ended) chain fc lc one left right others
@@ -175,10 +178,10 @@ module _ {keeper : Face} {ended : ℕ} {strings : List ℕ} {first : Half} {rest
       → side_by table (last_of first rest) ≡ (last_but_one chain, end_of chain)
       → AllByRecursion (HasHalves table) whole.strings
       → AreOfRings parted table moved (Parcel ended) others
-      → FitsTable parted table → KeepsEach parted table held
-      → FitsTable whole wide × KeepsEach whole wide put)
-      → FitsTable (merged c.is) wide × KeepsEach (merged c.is) wide put
-  made-table wide put takes =
+      → FitsTable parted table → KeepsEach parted table wide
+      → FitsTable whole done × KeepsEach whole done put)
+      → FitsTable (merged c.is) done × KeepsEach (merged c.is) done put
+  made-table done put takes =
       takes (merged c.is) m chain (first_corner c.is) (last_corner c.is) (one_ring m keeper ended path c.is) (bounding (Parcel ended) c.is.ended_ring) (bounding keeper c.is.kept_ring) (rings_past c.is)
       (parts m keeper ended path c.is) whole_is open_is.long law (rows_of.two m keeper ended path c.is.tried c.is.shared) more_is c.leads
       (first-along (side_by table) first rest chain open_is.long c.leads) (last-along (side_by table) first rest chain open_is.long c.leads)

@@ -1,5 +1,5 @@
 -- A merger round an island on a map on half-edges that is made in place, and taken back.
-use Rattle.std.proofs.Common.{◌≡◌, ℕ, ◌≤◌, false, subst, List, ◌∷◌, length}
+use Rattle.std.proofs.Common.{◌≡◌, ℕ, ◌≤◌, false, subst, List, ◌∷◌, length, arith}
 use Rattle.std.specs.List.{AllByRecursion, Contains}
 use Rattle.std.proofs.lemmas.List.Sorted.{IsPermutation-sym, Contains-permutation}
 use Rattle.cad_rows.specs.declared.names.Face.{Face}
@@ -14,22 +14,24 @@ use Rattle.cad_map.specs.Rings.{HasWholeRings}
 use Rattle.cad_map.proofs.CallerLemmas.{All-from_each, All-at_each, Contains-first}
 use Rattle.half_table.specs.declared.half.Half.{Half}
 use Rattle.half_table.specs.Rows.{HalfRows}
-use Rattle.key_lists.specs.Held.{Held}
+use Rattle.key_lists.specs.Held.{Held, IsSame}
 use Rattle.cad_laws.specs.Local.{IsShown}
 use Rattle.cad_laws.proofs.CallerLemmas.{two-sides}
 use Rattle.map_parts.specs.declared.edits.placed_strings.PlacedString.{PlacedString}
 use Rattle.map_parts.specs.declared.map_rows.MapRows.{MapRows}
 use Rattle.map_parts.specs.declared.stars.Spoke.{Spoke}
+use Rattle.map_parts.specs.Adding.{HasRoomToExchange}
 use Rattle.map_parts.specs.Parts.{HasHalves}
 use Rattle.map_parts.specs.Paths.{AreAlong, HasStringsMore}
 use Rattle.map_parts.specs.Islands.{FitsTable, AreOfRings, IsIslandOf}
 use Rattle.map_parts.specs.FaceChanges.{CanBringIn, CanTakeOut}
 use Rattle.map_parts.specs.Handing.{KeepsEach, HaveTwoFaces}
-use Rattle.map_parts.specs.MergingIsland.{IsMergingIsland, without_island, rings_apart, CanMergeIsland, CanUnmergeIsland}
+use Rattle.map_parts.specs.MergingIsland.{IsMergingIsland, without_island, rings_apart, CanBeginMergeIsland, CanUnmergeIsland}
 use Rattle.map_parts.proofs.AlongPaths.{ring-round}
 use Rattle.map_parts.proofs.EachFits as fits
 use Rattle.map_parts.proofs.IslandTable.{more-new}
 use Rattle.map_parts.proofs.MergedRows as rows_of
+use Rattle.map_parts.proofs.RoomMade.{fit-room}
 
 module _ (m : Map) (keeper : Face) (ended : ℕ) (points : List ℕ) (path : List Half) (is : IsMergingIsland m keeper ended points path) where
   pub island : IsIslandOf (without_island is) m keeper (Parcel ended) points (bounding (Parcel ended) is.ended_ring) (bounding keeper is.kept_ring) (rings_apart is)
@@ -50,7 +52,8 @@ module _ (m : Map) (keeper : Face) (ended : ℕ) (points : List ℕ) (path : Lis
 -- ---- It is made
 
 module _ {keeper : Face} {ended : ℕ} {strings : List ℕ} {first : Half} {rest moved : List Half} {rows : MapRows} {table : HalfRows}
-    {held : Held Half} {stars : Held Spoke} (c : CanMergeIsland keeper ended strings (first ∷ rest) moved rows table held stars) where
+    {held : Held Half} {stars : Held Spoke} (c : CanBeginMergeIsland keeper ended strings (first ∷ rest) moved rows table held stars)
+    {wide : Held Half} (alike : IsSame held wide) (room : HasRoomToExchange keeper ended wide) where
   abbrev m : Map
   m = c.map
 
@@ -66,13 +69,13 @@ module _ {keeper : Face} {ended : ℕ} {strings : List ℕ} {first : Half} {rest
   table_is : FitsTable m table
   table_is = fits.table-of m whole_is table held c.fits.fits
 
-  keeps : KeepsEach m table held
-  keeps = fits.each-of m whole_is table held stars c.fits.are_stars c.fits.fits
+  keeps : KeepsEach m table wide
+  keeps = fits.each-of m whole_is table wide stars c.fits.are_stars (fit-room m table held wide alike c.fits.fits)
 
   more_is : HasStringsMore (without_island c.is) m path
   more_is = rows_of.more m keeper ended path c.is.tried c.is.shared
 
-  pub made-can : CanTakeOut first rest keeper (Parcel ended) moved table held
+  pub made-can : CanTakeOut first rest keeper (Parcel ended) moved table wide
   made-can = record {
     linked = c.fits.fits.local.linked;
     within = rows_of.within m keeper ended path c.is.tried c.is.shared table table_is.ends;
@@ -80,15 +83,15 @@ module _ {keeper : Face} {ended : ℕ} {strings : List ℕ} {first : Half} {rest
     round = ring-round m whole_is table c.fits.fits.local first rest c.points (long m keeper ended c.points path c.is) c.along
         (All-from_each (IsShown m) path (λ h among. more-new (without_island c.is) m path more_is h among)) law.corners.along law.corners.back;
     moved_in = rows_of.moved-in m keeper ended path c.is.tried c.is.shared (rings_apart c.is) table table_is.ends moved c.moved_are;
-    outer_in = fits.kept-in m whole_is table held table_is keeps keeper;
-    inner_in = fits.kept-in m whole_is table held table_is keeps (Parcel ended);
+    outer_in = fits.kept-in m whole_is table wide table_is keeps keeper;
+    inner_in = fits.kept-in m whole_is table wide table_is keeps (Parcel ended);
     differ = rows_of.places-differ m keeper ended path c.is.tried c.is.shared;
-    inner_room = c.inner_room;
-    outer_room = c.outer_room;
+    inner_room = let more = room.inner in omega (arith, more);
+    outer_room = let more = room.outer in omega (arith, more);
   }
 
   -- the table goes with the map after it
-  pub made-table : (wide : HalfRows) (put : Held Half)
+  pub made-table : (done : HalfRows) (put : Held Half)
       → ((whole parted : Map) (ring : Ring) (left right : Boundary) (others : List Boundary)
       → HasWholeRings whole → HasWholeRings parted → 2 ≤ length ring
       → IsIslandOf whole parted keeper (Parcel ended) ring left right others
@@ -97,10 +100,10 @@ module _ {keeper : Face} {ended : ℕ} {strings : List ℕ} {first : Half} {rest
       → AreAlong table path (sides_of ring)
       → AllByRecursion (HasHalves table) whole.strings
       → AreOfRings parted table moved (Parcel ended) others
-      → FitsTable parted table → KeepsEach parted table held
-      → FitsTable whole wide × KeepsEach whole wide put)
-      → FitsTable (without_island c.is) wide × KeepsEach (without_island c.is) wide put
-  made-table wide put takes =
+      → FitsTable parted table → KeepsEach parted table wide
+      → FitsTable whole done × KeepsEach whole done put)
+      → FitsTable (without_island c.is) done × KeepsEach (without_island c.is) done put
+  made-table done put takes =
       takes (without_island c.is) m c.points (bounding (Parcel ended) c.is.ended_ring) (bounding keeper c.is.kept_ring) (rings_apart c.is)
       (rows_of.parts m keeper ended path c.is.tried c.is.shared) whole_is (long m keeper ended c.points path c.is) law
       (rows_of.two m keeper ended path c.is.tried c.is.shared) more_is c.along

@@ -15,45 +15,157 @@ use Rattle.cad_map.specs.Valid.{EachPair}
 use Rattle.cad_map.proofs.CallerLemmas.{found-number}
 use Rattle.cad_laws.proofs.CallerLemmas.{found-changed, with-again, with-same, insert-without, placed-within}
 
--- ---- A row changed in its place, among the rows of one kind
-
-module _ {R : Type 0} (number : R → ℕ) (rows : Map → List R) (set : Map → List R → Map)
-    (got : (m : Map) (l : List R) → rows (set m l) ≡ l) (own : (m : Map) → set m (rows m) ≡ m)
-    (last : (m : Map) (k l : List R) → set (set m k) l ≡ set m l) where
-  abbrev row_of : Map → ℕ → Option R
-  row_of m n = row_with number n (rows m)
-
-  abbrev change : ℕ → (R → R) → Map → Map
-  change n f m = unwrap_or (option_map (λ r. set m (with_row number (f r) (rows m))) (row_of m n)) m
-
-  abbrev AreDistinct : Map → Type 0
-  AreDistinct m = EachPair (λ a b. a ≢ b) (map number (rows m))
-
-  pub change-is : (m : Map) (n : ℕ) (f : R → R) (r : R) → row_of m n ≡ Some r → change n f m ≡ set m (with_row number (f r) (rows m))
-  change-is m n f r is = rw is refl
-
-  pub change-found : (m : Map) (n : ℕ) (f : R → R) (r : R) → row_of m n ≡ Some r → number (f r) ≡ number r → row_of (change n f m) n ≡ Some (f r)
-  change-found m n f r is kept =
-      let at : number (f r) ≡ n = kept ∙ found-number number n (rows m) r is in
-      let there : is_some (row_with number (number (f r)) (rows m)) ≡ true = ap (λ (k : ℕ). is_some (row_with number k (rows m))) at ∙ ap (λ (o : Option R). is_some o) is in
-      ap (λ (q : Map). row_of q n) (change-is m n f r is) ∙ ap (row_with number n) (got m (with_row number (f r) (rows m)))
-      ∙ ap (λ (k : ℕ). row_with number k (with_row number (f r) (rows m))) (sym at)
-      ∙ found-changed number (f r) (rows m) there
-
-  pub change-back : (m : Map) (n : ℕ) (f g : R → R) (r : R) → AreDistinct m → row_of m n ≡ Some r → number (f r) ≡ number r → g (f r) ≡ r → change n g (change n f m) ≡ m
-  change-back m n f g r each is kept back =
-      let own_number : row_with number (number r) (rows m) ≡ Some r = ap (λ (k : ℕ). row_with number k (rows m)) (found-number number n (rows m) r is) ∙ is in
-      change-is (change n f m) n g (f r) (change-found m n f r is kept)
-      ∙ ap (λ (q : Map). set q (with_row number (g (f r)) (rows q))) (change-is m n f r is)
-      ∙ last m (with_row number (f r) (rows m)) _
-      ∙ ap (set m) (ap (with_row number (g (f r))) (got m (with_row number (f r) (rows m)))
-      ∙ ap (λ (q : R). with_row number q (with_row number (f r) (rows m))) back
-      ∙ with-again number (f r) r (rows m) kept ∙ with-same number r (rows m) each own_number)
-      ∙ own m
-
 some-there : {X : Type 0} (o : Option X) → is_some o ≡ true → (x : X) × (o ≡ Some x)
 some-there None there = cc
 some-there (Some x) there = (x, refl)
+
+-- ---- A row changed in its place, among the rows of one kind
+
+-- rows of one kind: their numbers and sources, and how a map has them
+record RowKind (R : Type 0) : Type 0 where
+  number : R → ℕ
+  rows : Map → List R
+  set : Map → List R → Map
+  got : (m : Map) (l : List R) → rows (set m l) ≡ l
+  own : (m : Map) → set m (rows m) ≡ m
+  last : (m : Map) (k l : List R) → set (set m k) l ≡ set m l
+  sources : R → List ℕ
+  put : R → List ℕ → R
+  put_number : (r : R) (l : List ℕ) → number (put r l) ≡ number r
+  put_sources : (r : R) (l : List ℕ) → sources (put r l) ≡ l
+  put_own : (r : R) (l : List ℕ) → put (put r l) (sources r) ≡ r
+
+module _ {R : Type 0} (k : RowKind R) where
+  abbrev row_of : Map → ℕ → Option R
+  row_of m n = row_with k.number n (k.rows m)
+
+  abbrev with : Map → R → Map
+  with m r = k.set m (with_row k.number r (k.rows m))
+
+  abbrev change : ℕ → (R → R) → Map → Map
+  change n f m = unwrap_or (option_map (λ r. with m (f r)) (row_of m n)) m
+
+  abbrev AreDistinct : Map → Type 0
+  AreDistinct m = EachPair (λ a b. a ≢ b) (map k.number (k.rows m))
+
+  change-is : (m : Map) (n : ℕ) (f : R → R) (r : R) → row_of m n ≡ Some r → change n f m ≡ with m (f r)
+  change-is m n f r is = rw is refl
+
+  change-found : (m : Map) (n : ℕ) (f : R → R) (r : R) → row_of m n ≡ Some r → k.number (f r) ≡ k.number r → row_of (change n f m) n ≡ Some (f r)
+  change-found m n f r is kept =
+      let at : k.number (f r) ≡ n = kept ∙ found-number k.number n (k.rows m) r is in
+      let there : is_some (row_with k.number (k.number (f r)) (k.rows m)) ≡ true = ap (λ (i : ℕ). is_some (row_with k.number i (k.rows m))) at ∙ ap (λ (o : Option R). is_some o) is in
+      ap (λ (q : Map). row_of q n) (change-is m n f r is) ∙ ap (row_with k.number n) (k.got m (with_row k.number (f r) (k.rows m)))
+      ∙ ap (λ (i : ℕ). row_with k.number i (with_row k.number (f r) (k.rows m))) (sym at)
+      ∙ found-changed k.number (f r) (k.rows m) there
+
+  change-back : (m : Map) (n : ℕ) (f g : R → R) (r : R) → AreDistinct m → row_of m n ≡ Some r → k.number (f r) ≡ k.number r → g (f r) ≡ r → change n g (change n f m) ≡ m
+  change-back m n f g r each is kept back =
+      let own_number : row_with k.number (k.number r) (k.rows m) ≡ Some r = ap (λ (i : ℕ). row_with k.number i (k.rows m)) (found-number k.number n (k.rows m) r is) ∙ is in
+      change-is (change n f m) n g (f r) (change-found m n f r is kept)
+      ∙ ap (λ (q : Map). with q (g (f r))) (change-is m n f r is)
+      ∙ k.last m (with_row k.number (f r) (k.rows m)) _
+      ∙ ap (k.set m) (ap (with_row k.number (g (f r))) (k.got m (with_row k.number (f r) (k.rows m)))
+      ∙ ap (λ (q : R). with_row k.number q (with_row k.number (f r) (k.rows m))) back
+      ∙ with-again k.number (f r) r (k.rows m) kept ∙ with-same k.number r (k.rows m) each own_number)
+      ∙ k.own m
+
+  -- what a row had is put back
+  field-back : {X : Type 0} (get : R → X) (f g : R → R) (x : X) (m : Map) (n : ℕ) → AreDistinct m → option_map get (row_of m n) ≡ Some x
+      → ((r : R) → k.number (f r) ≡ k.number r) → ((r : R) → get r ≡ x → g (f r) ≡ r) → change n g (change n f m) ≡ m
+  field-back get f g x m n each was kept back = by (row_of m n) refl was
+    where
+      by : (o : Option R) → row_of m n ≡ o → option_map get o ≡ Some x → change n g (change n f m) ≡ m
+      by None is was = cc
+      by (Some r) is was = change-back m n f g r each is (kept r) (back r cc)
+
+  -- a row that is changed is there as it was
+  known : (m : Map) (n : ℕ) (f : R → R) → ((r : R) → k.number (f r) ≡ k.number r) → is_some (row_of (change n f m) n) ≡ is_some (row_of m n)
+  known m n f kept = by (row_of m n) refl
+    where
+      by : (o : Option R) → row_of m n ≡ o → is_some (row_of (change n f m) n) ≡ is_some o
+      by None is = rw is (ap (λ (o : Option R). is_some o) is)
+      by (Some r) is = ap (λ (o : Option R). is_some o) (change-found m n f r is (kept r))
+
+  -- ---- Its sources
+
+  abbrev sources_of : Option R → List ℕ
+  sources_of o = unwrap_or (option_map k.sources o) []
+
+  -- a list in the place of the row's own
+  same : (m : Map) (n : ℕ) (h : List ℕ → List ℕ) (l : List ℕ) → l ≡ h (sources_of (row_of m n)) → change n (λ r. k.put r l) m ≡ change n (λ r. k.put r (h (k.sources r))) m
+  same m n h l is = by (row_of m n) refl is
+    where
+      by : (o : Option R) → row_of m n ≡ o → l ≡ h (sources_of o) → change n (λ r. k.put r l) m ≡ change n (λ r. k.put r (h (k.sources r))) m
+      by None none is = rw none refl
+      by (Some r) some is = rw some (ap (λ (q : List ℕ). with m (k.put r q)) is)
+
+  -- what is known of a row whose sources were changed
+  record AreChanged (m : Map) (n : ℕ) (h : List ℕ → List ℕ) : Type 0 where
+    there : is_some (row_of (change n (λ r. k.put r (h (k.sources r))) m) n) ≡ true
+    sources : sources_of (row_of (change n (λ r. k.put r (h (k.sources r))) m) n) ≡ h (sources_of (row_of m n))
+    back : AreDistinct m → (g : List ℕ → List ℕ) → g (h (sources_of (row_of m n))) ≡ sources_of (row_of m n)
+        → change n (λ r. k.put r (g (k.sources r))) (change n (λ r. k.put r (h (k.sources r))) m) ≡ m
+
+  are-changed : (m : Map) (n : ℕ) (h : List ℕ → List ℕ) → is_some (row_of m n) ≡ true → AreChanged m n h
+  are-changed m n h there =
+      let it = some-there (row_of m n) there in
+      let r : R = it.0 in
+      let f : R → R = λ r. k.put r (h (k.sources r)) in
+      let found : row_of (change n f m) n ≡ Some (f r) = change-found m n f r it.1 (k.put_number r _) in
+      let was : sources_of (row_of m n) ≡ k.sources r = ap sources_of it.1 in
+      record {
+        there = ap (λ (o : Option R). is_some o) found;
+        sources = ap sources_of found ∙ k.put_sources r _ ∙ ap h (sym was);
+        back = λ each g is.
+            change-back m n f (λ r. k.put r (g (k.sources r))) r each it.1 (k.put_number r _)
+            (ap (k.put (f r)) (ap g (k.put_sources r _) ∙ ap (λ (l : List ℕ). g (h l)) (sym was) ∙ is ∙ was) ∙ k.put_own r _);
+      }
+
+abbrev point_rows : RowKind PointRow
+point_rows = record {
+  number = λ r. r.number;
+  rows = λ m. m.points;
+  set = λ m l. record m { points = l };
+  got = λ m l. refl;
+  own = λ m. refl;
+  last = λ m k l. refl;
+  sources = λ r. r.sources;
+  put = λ r l. record r { sources = l };
+  put_number = λ r l. refl;
+  put_sources = λ r l. refl;
+  put_own = λ r l. refl;
+}
+
+abbrev string_rows : RowKind StringRow
+string_rows = record {
+  number = λ r. r.number;
+  rows = λ m. m.strings;
+  set = λ m l. record m { strings = l };
+  got = λ m l. refl;
+  own = λ m. refl;
+  last = λ m k l. refl;
+  sources = λ r. r.sources;
+  put = λ r l. record r { sources = l };
+  put_number = λ r l. refl;
+  put_sources = λ r l. refl;
+  put_own = λ r l. refl;
+}
+
+abbrev parcel_rows : RowKind ParcelRow
+parcel_rows = record {
+  number = λ r. r.number;
+  rows = λ m. m.parcels;
+  set = λ m l. record m { parcels = l };
+  got = λ m l. refl;
+  own = λ m. refl;
+  last = λ m k l. refl;
+  sources = λ r. r.sources;
+  put = λ r l. record r { sources = l };
+  put_number = λ r l. refl;
+  put_sources = λ r l. refl;
+  put_own = λ r l. refl;
+}
 
 -- ---- The numbers of all rows differ
 
@@ -64,101 +176,40 @@ pub record HasNumbers (m : Map) : Type 0 where
 
 -- ---- Points and parcels
 
-point-back : (m : Map) (n : ℕ) (f g : PointRow → PointRow) (r : PointRow) → HasNumbers m → point_of m n ≡ Some r → (f r).number ≡ r.number → g (f r) ≡ r
-    → change_point n g (change_point n f m) ≡ m
-point-back m n f g r numbers =
-    change-back (λ (r : PointRow). r.number) (λ (m : Map). m.points) (λ m l. record m { points = l }) (λ m l. refl) (λ m. refl) (λ m k l. refl) m n f g r numbers.points
-
 pub point-is : (m : Map) (n : ℕ) (f : PointRow → PointRow) (r : PointRow) → point_of m n ≡ Some r → change_point n f m ≡ with_point m (f r)
-point-is m n f r is = rw is refl
-
-point-found : (m : Map) (n : ℕ) (f : PointRow → PointRow) (r : PointRow) → point_of m n ≡ Some r → (f r).number ≡ r.number
-    → point_of (change_point n f m) n ≡ Some (f r)
-point-found m n f r =
-    change-found (λ (r : PointRow). r.number) (λ (m : Map). m.points) (λ m l. record m { points = l }) (λ m l. refl) (λ m. refl) (λ m k l. refl) m n f r
-
-parcel-back : (m : Map) (n : ℕ) (f g : ParcelRow → ParcelRow) (r : ParcelRow) → HasNumbers m → parcel_of m n ≡ Some r → (f r).number ≡ r.number → g (f r) ≡ r
-    → change_parcel n g (change_parcel n f m) ≡ m
-parcel-back m n f g r numbers =
-    change-back (λ (r : ParcelRow). r.number) (λ (m : Map). m.parcels) (λ m l. record m { parcels = l }) (λ m l. refl) (λ m. refl) (λ m k l. refl) m n f g r numbers.parcels
-
-pub parcel-is : (m : Map) (n : ℕ) (f : ParcelRow → ParcelRow) (r : ParcelRow) → parcel_of m n ≡ Some r → change_parcel n f m ≡ with_parcel m (f r)
-parcel-is m n f r is = rw is refl
-
-parcel-found : (m : Map) (n : ℕ) (f : ParcelRow → ParcelRow) (r : ParcelRow) → parcel_of m n ≡ Some r → (f r).number ≡ r.number
-    → parcel_of (change_parcel n f m) n ≡ Some (f r)
-parcel-found m n f r =
-    change-found (λ (r : ParcelRow). r.number) (λ (m : Map). m.parcels) (λ m l. record m { parcels = l }) (λ m l. refl) (λ m. refl) (λ m k l. refl) m n f r
-
-string-back : (m : Map) (n : ℕ) (f g : StringRow → StringRow) (r : StringRow) → HasNumbers m → string_of m n ≡ Some r → (f r).number ≡ r.number → g (f r) ≡ r
-    → change_string n g (change_string n f m) ≡ m
-string-back m n f g r numbers =
-    change-back (λ (r : StringRow). r.number) (λ (m : Map). m.strings) (λ m l. record m { strings = l }) (λ m l. refl) (λ m. refl) (λ m k l. refl) m n f g r numbers.strings
+point-is = change-is point_rows
 
 pub string-is : (m : Map) (n : ℕ) (f : StringRow → StringRow) (r : StringRow) → string_of m n ≡ Some r → change_string n f m ≡ with_string m (f r)
-string-is m n f r is = rw is refl
+string-is = change-is string_rows
 
-string-found : (m : Map) (n : ℕ) (f : StringRow → StringRow) (r : StringRow) → string_of m n ≡ Some r → (f r).number ≡ r.number
-    → string_of (change_string n f m) n ≡ Some (f r)
-string-found m n f r =
-    change-found (λ (r : StringRow). r.number) (λ (m : Map). m.strings) (λ m l. record m { strings = l }) (λ m l. refl) (λ m. refl) (λ m k l. refl) m n f r
+pub parcel-is : (m : Map) (n : ℕ) (f : ParcelRow → ParcelRow) (r : ParcelRow) → parcel_of m n ≡ Some r → change_parcel n f m ≡ with_parcel m (f r)
+parcel-is = change-is parcel_rows
 
 pub moved-back : (m : Map) (p : ℕ) (from to : Position) → HasNumbers m → option_map (λ r. r.position) (point_of m p) ≡ Some from
     → change_point p (λ r. record r { position = from }) (change_point p (λ r. record r { position = to }) m) ≡ m
-moved-back m p from to numbers was = by (point_of m p) refl was
-  where
-    by : (o : Option PointRow) → point_of m p ≡ o → option_map (λ r. r.position) o ≡ Some from
-        → change_point p (λ r. record r { position = from }) (change_point p (λ r. record r { position = to }) m) ≡ m
-    by None is was = cc
-    by (Some r) is was =
-        let at : r.position ≡ from = cc in
-        point-back m p (λ r. record r { position = to }) (λ r. record r { position = from }) r numbers is refl (ap (λ (q : Position). record r { position = q }) (sym at))
+moved-back m p from to numbers was =
+    field-back point_rows (λ r. r.position) (λ r. record r { position = to }) (λ r. record r { position = from }) from m p numbers.points was
+    (λ r. refl) (λ r at. ap (λ (q : Position). record r { position = q }) (sym at))
 
 pub named-back : (m : Map) (p : ℕ) (from to : List ℕ) → HasNumbers m → option_map (λ r. r.label) (parcel_of m p) ≡ Some from
     → change_parcel p (λ r. record r { label = from }) (change_parcel p (λ r. record r { label = to }) m) ≡ m
-named-back m p from to numbers was = by (parcel_of m p) refl was
-  where
-    by : (o : Option ParcelRow) → parcel_of m p ≡ o → option_map (λ r. r.label) o ≡ Some from
-        → change_parcel p (λ r. record r { label = from }) (change_parcel p (λ r. record r { label = to }) m) ≡ m
-    by None is was = cc
-    by (Some r) is was =
-        let at : r.label ≡ from = cc in
-        parcel-back m p (λ r. record r { label = to }) (λ r. record r { label = from }) r numbers is refl (ap (λ (q : List ℕ). record r { label = q }) (sym at))
+named-back m p from to numbers was =
+    field-back parcel_rows (λ r. r.label) (λ r. record r { label = to }) (λ r. record r { label = from }) from m p numbers.parcels was
+    (λ r. refl) (λ r at. ap (λ (q : List ℕ). record r { label = q }) (sym at))
 
--- a row that is changed is there as it was
 pub point-known : (m : Map) (n : ℕ) (f : PointRow → PointRow) → ((r : PointRow) → (f r).number ≡ r.number) → is_some (point_of (change_point n f m) n) ≡ is_some (point_of m n)
-point-known m n f kept = by (point_of m n) refl
-  where
-    by : (o : Option PointRow) → point_of m n ≡ o → is_some (point_of (change_point n f m) n) ≡ is_some o
-    by None is = rw is (ap (λ (o : Option PointRow). is_some o) is)
-    by (Some r) is = ap (λ (o : Option PointRow). is_some o) (point-found m n f r is (kept r))
+point-known = known point_rows
 
 pub parcel-known : (m : Map) (n : ℕ) (f : ParcelRow → ParcelRow) → ((r : ParcelRow) → (f r).number ≡ r.number) → is_some (parcel_of (change_parcel n f m) n) ≡ is_some (parcel_of m n)
-parcel-known m n f kept = by (parcel_of m n) refl
-  where
-    by : (o : Option ParcelRow) → parcel_of m n ≡ o → is_some (parcel_of (change_parcel n f m) n) ≡ is_some o
-    by None is = rw is (ap (λ (o : Option ParcelRow). is_some o) is)
-    by (Some r) is = ap (λ (o : Option ParcelRow). is_some o) (parcel-found m n f r is (kept r))
+parcel-known = known parcel_rows
 
 -- ---- The sources of an item
 
 -- a list in the place of the item's own
 pub same-sources : (m : Map) (i : Item) (h : List ℕ → List ℕ) (l : List ℕ) → l ≡ h (sources_at m i) → change_sources i (λ _. l) m ≡ change_sources i h m
-same-sources m (item.Point n) h l is = by (point_of m n) refl is
-  where
-    by : (o : Option PointRow) → point_of m n ≡ o → l ≡ h (unwrap_or (option_map (λ r. r.sources) o) []) → change_sources (item.Point n) (λ _. l) m ≡ change_sources (item.Point n) h m
-    by None none is = rw none refl
-    by (Some r) some is = rw some (ap (λ (q : List ℕ). record m { points = with_row (λ (r : PointRow). r.number) (record r { sources = q }) m.points }) is)
-same-sources m (item.String n) h l is = by (string_of m n) refl is
-  where
-    by : (o : Option StringRow) → string_of m n ≡ o → l ≡ h (unwrap_or (option_map (λ r. r.sources) o) []) → change_sources (item.String n) (λ _. l) m ≡ change_sources (item.String n) h m
-    by None none is = rw none refl
-    by (Some r) some is = rw some (ap (λ (q : List ℕ). record m { strings = with_row (λ (r : StringRow). r.number) (record r { sources = q }) m.strings }) is)
-same-sources m (item.Parcel n) h l is = by (parcel_of m n) refl is
-  where
-    by : (o : Option ParcelRow) → parcel_of m n ≡ o → l ≡ h (unwrap_or (option_map (λ r. r.sources) o) []) → change_sources (item.Parcel n) (λ _. l) m ≡ change_sources (item.Parcel n) h m
-    by None none is = rw none refl
-    by (Some r) some is = rw some (ap (λ (q : List ℕ). record m { parcels = with_row (λ (r : ParcelRow). r.number) (record r { sources = q }) m.parcels }) is)
+same-sources m (item.Point n) h l is = same point_rows m n h l is
+same-sources m (item.String n) h l is = same string_rows m n h l is
+same-sources m (item.Parcel n) h l is = same parcel_rows m n h l is
 
 -- what is known of an item whose sources were changed
 pub record IsChanged (m : Map) (i : Item) (h : List ℕ → List ℕ) : Type 0 where
@@ -168,41 +219,14 @@ pub record IsChanged (m : Map) (i : Item) (h : List ℕ → List ℕ) : Type 0 w
 
 pub changed : (m : Map) (i : Item) (h : List ℕ → List ℕ) → is_there m (item_named i) ≡ true → IsChanged m i h
 changed m (item.Point n) h there =
-    let r = some-there (point_of m n) there in
-    let f : PointRow → PointRow = λ r. record r { sources = h r.sources } in
-    let found : point_of (change_point n f m) n ≡ Some (f r.0) = point-found m n f r.0 r.1 refl in
-    let was : sources_at m (item.Point n) ≡ r.0.sources = ap (λ (o : Option PointRow). unwrap_or (option_map (λ r. r.sources) o) []) r.1 in
-    record {
-      there = ap (λ (o : Option PointRow). is_some o) found;
-      sources = ap (λ (o : Option PointRow). unwrap_or (option_map (λ r. r.sources) o) []) found ∙ ap h (sym was);
-      back = λ numbers g is.
-          point-back m n f (λ r. record r { sources = g r.sources }) r.0 numbers r.1 refl
-          (ap (λ (l : List ℕ). record r.0 { sources = l }) (ap (λ (l : List ℕ). g (h l)) (sym was) ∙ is ∙ was));
-    }
+    let it = are-changed point_rows m n h there in
+    record { there = it.there; sources = it.sources; back = λ numbers. it.back numbers.points }
 changed m (item.String n) h there =
-    let r = some-there (string_of m n) there in
-    let f : StringRow → StringRow = λ r. record r { sources = h r.sources } in
-    let found : string_of (change_string n f m) n ≡ Some (f r.0) = string-found m n f r.0 r.1 refl in
-    let was : sources_at m (item.String n) ≡ r.0.sources = ap (λ (o : Option StringRow). unwrap_or (option_map (λ r. r.sources) o) []) r.1 in
-    record {
-      there = ap (λ (o : Option StringRow). is_some o) found;
-      sources = ap (λ (o : Option StringRow). unwrap_or (option_map (λ r. r.sources) o) []) found ∙ ap h (sym was);
-      back = λ numbers g is.
-          string-back m n f (λ r. record r { sources = g r.sources }) r.0 numbers r.1 refl
-          (ap (λ (l : List ℕ). record r.0 { sources = l }) (ap (λ (l : List ℕ). g (h l)) (sym was) ∙ is ∙ was));
-    }
+    let it = are-changed string_rows m n h there in
+    record { there = it.there; sources = it.sources; back = λ numbers. it.back numbers.strings }
 changed m (item.Parcel n) h there =
-    let r = some-there (parcel_of m n) there in
-    let f : ParcelRow → ParcelRow = λ r. record r { sources = h r.sources } in
-    let found : parcel_of (change_parcel n f m) n ≡ Some (f r.0) = parcel-found m n f r.0 r.1 refl in
-    let was : sources_at m (item.Parcel n) ≡ r.0.sources = ap (λ (o : Option ParcelRow). unwrap_or (option_map (λ r. r.sources) o) []) r.1 in
-    record {
-      there = ap (λ (o : Option ParcelRow). is_some o) found;
-      sources = ap (λ (o : Option ParcelRow). unwrap_or (option_map (λ r. r.sources) o) []) found ∙ ap h (sym was);
-      back = λ numbers g is.
-          parcel-back m n f (λ r. record r { sources = g r.sources }) r.0 numbers r.1 refl
-          (ap (λ (l : List ℕ). record r.0 { sources = l }) (ap (λ (l : List ℕ). g (h l)) (sym was) ∙ is ∙ was));
-    }
+    let it = are-changed parcel_rows m n h there in
+    record { there = it.there; sources = it.sources; back = λ numbers. it.back numbers.parcels }
 
 -- ---- One more in a list, at a place
 

@@ -1,7 +1,8 @@
 -- Strings that come last among the rows, one after another, and go.
-use Rattle.std.proofs.Common.{◌≡◌, ◌≢◌, ℕ, refl, sym, ap, subst, ◌∙◌, List, [], ◌∷◌, ◌++◌, map, filter, length, length-append, Some, None, inl, inr, arith, not, ◌==◌, nat_eq, Bool, true, false}
+use Rattle.std.proofs.Common.{◌≡◌, ◌≢◌, ◌<◌, ◌+◌, ℕ, drop, get_or, refl, sym, ap, subst, ◌∙◌, List, [], ◌∷◌, ◌++◌, map, filter, length, length-append, Some, None, inl, inr, arith, not, ◌==◌, nat_eq, Bool, true, false}
 use Rattle.std.specs.Prelude.{IsPermutation, IsSome}
 use Rattle.std.specs.List.{AllByRecursion, Contains}
+use Rattle.std.proofs.lemmas.List.{drop_more}
 use Rattle.std.proofs.lemmas.List.Sorted.{IsPermutation-append_comm}
 use Rattle.cad_rows.specs.declared.rows.StringRow.{StringRow}
 use Rattle.cad_map.specs.Map.{string_of}
@@ -112,6 +113,20 @@ module _ {R : Type 0} (number : R → ℕ) where
           → EachPair (λ a b. a ≢ b) (map number (filter test (r ∷ rows)))
       by true is rest = rw is (others-left (number r) test rows each.0, rest)
       by false is rest = rw is rest
+
+-- the item at a place of a list, and those after it
+pub next-of : (ns : List ℕ) (place n : ℕ) → place < length ns → n ≡ get_or ns place n → drop place ns ≡ n ∷ drop (place + 1) ns
+next-of ns place n within is = drop_more ns place n within ∙ ap (λ (k : ℕ). k ∷ drop (place + 1) ns) (sym is)
+
+-- the first of some can go alone
+pub take-one : (n : ℕ) (rest : List ℕ) (rows : MapRows) (stars : Held Spoke) → CanTakeStrings (n ∷ rest) rows stars → CanTakeStrings (n ∷ []) rows stars
+take-one n rest rows stars can = record {
+  there = (can.there.0, tt);
+  differ = (tt, tt);
+  numbers_differ = can.numbers_differ;
+  two = can.two;
+  are = can.are;
+}
 
 module _ (n : ℕ) (rest : List ℕ) (rows : MapRows) (stars : Held Spoke)
     (can : CanTakeStrings (n ∷ rest) rows stars) where

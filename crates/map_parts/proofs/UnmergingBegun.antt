@@ -1,52 +1,38 @@
 -- A merger along a chain that is taken back with the room that it takes and its strings in the table.
-use Rattle.std.proofs.Common.{◌≡◌, ◌≢◌, ℕ, suc, ◌+◌, ◌<◌, ◌≤◌, ◌==◌, Bool, true, false, refl, sym, ap, subst, ◌∙◌, List, [], ◌∷◌, ◌++◌, map, length, nat_eq, if◌then◌else◌, Some, slice_get, arith}
-use Rattle.std.specs.Prelude.{IsPermutation}
-use Rattle.std.specs.List.{AllByRecursion, Contains, IsDistinct}
+use Rattle.std.proofs.Common.{◌≡◌, ◌≢◌, ℕ, ◌≤◌, ◌==◌, Bool, true, false, refl, sym, ap, subst, ◌∙◌, List, [], ◌∷◌, ◌++◌, map, length, nat_eq, if◌then◌else◌, arith}
+use Rattle.std.specs.List.{AllByRecursion, IsDistinct}
 use Rattle.std.proofs.lemmas.List.{length-append, length-map}
 use Rattle.cad_rows.specs.declared.names.Face.{Face}
 use Rattle.cad_rows.specs.declared.names.Face.TheVariants.{Outside, Parcel}
 use Rattle.cad_rows.specs.declared.rows.ParcelRow.{ParcelRow}
 use Rattle.cad_rows.specs.declared.rows.StringRow.{StringRow}
-use Rattle.cad_rings.specs.Cycle.{Ring, Side, opposite, sides_of}
+use Rattle.cad_rings.specs.Cycle.{Ring, opposite, sides_of}
 use Rattle.cad_rings.specs.Surgery.{sides_of_chain}
-use Rattle.cad_rings.proofs.CallerLemmas.{sides_of_chain-is}
-use Rattle.cad_map.specs.declared.boundary.Boundary.{Boundary}
-use Rattle.cad_map.specs.Boundaries.{face_place}
-use Rattle.cad_map.specs.Chain.{start_of, end_of, inner_of, leaving}
+use Rattle.cad_map.specs.Chain.{leaving}
 use Rattle.cad_map.specs.Map.{Map, side_of}
 use Rattle.cad_map.specs.Valid.{EachPair}
-use Rattle.cad_map.proofs.CallerLemmas.{All-at_each, All-from_each, Contains-at, Contains-map, in_parts}
 use Rattle.half_table.specs.declared.half.Half.{Half}
 use Rattle.half_table.specs.Half.{twin, half_of}
 use Rattle.half_table.specs.Rows.{HalfRows, IsLinked, face, has, has_halves, next, origin_of, prev, strings}
 use Rattle.half_paths.specs.Path.{strings_of}
 use Rattle.half_paths.specs.Loose.{AddsStrings, AreNew, HasEnds, numbers_of, is_of}
 use Rattle.entry_list.specs.Slots.{HasSlot}
-use Rattle.key_lists.specs.Held.{Held, IsSame, items_at, HasRoomAt}
+use Rattle.key_lists.specs.Held.{Held}
 use Rattle.cad_laws.specs.Local.{side_by}
 use Rattle.map_parts.specs.declared.edits.placed_strings.PlacedString.{PlacedString}
 use Rattle.map_parts.specs.declared.map_rows.MapRows.{MapRows}
 use Rattle.map_parts.specs.declared.stars.Spoke.{Spoke}
-use Rattle.map_parts.specs.Labels.{IsAlong, IsOnRing}
-use Rattle.map_parts.specs.Merging.{merged, shared_chain, first_corner, last_corner, rings_past, rows_gone, bare_row, sides_led, HasRoomAtEnds, CanBeginUnmerge, CanUnmerge}
+use Rattle.map_parts.specs.Adding.{HasRoomAtEnds, HasRoomToCome, IsSeenAs}
+use Rattle.map_parts.specs.Merging.{merged, shared_chain, first_corner, last_corner, rings_past, rows_gone, bare_row, sides_led, HaveRoomBack, CanBeginUnmerge, CanUnmerge}
 use Rattle.map_parts.specs.Parts.{HasHalves}
-use Rattle.map_parts.specs.Passing.{FitTable}
 use Rattle.map_parts.specs.PlacedStrings.{numbers_placed}
-use Rattle.map_parts.specs.Rows.{map_in}
-use Rattle.map_parts.specs.Shown.{KeepsShown}
-use Rattle.map_parts.specs.Splitting.{FitMap}
 use Rattle.map_parts.specs.Stars.{spokes_of, spokes_at}
 use Rattle.map_parts.specs.StringRows.{HasRoomFor}
 use Rattle.map_parts.proofs.AddedStrings.{numbers-distinct}
-use Rattle.map_parts.proofs.AlongPaths.{is-on_path}
-use Rattle.map_parts.proofs.ChainAcross.{last-string}
-use Rattle.map_parts.proofs.ChainRoom.{chain-room}
-use Rattle.map_parts.proofs.EnclosingBegun.{fit-room}
-use Rattle.map_parts.proofs.HiddenStrings.{fit-shown, added-halves, added-loose}
-use Rattle.map_parts.proofs.IslandRoom.{ring-room}
-use Rattle.map_parts.proofs.KeptShown.{adds-hidden, new-apart, side-kept}
+use Rattle.map_parts.proofs.ChainRoom.{chain_ends-room, ring_ends-room}
 use Rattle.map_parts.proofs.MergedRows as rows_of
 use Rattle.map_parts.proofs.Merging as merging
+use Rattle.map_parts.proofs.RoomMade.{AreReady, ready, along-still, of-still}
 
 -- ---- Rows without their sources
 
@@ -88,6 +74,16 @@ bare-adds rows old new it =
       ends = of-bare (HasEnds new) (HasEnds new) (λ r h. h) rows it.ends;
       origin = subst (λ (l : List ℕ). (g : Half) → is_of l g ≡ false → origin_of new g ≡ origin_of old g) same it.origin;
     }
+
+pub bare-room : {rows : List StringRow} {face : Face} {parcel : ℕ} {more : MapRows} {held : Held Half} {stars : Held Spoke}
+    → HasRoomToCome (map bare_row rows) face parcel more held stars → HasRoomToCome rows face parcel more held stars
+bare-room {rows} {more = more} {stars = stars} it = record {
+  slots = of-bare (λ (s : StringRow). HasSlot more.strings s.number) (λ (s : StringRow). HasSlot more.strings s.number) (λ r h. h) rows it.slots;
+  parcel_slot = it.parcel_slot;
+  ends = of-bare (HasRoomAtEnds stars) (HasRoomAtEnds stars) (λ r h. h) rows it.ends;
+  inner_room = it.inner_room;
+  outer_room = it.outer_room;
+}
 
 -- ---- Rows as a path leads along them
 
@@ -142,40 +138,23 @@ turned-room stars (h ∷ path) (r ∷ rows) all = (by h.forward, turned-room sta
     by true = all.0
     by false = (all.0.1, all.0.0)
 
-first-ends : (stars : Held Spoke) (rows : List StringRow) → AllByRecursion (HasRoomAtEnds stars) rows → AllByRecursion (λ (s : StringRow). HasRoomAt stars s.from 2) rows
-first-ends stars [] all = tt
-first-ends stars (r ∷ rows) all = (all.0.0, first-ends stars rows all.1)
+-- room for two at both ends of each string that a path leads along is room for all their halves, as it is for the rows that lead as the path does
+turned-for : (path : List Half) (rows : List StringRow) → length rows ≡ length path → (stars : Held Spoke) → HasRoomFor (all-turned path rows) stars → HasRoomFor rows stars
+turned-for path rows many stars room p some =
+    let same = turned-many p path rows many in
+    let had = room p (omega (arith, same, some)) in
+    omega (arith, same, had)
 
--- room for two at both ends of each string of a chain is room for all their halves
 pub ends-room : (path : List Half) (rows : List StringRow) (chain : List ℕ) → 2 ≤ length chain → EachPair (λ a b. a ≢ b) chain → length rows ≡ length path → sides_led path rows ≡ sides_of_chain chain
     → (stars : Held Spoke) → AllByRecursion (HasRoomAtEnds stars) rows → HasRoomFor rows stars
-ends-room path rows chain long each many sides stars all p some =
-    let own = all-turned path rows in
-    let along : map side_of own ≡ sides_of_chain chain = turned-sides path rows ∙ sides in
-    let parts = in_parts chain long in
-    let last = last-string own chain long along in
-    let room = turned-room stars path rows all in
-    let at = last-of own last.0 in
-    let both = All-at_each (HasRoomAtEnds stars) own at.1 room (Contains-at own at.0 at.1 at.3) in
-    let at_end : HasRoomAt stars (end_of chain) 2 = subst (λ (n : ℕ). HasRoomAt stars n 2) (last.1 at.0 at.2 at.1 at.3) both.1 in
-    let same = turned-many p path rows many in
-    let had = chain-room own (start_of chain) (inner_of chain) (end_of chain) (along ∙ ap sides_of_chain parts ∙ sides_of_chain-is (start_of chain) (inner_of chain) (end_of chain))
-    (subst (EachPair (λ a b. a ≢ b)) parts each) stars (first-ends stars own room) (omega (arith, at_end)) p (omega (arith, same, some)) in
-    omega (arith, same, had)
-  where
-    last-of : (xs : List StringRow) → 0 < length xs → (n : ℕ) × (s : StringRow) × (suc n ≡ length xs) × (slice_get xs n ≡ Some s)
-    last-of [] some = absurd (omega (arith, some))
-    last-of (x ∷ []) some = (0, x, refl, refl)
-    last-of (x ∷ y ∷ xs) some = let it = last-of (y ∷ xs) (omega arith) in (suc it.0, it.1, ap suc it.2, it.3)
+ends-room path rows chain long each many sides stars all =
+    turned-for path rows many stars (chain_ends-room (all-turned path rows) chain long each (turned-sides path rows ∙ sides) stars (turned-room stars path rows all))
 
 -- and so it is where they close a ring
-pub ring_ends-room : (path : List Half) (rows : List StringRow) (ring : Ring) → EachPair (λ a b. a ≢ b) ring → length rows ≡ length path → sides_led path rows ≡ sides_of ring
+pub ring-ends_room : (path : List Half) (rows : List StringRow) (ring : Ring) → EachPair (λ a b. a ≢ b) ring → length rows ≡ length path → sides_led path rows ≡ sides_of ring
     → (stars : Held Spoke) → AllByRecursion (HasRoomAtEnds stars) rows → HasRoomFor rows stars
-ring_ends-room path rows ring each many sides stars all p some =
-    let own = all-turned path rows in
-    let same = turned-many p path rows many in
-    let had = ring-room own ring (turned-sides path rows ∙ sides) each stars (first-ends stars own (turned-room stars path rows all)) p (omega (arith, same, some)) in
-    omega (arith, same, had)
+ring-ends_room path rows ring each many sides stars all =
+    turned-for path rows many stars (ring_ends-room (all-turned path rows) ring each (turned-sides path rows ∙ sides) stars (turned-room stars path rows all))
 
 -- a half of a string in the table leads as the string does, or back
 pub row-led : (table : HalfRows) (r : StringRow) (h : Half) → r.number ≡ h.string → HasHalves table r → side_by table h ≡ (if h.forward then side_of r else opposite (side_of r))
@@ -197,96 +176,55 @@ rows-led table (h ∷ path) (r ∷ rows) same all =
 
 -- ---- It is taken back
 
+-- as many rows as halves, where they have the same numbers
+pub as-many : (path : List Half) (gone : List PlacedString) → strings_of path ≡ numbers_of (rows_gone gone) → length (rows_gone gone) ≡ length path
+as-many path gone named =
+    sym (length-map (rows_gone gone) (λ (s : StringRow). s.number)) ∙ ap length (sym named) ∙ length-map path (λ (h : Half). h.string)
+
+-- what holds of each row that went
+each-gone : (P : StringRow → Type 0) (gone : List PlacedString) → AllByRecursion P (rows_gone gone) → AllByRecursion (λ (g : PlacedString). P g.row) gone
+each-gone P [] all = tt
+each-gone P (g ∷ gone) all = (all.0, each-gone P gone all.1)
+
+module _ {m : Map} {keeper : Face} (row : ParcelRow) {path : List Half} (gone : List PlacedString) {rows : MapRows} {table : HalfRows} {held : Held Half} {stars : Held Spoke}
+    (it : AreReady m (rows_gone gone) keeper row.number path rows table held stars) where
+  pub ready-there : AllByRecursion (λ (g : PlacedString). HasHalves table g.row) gone
+  ready-there = each-gone (HasHalves table) gone it.there
+
+  pub ready-room : HaveRoomBack row gone rows stars
+  ready-room = record { slot = it.parcel_slot; slots = each-gone (λ (s : StringRow). HasSlot rows.strings s.number) gone it.slots; star_room = it.room }
+
 module _ {keeper : Face} {row : ParcelRow} {place : ℕ} {path : List Half} {start end : Half} {moved : List Half} {gone : List PlacedString} {rows : MapRows} {table : HalfRows} {held : Held Half} {stars : Held Spoke}
     (c : CanBeginUnmerge keeper row place path start end moved gone rows table held stars) where
-  abbrev last : Map
+  abbrev pub last : Map
   last = merged c.is
-
-  abbrev chain : List ℕ
-  chain = shared_chain c.is
-
-  abbrev strings_gone : List StringRow
-  strings_gone = rows_gone gone
-
-  pub undo-linked : IsLinked table
-  undo-linked = c.fits.fits.local.linked
 
   pub undo-different : IsDistinct nat_eq (numbers_placed gone)
   undo-different = subst (IsDistinct nat_eq) (sym c.numbers_are) (numbers-distinct (strings_of path) (rows_of.distinct c.map keeper row.number path c.is.tried c.is.shared))
 
-  -- room changes nothing that is seen
-  pub undo-room : (more : MapRows) (wide : Held Half) (filled : Held Spoke) (t : HalfRows) → map_in more ≡ map_in rows → IsSame held wide → IsSame stars filled → t ≡ table → FitMap last more t wide filled
-  undo-room more wide filled t same alike stars_alike is = record {
-    rows_are = same ∙ c.fits.rows_are;
-    fits = subst (λ (u : HalfRows). FitTable last u wide) (sym is) (fit-room last table held wide alike c.fits.fits);
-    are_stars = λ p. subst (IsPermutation (spokes_at p last.strings)) (sym (stars_alike p)) (c.fits.are_stars p);
-  }
+  pub named : strings_of path ≡ numbers_of (rows_gone gone)
+  named = sym (placed-numbers gone ∙ c.numbers_are)
 
-  module _ {new : HalfRows} (adds : AddsStrings strings_gone table new) where
-    pub shown_kept : KeepsShown last table new
-    shown_kept = adds-hidden last table new strings_gone c.new c.fits.fits.local.there adds
-
-    -- a half that was there begins where it began
-    pub undo-origin : (h : Half) → has table h ≡ true → origin_of new h ≡ origin_of table h
-    undo-origin h there = adds.origin h (new-apart table strings_gone h c.new there)
-
-    pub turn_moved : (b : Boundary) (h : Half) → Contains moved h → IsOnRing c.map table b h → IsOnRing c.map new b h
-    turn_moved b h among on =
-        let away = new-apart table strings_gone h c.new (All-at_each (λ h. has table h ≡ true) moved h c.moved_in among) in
-        let same : side_by table h ≡ side_by new h = λ i. (sym (adds.origin h away) i, sym (adds.origin (twin h) away) i) in
-        record { shown = on.shown; side = subst (Contains (sides_of b.ring)) same on.side }
-
-    pub turn_along : (s : Side) (h : Half) → IsAlong last table s h → IsAlong last new s h
-    turn_along s h on = record {
-      there = shown_kept.has h on.shown ∙ on.there;
-      shown = on.shown;
-      side = side-kept last table new shown_kept.has shown_kept.next shown_kept.origin h on.shown ∙ on.side;
-    }
-
-    pub numbered : numbers_of strings_gone ≡ strings_of path
-    numbered = placed-numbers gone ∙ c.numbers_are
-
-    pub there_all : AllByRecursion (HasHalves new) strings_gone
-    there_all = added-halves strings_gone table new adds
-
-    module _ (more : MapRows) (wide : Held Half) (filled : Held Spoke) (same : map_in more ≡ map_in rows) (alike : IsSame held wide) (stars_alike : IsSame stars filled) (linked : IsLinked new)
-        (slots : AllByRecursion (λ (s : StringRow). HasSlot more.strings s.number) strings_gone) (parcel_slot : HasSlot more.parcels row.number)
-        (end_room : AllByRecursion (HasRoomAtEnds filled) strings_gone) (inner_room : HasRoomAt wide (face_place (Parcel row.number)) (length (items_at wide (face_place keeper)) + 2))
-        (outer_room : HasRoomAt wide (face_place keeper) 2) where
-      abbrev pub undo-can : CanUnmerge keeper row place path start end moved gone more new wide filled
-      undo-can = record {
+  abbrev pub undo-can : {more : MapRows} {new : HalfRows} {wide : Held Half} {filled : Held Spoke} → IsSeenAs rows more held wide stars filled
+      → HasRoomToCome (rows_gone gone) keeper row.number more wide filled → AddsStrings (rows_gone gone) table new → IsLinked new
+      → CanUnmerge keeper row place path start end moved gone more new wide filled
+  undo-can {new = new} {filled = filled} seen room adds linked =
+      let chain = merging.chain-open c.map keeper row.number path c.is in
+      let it =
+      ready last (rows_gone gone) keeper row.number path c.fits c.new named
+      (ends-room path (rows_gone gone) (shared_chain c.is) chain.long chain.differ (as-many path gone named) c.sides filled room.ends) seen room adds linked in
+      record {
         map = c.map;
         is = c.is;
-        fits = record {
-          rows_are = same ∙ c.fits.rows_are;
-          fits = fit-room last new held wide alike (fit-shown last table new held shown_kept linked c.fits.fits);
-          are_stars = (undo-room more wide filled table same alike stars_alike refl).are_stars;
-        };
-        there = All-from_each (λ (g : PlacedString). HasHalves new g.row) gone (λ g among. All-at_each (HasHalves new) strings_gone g.row there_all (Contains-map (λ (g : PlacedString). g.row) gone g among));
-        loose = All-from_each (λ h. (next new h ≡ twin h) × (next new (twin h) ≡ h)) path (λ h among.
-            added-loose strings_gone table new adds h (subst (λ (l : List ℕ). is_of l h ≡ true) (sym numbered) (is-on_path path h among)));
-        leads = rows-led new path strings_gone numbered there_all ∙ c.sides;
-        start_on = turn_along (leaving (first_corner c.is)) start c.start_on;
-        end_on = turn_along (leaving (last_corner c.is)) end c.end_on;
-        moved_are = record {
-          each = All-from_each (λ h. (b : Boundary) × Contains (rings_past c.is) b × IsOnRing c.map new b h × (b.face ≡ Parcel row.number)) moved (λ h among.
-              let it = All-at_each (λ h. (b : Boundary) × Contains (rings_past c.is) b × IsOnRing c.map table b h × (b.face ≡ Parcel row.number)) moved h c.moved_are.each among in
-              (it.0, it.1, turn_moved it.0 h among it.2, it.3));
-          all = λ b there is. let it = c.moved_are.all b there is in (it.0, it.1, turn_moved b it.0 it.1 it.2);
-        };
-        went = record {
-          row = c.at;
-          numbers = c.numbers_are;
-          stood = c.stood;
-        };
-        room = record {
-          slot = parcel_slot;
-          slots = All-from_each (λ (g : PlacedString). HasSlot more.strings g.row.number) gone (λ g among. All-at_each (λ (s : StringRow). HasSlot more.strings s.number) strings_gone g.row slots (Contains-map (λ (g : PlacedString). g.row) gone g among));
-          star_room =
-              let whole_chain = merging.chain-open c.map keeper row.number path c.is in
-              let many = sym (length-map strings_gone (λ (s : StringRow). s.number)) ∙ ap length numbered ∙ length-map path (λ (h : Half). h.string) in
-              ends-room path strings_gone chain whole_chain.long whole_chain.differ many c.sides filled end_room;
-        };
-        inner_room = omega (arith, inner_room);
-        outer_room = omega (arith, outer_room);
+        fits = it.fits;
+        there = ready-there row gone it;
+        loose = it.loose;
+        leads = rows-led new path (rows_gone gone) (sym named) it.there ∙ c.sides;
+        start_on = along-still c.new adds last (leaving (first_corner c.is)) start c.start_on;
+        end_on = along-still c.new adds last (leaving (last_corner c.is)) end c.end_on;
+        moved_are = of-still c.new adds c.map moved (Parcel row.number) (rings_past c.is) c.moved_in c.moved_are;
+        went = record { row = c.at; numbers = c.numbers_are; stood = c.stood };
+        room = ready-room row gone it;
+        inner_room = let more = room.inner_room in omega (arith, more);
+        outer_room = let more = room.outer_room in omega (arith, more);
       }

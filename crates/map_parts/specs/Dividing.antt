@@ -1,6 +1,5 @@
 -- A division, made in place and taken back.
 use Rattle.std.specs.Prelude.{◌≡◌, ℕ, ◌+◌, List, [], ◌∷◌, map, length}
-use Rattle.std.specs.List.{AllByRecursion}
 use Rattle.cad_rows.specs.declared.edits.Edit.TheVariants.{Divide}
 use Rattle.cad_rows.specs.declared.names.Face.{Face}
 use Rattle.cad_rows.specs.declared.names.Face.TheVariants.{Parcel}
@@ -15,20 +14,17 @@ use Rattle.cad_map.specs.Effects.{after}
 use Rattle.cad_map.specs.Map.{Map}
 use Rattle.half_table.specs.declared.half.Half.{Half}
 use Rattle.half_table.specs.Half.{forward_of}
-use Rattle.half_table.specs.Rows.{HalfRows, next}
+use Rattle.half_table.specs.Rows.{HalfRows}
 use Rattle.half_paths.specs.Path.{AreIn}
-use Rattle.half_paths.specs.Loose.{AreLoose, AreNew}
-use Rattle.entry_list.specs.Slots.{HasSlot}
+use Rattle.half_paths.specs.Loose.{AreNew}
 use Rattle.key_lists.specs.Held.{Held, items_at, HasRoomAt}
 use Rattle.cad_laws.specs.Faces.{IsDividedIn, left_of_chain, uncut}
 use Rattle.cad_laws.specs.Tried.{IsTried, AreChosen}
 use Rattle.map_parts.specs.declared.map_rows.MapRows.{MapRows}
 use Rattle.map_parts.specs.declared.stars.Spoke.{Spoke}
 use Rattle.map_parts.specs.Labels.{IsAlong}
-use Rattle.map_parts.specs.Parts.{HasHalves}
 use Rattle.map_parts.specs.Islands.{AreOfRings}
 use Rattle.map_parts.specs.Splitting.{FitMap}
-use Rattle.map_parts.specs.StringRows.{HasRoomFor}
 
 -- The division of a face is tried, with the strings that it brings, and the halves along the chain.
 pub record IsDividing (m : Map) (face : Face) (numbers : List ℕ) (added : List StringRow) (parcel : ℕ) (path : List Half) : Type 0 where
@@ -51,28 +47,6 @@ module _ {m : Map} {face : Face} {numbers : List ℕ} {added : List StringRow} {
   -- the rings but the one that is cut, where they go
   abbrev pub rings_beside : IsDividing m face numbers added parcel path → List Boundary
   rings_beside is = map (hole_placed m face (Parcel parcel) (left_of_chain is.chain is.first is.last is.divided.cut.ring)) (uncut m is.first)
-
--- The division is tried, with the rows that it brings: the strings are in the table, loose, there is
--- room for all that comes, and the halves that leave the two corners, and those of the rings that
--- pass over, are at hand.
-pub record CanDivide (face : Face) (added : List StringRow) (parcel : ParcelRow) (path : List Half) (start end : Half) (moved : List Half)
-    (rows : MapRows) (table : HalfRows) (held : Held Half) (stars : Held Spoke) : Type 0 where
-  pub map : Map
-  pub numbers : List ℕ
-  pub is : IsDividing map face numbers added parcel.number path
-  pub label_is : parcel.label ≡ is.label
-  pub sources_are : parcel.sources ≡ is.source ∷ []
-  pub fits : FitMap map rows table held stars
-  pub there : AllByRecursion (HasHalves table) added
-  pub loose : AreLoose (next table) path
-  pub start_on : IsAlong map table (leaving is.first) start
-  pub end_on : IsAlong map table (leaving is.last) end
-  pub moved_are : AreOfRings (divided is) table moved (Parcel parcel.number) (rings_beside is)
-  pub slots : AllByRecursion (λ (s : StringRow). HasSlot rows.strings s.number) added
-  pub parcel_slot : HasSlot rows.parcels parcel.number
-  pub room : HasRoomFor added stars
-  pub inner_room : HasRoomAt held (face_place (Parcel parcel.number)) (length (items_at held (face_place face)) + 2)
-  pub outer_room : HasRoomAt held (face_place face) 2
 
 -- The map is that after a division which was tried; there is room for the halves that are kept of
 -- its rings, and those of the rings that pass over are at hand.

@@ -19,6 +19,7 @@ pub mod Joined
 pub mod StringRows
 pub mod PlacedStrings
 pub mod Placed
+pub mod Adding
 pub mod Enclosing
 pub mod Dividing
 pub mod Merging

@@ -70,20 +70,6 @@ module _ {m : Map} {keeper : Face} {ended : ℕ} {path : List Half} where
   abbrev pub rings_past : IsMerging m keeper ended path → List Boundary
   rings_past is = is.taken.2
 
--- The merger is tried: the halves of the path lead along the chain, those of the ended parcel's
--- rings that pass over are at hand, and there is room for the halves that are kept.
-pub record CanMerge (keeper : Face) (ended : ℕ) (strings : List ℕ) (path moved : List Half)
-    (rows : MapRows) (table : HalfRows) (held : Held Half) (stars : Held Spoke) : Type 0 where
-  pub map : Map
-  pub is : IsMerging map keeper ended path
-  pub strings_are : strings ≡ strings_of path
-  pub fits : FitMap map rows table held stars
-  pub leads : AreAlong table path (sides_of_chain (shared_chain is))
-  pub moved_are : AreOfRings map table moved (Parcel ended) (rings_past is)
-  pub slot : HasSlot rows.retired ended
-  pub inner_room : HasRoomAt held (face_place (Parcel ended)) (length (items_at held (face_place keeper)))
-  pub outer_room : HasRoomAt held (face_place keeper) (length (items_at held (face_place (Parcel ended))) + 1)
-
 -- The merger is tried: the halves of the path lead along the chain, and those of the ended parcel's
 -- rings that pass over are at hand.
 pub record CanBeginMerge (keeper : Face) (ended : ℕ) (strings : List ℕ) (path moved : List Half)
@@ -102,10 +88,6 @@ rows_gone gone = map (λ (g : PlacedString). g.row) gone
 -- a string's row without its sources
 abbrev pub bare_row : StringRow → StringRow
 bare_row r = record r { sources = [] }
-
--- at both ends of the string two halves more can begin
-abbrev pub HasRoomAtEnds : Held Spoke → StringRow → Type 0
-HasRoomAtEnds stars s = HasRoomAt stars s.from 2 × HasRoomAt stars s.to 2
 
 -- the sides along which strings lead, as these halves of them do
 abbrev pub sides_led : List Half → List StringRow → List Side

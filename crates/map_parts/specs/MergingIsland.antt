@@ -16,7 +16,6 @@ use Rattle.half_table.specs.declared.half.Half.{Half}
 use Rattle.half_table.specs.Rows.{HalfRows, next}
 use Rattle.half_paths.specs.Loose.{AreLoose, AreNew, numbers_of}
 use Rattle.half_paths.specs.Path.{AreIn, strings_of}
-use Rattle.entry_list.specs.Slots.{HasSlot}
 use Rattle.key_lists.specs.Held.{Held, items_at, HasRoomAt}
 use Rattle.cad_laws.specs.Counts.{shared_strings}
 use Rattle.cad_laws.specs.Tried.{IsTried}
@@ -49,21 +48,6 @@ module _ {m : Map} {keeper : Face} {ended : ℕ} {points : List ℕ} {path : Lis
   -- the rings but the two round it
   abbrev pub rings_apart : IsMergingIsland m keeper ended points path → List Boundary
   rings_apart is = is.taken.0
-
--- The merger is tried: the halves of the path lead round the points, those of the ended parcel's
--- rings that pass over are at hand, and there is room for the halves that are kept.
-pub record CanMergeIsland (keeper : Face) (ended : ℕ) (strings : List ℕ) (path moved : List Half)
-    (rows : MapRows) (table : HalfRows) (held : Held Half) (stars : Held Spoke) : Type 0 where
-  pub map : Map
-  pub points : List ℕ
-  pub is : IsMergingIsland map keeper ended points path
-  pub strings_are : strings ≡ strings_of path
-  pub fits : FitMap map rows table held stars
-  pub along : AreAlong table path (sides_of points)
-  pub moved_are : AreOfRings map table moved (Parcel ended) (rings_apart is)
-  pub slot : HasSlot rows.retired ended
-  pub inner_room : HasRoomAt held (face_place (Parcel ended)) (length (items_at held (face_place keeper)))
-  pub outer_room : HasRoomAt held (face_place keeper) (length (items_at held (face_place (Parcel ended))))
 
 -- The merger is tried: the halves of the path lead round the points, and those of the ended parcel's
 -- rings that pass over are at hand.

@@ -1,45 +1,15 @@
--- Room that is made, and strings that are added loose, before the first change of an edit.
-use Rattle.std.proofs.Common.{◌≡◌, ◌≢◌, refl, sym, ap, subst, ◌∙◌, List, [], ◌∷◌, Bool, true, false, ◌||◌, nat_eq}
-use Rattle.std.specs.Prelude.{IsPermutation}
+-- One string, or two, added loose before the first change of an edit.
+use Rattle.std.proofs.Common.{◌≡◌, ◌≢◌, refl, ap, ◌∙◌, [], ◌∷◌, Bool, true, false, ◌||◌, nat_eq}
 use Rattle.std.specs.List.{IsDistinct}
 use Rattle.std.proofs.lemmas.Bool.{false_from_ne_true, eqb-true}
 use Rattle.std.proofs.lemmas.Cmp.{nat_eq_equiv}
 use Rattle.cad_rows.specs.declared.rows.StringRow.{StringRow}
-use Rattle.cad_map.specs.Map.{Map}
-use Rattle.half_table.specs.declared.half.Half.{Half}
 use Rattle.half_table.specs.Half.{half_of}
-use Rattle.half_table.specs.Rows.{HalfRows, IsLinked, next, has_halves}
+use Rattle.half_table.specs.Rows.{HalfRows, next, has_halves}
 use Rattle.half_table.specs.Surgery.{AddsLoose}
 use Rattle.half_paths.proofs.Added.{adds-none, adds-more, new-kept, numbers-first}
 use Rattle.half_paths.specs.Loose.{AreNew, AddsStrings, AreLoose, numbers_of}
-use Rattle.key_lists.specs.Held.{Held, IsSame}
-use Rattle.map_parts.specs.declared.map_rows.MapRows.{MapRows}
-use Rattle.map_parts.specs.declared.stars.Spoke.{Spoke}
-use Rattle.map_parts.specs.Rows.{map_in}
-use Rattle.map_parts.specs.Stars.{spokes_at}
-use Rattle.map_parts.specs.Splitting.{FitMap}
-use Rattle.map_parts.proofs.HiddenStrings.{fit-shown, added-loose}
-use Rattle.map_parts.proofs.KeptShown.{adds-hidden}
-
-module _ (m : Map) (rows : MapRows) (table : HalfRows) (held : Held Half) (stars : Held Spoke)
-    (fits : FitMap m rows table held stars) where
-  -- room changes nothing that is seen
-  pub room-fit : (more : MapRows) (wide : Held Spoke) → map_in more ≡ map_in rows → IsSame stars wide
-      → FitMap m more table held wide
-  room-fit more wide same alike = record {
-    rows_are = same ∙ fits.rows_are;
-    fits = fits.fits;
-    are_stars = λ p. subst (IsPermutation (spokes_at p m.strings)) (sym (alike p)) (fits.are_stars p);
-  }
-
-  -- nor do strings that the table has more
-  pub added-fit : (added : List StringRow) (new : HalfRows) → AreNew table added → AddsStrings added table new
-      → IsLinked new → FitMap m rows new held stars
-  added-fit added new fresh adds linked = record {
-    rows_are = fits.rows_are;
-    fits = fit-shown m table new held (adds-hidden m table new added fresh fits.fits.local.there adds) linked fits.fits;
-    are_stars = fits.are_stars;
-  }
+use Rattle.map_parts.proofs.HiddenStrings.{added-loose}
 
 -- ---- One string
 

@@ -17,13 +17,14 @@ use Rattle.map_parts.specs.Rows.{map_in}
 use Rattle.map_parts.specs.Joined.{CanJoin, CanBeginJoin, CanUnjoin, CanBeginUnjoin}
 use Rattle.map_parts.specs.Splitting.{FitMap}
 use Rattle.map_parts.proofs.HiddenStrings.{added-halves}
+use Rattle.map_parts.proofs.RoomMade.{fit-seen, added-fit}
 use Rattle.map_parts.proofs.Passing.Begun as begun
 use Rattle.map_parts.proofs.Passing.JoinBetween as made
 
 module _ (p first second : ℕ) (row : StringRow) (rows : MapRows) (table : HalfRows) (held : Held Half)
     (stars : Held Spoke) (can : CanBeginJoin p first second row rows table held stars) where
   pub begun-room : (more : MapRows) → map_in more ≡ map_in rows → FitMap can.map more table held stars
-  begun-room more same = begun.room-fit can.map rows table held stars can.fits more stars same (λ p. refl)
+  begun-room more same = fit-seen can.map can.fits (record { same_rows = same; same_kept = λ n. refl; same_stars = λ p. refl })
 
   module _ (more : MapRows) (same : map_in more ≡ map_in rows) (slot : HasSlot more.strings row.number)
       (new : HalfRows) (one : AddsLoose row.number row.from row.to table new) (linked : IsLinked new) where
@@ -41,7 +42,7 @@ module _ (p first second : ℕ) (row : StringRow) (rows : MapRows) (table : Half
       first_is = can.first_is;
       second_is = can.second_is;
       row_is = can.row_is;
-      fits = begun.added-fit can.map more table held stars (begun-room more same) (row ∷ []) new can.new begun-adds linked;
+      fits = added-fit can.map (begun-room more same) (row ∷ []) new can.new begun-adds linked;
       there = (added-halves (row ∷ []) table new begun-adds).0;
       loose = begun.loose-one row table new begun-adds true;
       slot = slot;
@@ -65,7 +66,7 @@ module _ (joined : JoinedRows) (new_string : ℕ) (rows : MapRows) (table : Half
 
   pub back-room : (more : MapRows) (wide : Held Spoke) → map_in more ≡ map_in rows → IsSame stars wide
       → FitMap now more table held wide
-  back-room = begun.room-fit now rows table held stars can.fits
+  back-room more wide same alike = fit-seen now can.fits (record { same_rows = same; same_kept = λ n. refl; same_stars = alike })
 
   differ : s.number ≡ t.number → ⊥
   differ = made.join-differ can.map p new_string s t can.tried can.are can.apart
@@ -91,7 +92,7 @@ module _ (joined : JoinedRows) (new_string : ℕ) (rows : MapRows) (table : Half
       point_at = can.point_at;
       first_at = can.first_at;
       second_at = can.second_at;
-      fits = begun.added-fit now more table held wide (back-room more wide same alike) (s ∷ t ∷ []) new can.new adds linked;
+      fits = added-fit now (back-room more wide same alike) (s ∷ t ∷ []) new can.new adds linked;
       first_there = (added-halves (s ∷ t ∷ []) table new adds).0;
       second_there = (added-halves (s ∷ t ∷ []) table new adds).1.0;
       loose = begun.loose-two s t table new adds (not (s.from == p)) (t.from == p);

@@ -16,7 +16,8 @@ use Rattle.map_parts.specs.declared.stars.Spoke.{Spoke}
 use Rattle.map_parts.specs.Rows.{map_in}
 use Rattle.map_parts.specs.Splitting.{CanSplit, CanUnsplit, CanBeginSplit, CanBeginUnsplit, FitMap}
 use Rattle.map_parts.proofs.HiddenStrings.{added-halves}
-use Rattle.map_parts.proofs.Passing.Begun.{room-fit, added-fit, loose-one, second-free, adds-two, loose-two}
+use Rattle.map_parts.proofs.RoomMade.{fit-seen, added-fit}
+use Rattle.map_parts.proofs.Passing.Begun.{loose-one, second-free, adds-two, loose-two}
 use Rattle.map_parts.proofs.Passing.SplitBetween as made
 
 module _ (string : ℕ) (point : PointRow) (first second : StringRow) (rows : MapRows) (table : HalfRows)
@@ -27,7 +28,7 @@ module _ (string : ℕ) (point : PointRow) (first second : StringRow) (rows : Ma
   -- room changes nothing that is seen
   pub begun-room : (more : MapRows) (wide : Held Spoke) → map_in more ≡ map_in rows → IsSame stars wide
       → FitMap can.map more table held wide
-  begun-room more wide same alike = room-fit can.map rows table held stars can.fits more wide same alike
+  begun-room more wide same alike = fit-seen can.map can.fits (record { same_rows = same; same_kept = λ n. refl; same_stars = alike })
 
   -- the two strings one after the other
   pub begun-free : (mid : HalfRows) → AddsLoose first.number first.from first.to table mid
@@ -51,8 +52,7 @@ module _ (string : ℕ) (point : PointRow) (first second : StringRow) (rows : Ma
       no_sources = can.no_sources;
       first_is = can.first_is;
       second_is = can.second_is;
-      fits =
-          added-fit can.map more table held wide (begun-room more wide same alike) (first ∷ second ∷ []) new can.new adds linked;
+      fits = added-fit can.map (begun-room more wide same alike) (first ∷ second ∷ []) new can.new adds linked;
       first_there = (added-halves (first ∷ second ∷ []) table new adds).0;
       second_there = (added-halves (first ∷ second ∷ []) table new adds).1.0;
       loose = loose-two first second table new adds true true;
@@ -71,7 +71,7 @@ module _ (row : StringRow) (place p first second : ℕ) (rows : MapRows) (table 
   now = after can.map (Split row.number p can.x can.y first second)
 
   pub unbegun-room : FitMap now more table held stars
-  unbegun-room = room-fit now rows table held stars can.fits more stars same (λ q. refl)
+  unbegun-room = fit-seen now can.fits (record { same_rows = same; same_kept = λ n. refl; same_stars = λ q. refl })
 
   abbrev pub unbegun-can : (slot : HasSlot more.strings row.number) (new : HalfRows)
       → AddsStrings (row ∷ []) table new → IsLinked new → CanUnsplit row place p first second more new held stars
@@ -81,7 +81,7 @@ module _ (row : StringRow) (place p first second : ℕ) (rows : MapRows) (table 
     y = can.y;
     tried = can.tried;
     at = can.at;
-    fits = added-fit now more table held stars unbegun-room (row ∷ []) new can.new adds linked;
+    fits = added-fit now unbegun-room (row ∷ []) new can.new adds linked;
     there = (added-halves (row ∷ []) table new adds).0;
     loose = loose-one row table new adds true;
     slot = slot;

@@ -1,36 +1,41 @@
-//! Two parcels merged in place round an island, and the merger taken back: rows, stars, table and
-//! kept halves.
-ghost use Rattle.std.specs.Prelude.{◌≡◌, ◌+◌, ◌≤◌, ◌∷◌, [], ℕ, length};
-ghost use Rattle.std.specs.Vec.{vec_len, vec_capacity};
-ghost use Rattle.cad_map.specs.Boundaries.{face_place as face_place_of};
-ghost use Rattle.cad_rows.specs.declared.names.Face.TheVariants.{Parcel};
+//! Two parcels merged in place round an island, with the room that it takes, and the merger taken
+//! back: rows, stars, table and kept halves.
+ghost use Rattle.std.specs.Prelude.{◌≡◌, ◌+◌, ◌≤◌, ◌∷◌, ℕ, true, length};
+ghost use Rattle.std.specs.Prelude.{if◌then◌else◌, IfOk, OnOk, OnErr};
+ghost use Rattle.half_table.specs.declared.half.Half.{Half as HalfOf};
 ghost use Rattle.half_table.specs.Count.{ticked};
 ghost use Rattle.half_table.specs.Half.{twin};
-ghost use Rattle.half_table.specs.Rows.{next, cycle};
-ghost use Rattle.half_paths.specs.Loose.{AreLoose};
-ghost use Rattle.key_lists.specs.Held.{capacity_at};
-ghost use Rattle.map_parts.specs.Handing.{KeepsEnds, KeepsNoMore};
-ghost use Rattle.map_parts.specs.Merging.{HaveGone, HaveRoomBack};
-ghost use Rattle.map_parts.specs.MergingIsland.{CanMergeIsland, CanUnmergeIsland, without_island};
+ghost use Rattle.half_table.specs.Rows.{next, has, origin_of, cycle};
+ghost use Rattle.half_paths.specs.Loose.{is_of, AreLoose};
+ghost use Rattle.map_parts.specs.Handing.{KeepsEnds};
+ghost use Rattle.map_parts.specs.Merging.{HaveGone};
+ghost use Rattle.map_parts.specs.MergingIsland.{CanBeginMergeIsland, CanBeginUnmergeIsland};
+ghost use Rattle.map_parts.specs.MergingIsland.{CanUnmergeIsland, without_island};
+ghost use Rattle.map_parts.specs.PlacedStrings.{numbers_placed};
 ghost use Rattle.map_parts.specs.Relabelled.{cycles_length};
 ghost use Rattle.map_parts.specs.Rows.{map_in};
 ghost use Rattle.map_parts.specs.Splitting.{FitMap};
 
 use crate::edits::enclose::{bring_in, take_out};
 use crate::edits::ended::{put_ended, take_ended};
+use crate::edits::merging_tried::{EndedParcel, make_merge_room, make_unmerge_room};
 use crate::edits::placed_strings::PlacedString;
 use crate::map_rows::MapRows;
 use crate::stars::Spoke;
-use cad_rows::{Face, ParcelNo, ParcelRow, StringNo};
+use cad_rows::{Face, Memory, ParcelNo, ParcelRow, StringNo};
 use half_table::{Half, HalfTable, Tally};
 use key_lists::KeyLists;
 
 /// Merges a parcel into a face round the ring of strings that they share, whichever of the two is
-/// inside it: the strings, which are loose in the table then, and the parcel go from the rows, and
-/// its number is retired. Its other rings are the kept face's. The strings' rows are listed with
-/// their places, and the parcel's row is given with its own. It takes no memory, and time by the
-/// strings, by the parcel's rings, and by the rings of the kept face.
-pub fn merge_island<T: Tally>(
+/// inside it, with the room that it takes: the strings and the parcel go from the rows, and its
+/// number is retired. Its other rings are the kept face's. The strings stay in the table, loose. All
+/// that goes is given, each row with its place, and can come back without memory. It takes time by
+/// the strings, by the parcel's rings, and by the rings of the kept face.
+///
+/// # Errors
+///
+/// Where memory runs out the map stays, and so does the table.
+pub fn begin_merge_island<T: Tally>(
     rows: &mut MapRows,
     table: &mut HalfTable<T>,
     kept: &mut KeyLists<Half>,
@@ -41,28 +46,49 @@ pub fn merge_island<T: Tally>(
     first: &Half,
     rest: &[Half],
     moved: &[Half],
-    gone: &mut Vec<PlacedString>,
-) -> (usize, ParcelRow)
-    requires can { CanMergeIsland keeper.now ended strings.now (first.now ∷ rest.now) moved.now
+) -> Result<EndedParcel, Memory>
+    requires { CanBeginMergeIsland keeper.now ended strings.now (first.now ∷ rest.now) moved.now
         rows.old table.old.rows kept.old stars.old }
-    requires none { gone.old.items ≡ [] }
-    requires room { vec_len gone.old + length strings.now ≤ vec_capacity gone.old }
-    ensures fits { (can : CanMergeIsland keeper.now ended strings.now (first.now ∷ rest.now) moved.now
-        rows.old table.old.rows kept.old stars.old)
-        → FitMap (without_island can.is) rows.new table.new.rows kept.new stars.new }
-    ensures gone { HaveGone (map_in rows.old) ended strings.now result.1 result.0 gone.new.items }
-    ensures back { HaveRoomBack result.1 gone.new.items rows.new stars.new }
-    ensures loose { AreLoose (next table.new.rows) (first.now ∷ rest.now) }
+    ensures fits { (can : CanBeginMergeIsland keeper.now ended strings.now (first.now ∷ rest.now)
+        moved.now rows.old table.old.rows kept.old stars.old)
+        → OnOk result
+        (FitMap (without_island can.is) rows.new table.new.rows kept.new stars.new) }
+    ensures err { (can : CanBeginMergeIsland keeper.now ended strings.now (first.now ∷ rest.now)
+        moved.now rows.old table.old.rows kept.old stars.old)
+        → OnErr result (FitMap can.map rows.new table.new.rows kept.new stars.new) }
+    ensures err_table { OnErr result (table.new ≡ table.old) }
+
+    // It can be taken back.
+    ensures back { (can : CanBeginMergeIsland keeper.now ended strings.now (first.now ∷ rest.now)
+        moved.now rows.old table.old.rows kept.old stars.old)
+        → IfOk result (λ r. (undo : CanUnmergeIsland keeper.now r.row r.place
+        (first.now ∷ rest.now) moved.now r.strings.items rows.new table.new.rows kept.new
+        stars.new) × (undo.map ≡ can.map)) }
+
+    ensures gone { IfOk result (λ r. HaveGone (map_in rows.old) ended strings.now r.row r.place
+        r.strings.items) }
+    ensures loose { OnOk result (AreLoose (next table.new.rows) (first.now ∷ rest.now)) }
     ensures halves { KeepsEnds table.old.rows table.new.rows }
-    ensures kept { KeepsNoMore (face_place_of (Parcel ended)) (face_place_of keeper.now) kept.old
-        kept.new }
-    ensures star_capacity { (p : ℕ) → capacity_at stars.new p ≡ capacity_at stars.old p }
-    ensures work { table.new.work ≡ ticked (cycles_length table.old.rows moved.now
-        + (length (cycle table.old.rows (twin first.now)) + (length rest.now + 1))) table.old.work }
+    ensures work { OnOk result (table.new.work ≡ ticked (cycles_length table.old.rows moved.now
+        + (length (cycle table.old.rows (twin first.now)) + (length rest.now + 1)))
+        table.old.work) }
 {
-    let inner = Face::Parcel(ended);
-    take_out(table, kept, first, rest, keeper, &inner, moved);
-    take_ended(rows, stars, ended, strings, gone)
+    let mut gone = make_merge_room(rows, kept, keeper, ended, strings.len())?;
+    take_out(
+        table,
+        kept,
+        first,
+        rest,
+        keeper,
+        &Face::Parcel(ended),
+        moved,
+    );
+    let (place, row) = take_ended(rows, stars, ended, strings, &mut gone);
+    Ok(EndedParcel {
+        row,
+        place,
+        strings: gone,
+    })
 }
 
 /// Takes a merger round an island back: the strings and the parcel come back where they stood, and
@@ -95,4 +121,66 @@ pub fn unmerge_island<T: Tally>(
     let inner = Face::Parcel(row.number);
     bring_in(table, kept, first, rest, keeper, &inner, moved);
     put_ended(rows, stars, row, place, gone);
+}
+
+/// Takes a merger round an island back, with the room that it takes and its strings in the table.
+///
+/// # Errors
+///
+/// Where memory runs out the map stays, and the table has the strings that it had.
+pub fn begin_unmerge_island<T: Tally>(
+    rows: &mut MapRows,
+    table: &mut HalfTable<T>,
+    kept: &mut KeyLists<Half>,
+    stars: &mut KeyLists<Spoke>,
+    keeper: &Face,
+    gone: EndedParcel,
+    first: &Half,
+    rest: &[Half],
+    moved: &[Half],
+) -> Result<(), Memory>
+    requires { CanBeginUnmergeIsland keeper.now gone.row gone.place (first.now ∷ rest.now)
+        moved.now gone.strings.items rows.old table.old.rows kept.old stars.old }
+    ensures fits { (can : CanBeginUnmergeIsland keeper.now gone.row gone.place
+        (first.now ∷ rest.now) moved.now gone.strings.items rows.old table.old.rows kept.old
+        stars.old)
+        → OnOk result (FitMap can.map rows.new table.new.rows kept.new stars.new) }
+    ensures err { (can : CanBeginUnmergeIsland keeper.now gone.row gone.place
+        (first.now ∷ rest.now) moved.now gone.strings.items rows.old table.old.rows kept.old
+        stars.old)
+        → OnErr result
+        (FitMap (without_island can.is) rows.new table.new.rows kept.new stars.new) }
+    ensures err_table { OnErr result (table.new.rows ≡ table.old.rows) }
+    ensures has { OnOk result ((h : HalfOf) → has table.new.rows h
+        ≡ (if is_of (numbers_placed gone.strings.items) h then true else has table.old.rows h)) }
+    ensures origin { OnOk result ((h : HalfOf) → has table.old.rows h ≡ true
+        → origin_of table.new.rows h ≡ origin_of table.old.rows h) }
+    ensures work { OnOk result (table.new.work ≡ ticked (length rest.now + 1
+        + (length (cycle table.new.rows first.now)
+        + (length (cycle table.new.rows (twin first.now))
+        + cycles_length table.new.rows moved.now)))
+        (ticked (length gone.strings.items) table.old.work)) }
+    ensures err_work { OnErr result ((count : ℕ) × (count ≤ length gone.strings.items)
+        × (table.new.work ≡ ticked count (ticked count table.old.work))) }
+{
+    make_unmerge_room(rows, table, kept, stars, keeper, &gone)?;
+    let EndedParcel {
+        row,
+        place,
+        mut strings,
+    } = gone;
+    unmerge_island(
+        rows,
+        table,
+        kept,
+        stars,
+        keeper,
+        row,
+        place,
+        first,
+        rest,
+        moved,
+        &mut strings,
+    );
+    Ok(())
 }

@@ -11,7 +11,8 @@ ghost use Rattle.map_parts.specs.PlacedStrings.{CanPutPlaced, numbers_placed, St
 ghost use Rattle.map_parts.specs.Splitting.{AreStarsOf};
 ghost use Rattle.map_parts.specs.StringRows.{CanTakeStrings, HasRoomFor, without_rows};
 
-use crate::edits::spokes::{put_spokes, take_spokes};
+use crate::edits::spokes::put_spokes;
+use crate::edits::string_rows::take_string;
 use crate::map_rows::MapRows;
 use crate::stars::Spoke;
 use cad_rows::{StringNo, StringRow};
@@ -48,8 +49,7 @@ pub(crate) fn take_placed(
     ensures kept { AllByRecursion (λ g. HasSlot rows.new.strings g.row.number) gone.new.items }
 {
     for string in strings {
-        let (place, row) = rows.strings.take_there(string.get());
-        take_spokes(stars, &row);
+        let (place, row) = take_string(rows, stars, *string);
         gone.push_reserved(PlacedString { row, place });
     }
 }

@@ -1,50 +1,55 @@
-use Rattle.std.proofs.Common.{◌≡◌, ◌≤◌, ◌∙◌, ℕ, List, length, map, nat_eq, sym, ap, subst, arith}
-use Rattle.std.specs.List.{AllByRecursion, IsDistinct}
+use Rattle.std.proofs.Common.{◌≡◌, ◌≤◌, ◌∙◌, ℕ, List, length, map, nat_eq, sym, ap, subst}
+use Rattle.std.specs.Prelude.{OnOk, OnErr}
+use Rattle.std.specs.List.{IsDistinct}
 use Rattle.cad_rows.specs.declared.rows.StringRow.{StringRow}
-use Rattle.entry_list.specs.Slots.{HasSlot}
 use Rattle.half_table.specs.Count.{ticked}
 use Rattle.half_paths.specs.Loose.{AddsStrings, AreNew, numbers_of}
-use Rattle.map_parts.specs.Merging.{bare_row, rows_gone, HasRoomAtEnds}
 use Rattle.map_parts.specs.declared.edits.placed_strings.PlacedString.{PlacedString}
-use Rattle.map_parts.proofs.EnclosingBegun.{on-err}
-use Rattle.map_parts.proofs.UnmergingBegun.{bare-adds, bare-distinct, bare-many, bare-new, of-bare}
+use Rattle.map_parts.specs.Adding.{HasRoomToCome}
+use Rattle.map_parts.specs.Merging.{bare_row, rows_gone}
+use Rattle.map_parts.proofs.RoomMade.{ok-follows}
+use Rattle.map_parts.proofs.UnmergingBegun.{bare-adds, bare-distinct, bare-many, bare-new, bare-room}
+use Rattle.map_parts.proofs.edits.merging_tried.make_unmerge_room.Goals.{After-as_slice-2}
 use Rattle.map_parts.proofs.edits.merging_tried.make_unmerge_room.Goals as goal
 
-pub add_strings-requires : goal.add_strings-requires
-add_strings-requires g c =
-    let is = (c.as_slice-4.ensures.value ∙ c.in_ok-bare.ensures ∙ ap (λ (l : List PlacedString). map bare_row (rows_gone l)) c.as_slice.ensures.value) in
+-- the rows that are added are those that went, without their sources
+is : (g : _) (c : goal.After-as_slice-2 g) → c.as_slice-2.result.now ≡ map bare_row (rows_gone c.args.gone.now.strings.items)
+is g c = c.as_slice-2.ensures.value ∙ c.in_ok-bare.ensures ∙ ap (λ (l : List PlacedString). map bare_row (rows_gone l)) c.as_slice.ensures.value
+
+pub add_with_room-requires : goal.add_with_room-requires
+add_with_room-requires g c =
+    let same = sym (is g (goal.at.add_with_room-requires g c).After-as_slice-2) in
     record {
       linked = c.requires.linked;
-      new = subst (AreNew c.args.table.now.rows) (sym is) (bare-new c.args.table.now.rows (rows_gone c.args.gone.now.strings.items) c.requires.new);
-      different = subst (λ (l : List StringRow). IsDistinct nat_eq (numbers_of l)) (sym is) (bare-distinct c.args.gone.now.strings.items c.requires.different);
+      new = subst (AreNew c.args.table.now.rows) same (bare-new c.args.table.now.rows (rows_gone c.args.gone.now.strings.items) c.requires.new);
+      different = subst (λ (l : List StringRow). IsDistinct nat_eq (numbers_of l)) same (bare-distinct c.args.gone.now.strings.items c.requires.different);
     }
-
-pub returns-clause-slots : goal.returns-clause-slots
-returns-clause-slots g c =
-    let new = c.keep_slots.new.rows in
-    of-bare (λ (s : StringRow). HasSlot new.strings s.number) (λ (s : StringRow). HasSlot new.strings s.number) (λ r h. h) (rows_gone c.args.gone.now.strings.items)
-    (subst (AllByRecursion (λ (s : StringRow). HasSlot new.strings s.number)) (c.as_slice-2.ensures.value ∙ c.in_ok-bare.ensures ∙ ap (λ (l : List PlacedString). map bare_row (rows_gone l)) c.as_slice.ensures.value) c.in_ok-keep_slots.ensures.slots)
 
 pub returns-clause-room : goal.returns-clause-room
 returns-clause-room g c =
-    let new = c.make_end_room.new.stars in
-    of-bare (HasRoomAtEnds new) (HasRoomAtEnds new) (λ r h. h) (rows_gone c.args.gone.now.strings.items)
-    (subst (AllByRecursion (HasRoomAtEnds new)) (c.as_slice-3.ensures.value ∙ c.in_ok-bare.ensures ∙ ap (λ (l : List PlacedString). map bare_row (rows_gone l)) c.as_slice.ensures.value) c.in_ok-make_end_room.ensures.room)
+    let made = c.add_with_room.new in
+    ok-follows c.add_with_room.result
+    (λ (it : HasRoomToCome c.as_slice-2.result.now c.args.keeper.now c.args.gone.now.row.number made.rows made.kept made.stars).
+    bare-room (subst (λ (l : List StringRow). HasRoomToCome l c.args.keeper.now c.args.gone.now.row.number made.rows made.kept made.stars) (is g (goal.at.returns-clause-room g c).After-as_slice-2) it))
+    c.add_with_room.ensures.room
 
 pub returns-clause-adds : goal.returns-clause-adds
 returns-clause-adds g c =
-    bare-adds (rows_gone c.args.gone.now.strings.items) c.args.table.now.rows c.add_strings.new.table.rows
-    (subst (λ (l : List StringRow). AddsStrings l c.args.table.now.rows c.add_strings.new.table.rows) (c.as_slice-4.ensures.value ∙ c.in_ok-bare.ensures ∙ ap (λ (l : List PlacedString). map bare_row (rows_gone l)) c.as_slice.ensures.value) c.in_ok-add_strings.ensures.adds)
+    let new = c.add_with_room.new.table.rows in
+    ok-follows c.add_with_room.result
+    (λ (it : AddsStrings c.as_slice-2.result.now c.args.table.now.rows new).
+    bare-adds (rows_gone c.args.gone.now.strings.items) c.args.table.now.rows new (subst (λ (l : List StringRow). AddsStrings l c.args.table.now.rows new) (is g (goal.at.returns-clause-adds g c).After-as_slice-2) it))
+    c.add_with_room.ensures.adds
+
+many : (g : _) (c : goal.After-as_slice-2 g) → length c.as_slice-2.result.now ≡ length c.args.gone.now.strings.items
+many g c = ap length (is g c) ∙ bare-many c.args.gone.now.strings.items
 
 pub returns-clause-work : goal.returns-clause-work
 returns-clause-work g c =
-    c.in_ok-add_strings.ensures.work
-    ∙ ap (λ (n : ℕ). ticked n c.args.table.now.work) (ap length (c.as_slice-4.ensures.value ∙ c.in_ok-bare.ensures ∙ ap (λ (l : List PlacedString). map bare_row (rows_gone l)) c.as_slice.ensures.value) ∙ bare-many c.args.gone.now.strings.items)
+    subst (λ (n : ℕ). OnOk c.add_with_room.result (c.add_with_room.new.table.work ≡ ticked n c.args.table.now.work))
+    (many g (goal.at.returns-clause-work g c).After-as_slice-2) c.add_with_room.ensures.work
 
-pub returns-in_err-add_strings-clause-err_work : goal.returns-in_err-add_strings-clause-err_work
-returns-in_err-add_strings-clause-err_work g c =
-    let it = c.in_err-add_strings.ensures.err_work in
-    let few = it.1 in
-    let same = ap length (c.as_slice-4.ensures.value ∙ c.in_ok-bare.ensures ∙ ap (λ (l : List PlacedString). map bare_row (rows_gone l)) c.as_slice.ensures.value) ∙ bare-many c.args.gone.now.strings.items in
-    let all : (count : ℕ) × (count ≤ length c.args.gone.now.strings.items) × (c.add_strings.new.table.work ≡ ticked count (ticked count c.args.table.now.work)) = (it.0, omega (arith, few, same), it.2) in
-    on-err _ all
+pub returns-clause-err_work : goal.returns-clause-err_work
+returns-clause-err_work g c =
+    subst (λ (n : ℕ). OnErr c.add_with_room.result ((count : ℕ) × (count ≤ n) × (c.add_with_room.new.table.work ≡ ticked count (ticked count c.args.table.now.work))))
+    (many g (goal.at.returns-clause-err_work g c).After-as_slice-2) c.add_with_room.ensures.err_work

@@ -1,13 +1,10 @@
-use Rattle.std.proofs.Common.{◌≡◌, ◌∷◌, [], ℕ, ◌+◌, List, drop, Some, refl, sym, ap, subst, ◌∙◌, arith}
-use Rattle.std.specs.Prelude.{IsSome}
-use Rattle.std.proofs.lemmas.List.{drop_more, drop_all}
-use Rattle.cad_rows.specs.declared.rows.StringRow.{StringRow}
-use Rattle.cad_map.specs.Map.{string_of}
-use Rattle.cad_map.specs.Table.{without_row}
+use Rattle.std.proofs.Common.{◌≡◌, [], ℕ, ◌+◌, List, drop, refl, sym, ap, subst, ◌∙◌, arith}
+use Rattle.std.proofs.lemmas.List.{drop_all}
+use Rattle.cad_map.specs.Map.{Map}
 use Rattle.map_parts.specs.declared.map_rows.MapRows.{MapRows}
 use Rattle.map_parts.specs.Rows.{map_in, rows_in}
 use Rattle.map_parts.specs.StringRows.{CanTakeStrings, without_rows}
-use Rattle.map_parts.proofs.StringRowsPut as put
+use Rattle.map_parts.proofs.StringRowsPut.{take-one, next-of}
 use Rattle.map_parts.proofs.edits.string_rows.take_strings.Goals as goal
 
 pub loop-string-init : goal.loop-string-init
@@ -19,55 +16,26 @@ loop-string-init c = record {
   capacity = λ p. refl;
 }
 
-pub take_there-row-requires : goal.take_there-row-requires
-take_there-row-requires c =
-    let i = c.loop-string.string-index in
-    let n : ℕ = c.string-item.result in
-    let tail = drop (i + 1) c.args.strings.now in
-    let item : drop i c.args.strings.now ≡ n ∷ tail =
-    drop_more c.args.strings.now i n c.loop-string-test.true ∙ ap (λ k. k ∷ tail) (sym c.string-item.is) in
-    let can = subst (λ (l : List ℕ). CanTakeStrings l c.loop-string.rows c.loop-string.stars) item c.loop-string.invariant.can in
-    subst (λ (k : ℕ). IsSome (string_of (map_in c.loop-string.rows) k)) (sym c.get.ensures.value) can.there.0
-
-pub take_spokes-requires : goal.take_spokes-requires
-take_spokes-requires c =
-    let i = c.loop-string.string-index in
-    let n : ℕ = c.string-item.result in
-    let tail = drop (i + 1) c.args.strings.now in
-    let item : drop i c.args.strings.now ≡ n ∷ tail =
-    drop_more c.args.strings.now i n c.loop-string-test.true ∙ ap (λ k. k ∷ tail) (sym c.string-item.is) in
-    let can = subst (λ (l : List ℕ). CanTakeStrings l c.loop-string.rows c.loop-string.stars) item c.loop-string.invariant.can in
-    let row : StringRow = c.take_there-row.result.1 in
-    let found = subst (λ (k : ℕ). string_of (map_in c.loop-string.rows) k ≡ Some row) c.get.ensures.value c.take_there-row.ensures.found in
-    record {
-      two = put.take-two n tail c.loop-string.rows c.loop-string.stars can row found;
-      from = put.take-from n tail c.loop-string.rows c.loop-string.stars can row found;
-      to = put.take-to n tail c.loop-string.rows c.loop-string.stars can row found;
-    }
+pub take_string-requires : goal.take_string-requires
+take_string-requires c =
+    take-one c.string-item.result _ c.loop-string.rows c.loop-string.stars
+    (subst (λ (l : List ℕ). CanTakeStrings l c.loop-string.rows c.loop-string.stars)
+    (next-of c.args.strings.now c.loop-string.string-index c.string-item.result c.loop-string-test.true c.string-item.is) c.loop-string.invariant.can)
 
 pub loop-string-preserved : goal.loop-string-preserved
 loop-string-preserved c =
-    let i = c.loop-string.string-index in
-    let n : ℕ = c.string-item.result in
-    let tail = drop (i + 1) c.args.strings.now in
     let was = c.loop-string.invariant in
+    let tail = drop (c.loop-string.string-index + 1) c.args.strings.now in
     let old : MapRows = c.loop-string.rows in
-    let new : MapRows = record old { strings = c.take_there-row.new.self } in
-    let item : drop i c.args.strings.now ≡ n ∷ tail =
-    drop_more c.args.strings.now i n c.loop-string-test.true ∙ ap (λ k. k ∷ tail) (sym c.string-item.is) in
-    let can = subst (λ (l : List ℕ). CanTakeStrings l old c.loop-string.stars) item was.can in
-    let row : StringRow = c.take_there-row.result.1 in
-    let found = subst (λ (k : ℕ). string_of (map_in old) k ≡ Some row) c.get.ensures.value c.take_there-row.ensures.found in
-    let left : rows_in new.strings ≡ without_row (λ (r : StringRow). r.number) n (rows_in old.strings) =
-    c.take_there-row.ensures.rows ∙ ap (λ (k : ℕ). without_row (λ (r : StringRow). r.number) k (rows_in old.strings)) c.get.ensures.value in
+    let next = next-of c.args.strings.now c.loop-string.string-index c.string-item.result c.loop-string-test.true c.string-item.is in
     record {
-      can = put.take-rest n tail old c.loop-string.stars can row found new c.take_spokes.new.stars left c.take_spokes.ensures.takes;
+      can = c.take_string.ensures.others tail (subst (λ (l : List ℕ). CanTakeStrings l old c.loop-string.stars) next was.can);
       whole =
-          ap (λ (l : List StringRow). record (map_in old) { strings = without_rows tail l }) left
-          ∙ ap (λ (l : List ℕ). record (map_in old) { strings = without_rows l (rows_in old.strings) }) (sym item) ∙ was.whole;
-      slots = λ k h. c.take_there-row.ensures.slots k (was.slots k h);
-      parcels = was.parcels;
-      capacity = λ p. c.take_spokes.ensures.capacity p ∙ was.capacity p;
+          ap (λ (m : Map). record m { strings = without_rows tail m.strings }) c.take_string.ensures.rows
+          ∙ ap (λ (l : List ℕ). record (map_in old) { strings = without_rows l (rows_in old.strings) }) (sym next) ∙ was.whole;
+      slots = λ n h. c.take_string.ensures.slots n (was.slots n h);
+      parcels = λ n h. c.take_string.ensures.parcels n (was.parcels n h);
+      capacity = λ p. c.take_string.ensures.capacity p ∙ was.capacity p;
     }
 
 pub returns : goal.returns

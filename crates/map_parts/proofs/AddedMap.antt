@@ -1,0 +1,157 @@
+-- A map with strings and a parcel more, however the strings lie: what it has, what its halves are, and
+-- the map without them again.
+use Rattle.std.proofs.Common.{◌≡◌, ◌≢◌, ℕ, true, sym, ap, subst, ◌∙◌, List, [], ◌∷◌, ◌++◌, map, None, is_some}
+use Rattle.std.specs.Prelude.{IsSome}
+use Rattle.std.specs.List.{AllByRecursion, Contains, IsDistinct}
+use Rattle.std.specs.Prelude.{nat_eq}
+use Rattle.cad_rows.specs.declared.names.Face.{Face}
+use Rattle.cad_rows.specs.declared.rows.ParcelRow.{ParcelRow}
+use Rattle.cad_rows.specs.declared.rows.StringRow.{StringRow}
+use Rattle.cad_rings.specs.Cycle.{Side}
+use Rattle.cad_map.specs.declared.boundary.Boundary.{Boundary}
+use Rattle.cad_map.specs.Map.{Map, string_of, parcel_of, side_of}
+use Rattle.cad_map.specs.Rings.{HasWholeRings}
+use Rattle.cad_map.specs.Table.{without_row}
+use Rattle.cad_map.specs.Valid.{EachPair}
+use Rattle.cad_map.proofs.CallerLemmas.{All-append, All-follows, All-join}
+use Rattle.half_table.specs.declared.half.Half.{Half}
+use Rattle.half_table.specs.Half.{forward_of}
+use Rattle.half_table.specs.Rows.{HalfRows, has}
+use Rattle.half_paths.specs.Path.{AreIn, AreDifferent, strings_of}
+use Rattle.half_paths.specs.Loose.{numbers_of}
+use Rattle.key_lists.specs.Held.{Held}
+use Rattle.map_parts.specs.declared.map_rows.MapRows.{MapRows}
+use Rattle.map_parts.specs.declared.stars.Spoke.{Spoke}
+use Rattle.map_parts.specs.Rows.{map_in}
+use Rattle.map_parts.specs.Parts.{HasHalves}
+use Rattle.map_parts.specs.Paths.{AreAlong, HasStringsMore}
+use Rattle.map_parts.specs.Islands.{FitsTable, AreOfRings}
+use Rattle.map_parts.specs.Labels.{IsOnRing}
+use Rattle.map_parts.specs.Handing.{KeepsEach}
+use Rattle.map_parts.specs.Splitting.{FitMap, AreStarsOf}
+use Rattle.map_parts.specs.StringRows.{CanPutStrings, CanTakeStrings, without_rows}
+use Rattle.map_parts.proofs.AddedRows.{rows-come, rows-go, strings-absent, parcel-there}
+use Rattle.map_parts.proofs.AddedStrings.{strings-more, strings-path, added-there, numbers-distinct, path-different, path-along, path-in}
+use Rattle.map_parts.proofs.EachFits as fits
+use Rattle.map_parts.proofs.KeptShown.{bare}
+use Rattle.map_parts.proofs.PartsRings.{half-there}
+use Rattle.map_parts.proofs.RoomMade.{AreReady}
+use Rattle.map_parts.proofs.WholeStrings.{two-ends}
+
+-- The second map has these strings and this parcel more, and the path leads along the strings.
+pub record HaveCome (m now : Map) (numbers : List ℕ) (added : List StringRow) (row : ParcelRow) (path : List Half) : Type 0 where
+  pub whole : HasWholeRings m
+  pub parts : HasWholeRings now
+  pub strings_new : AllByRecursion (λ n. string_of m n ≡ None) numbers
+  pub parcel_new : parcel_of m row.number ≡ None
+  pub distinct : EachPair (λ a b. a ≢ b) numbers
+  pub numbered : numbers_of added ≡ numbers
+  pub path_is : path ≡ map forward_of numbers
+  pub rows_now : record now { boundaries = [] } ≡ record m { strings = m.strings ++ added; parcels = m.parcels ++ row ∷ []; boundaries = [] }
+
+module _ {m now : Map} {numbers : List ℕ} {added : List StringRow} {row : ParcelRow} {path : List Half} (come : HaveCome m now numbers added row path) where
+  pub strings-are : now.strings ≡ m.strings ++ added
+  strings-are = ap (λ (q : Map). q.strings) come.rows_now
+
+  pub more : HasStringsMore m now path
+  more = subst (HasStringsMore m now) (sym come.path_is) (strings-more m now numbers added come.numbered come.strings_new strings-are)
+
+  pub different : AreDifferent path
+  different = subst AreDifferent (sym come.path_is) (path-different numbers come.distinct)
+
+  pub named : strings_of path ≡ numbers_of added
+  named = ap strings_of come.path_is ∙ strings-path numbers ∙ sym come.numbered
+
+  pub numbers-differ : IsDistinct nat_eq (numbers_of added)
+  numbers-differ = subst (IsDistinct nat_eq) (sym come.numbered) (numbers-distinct numbers come.distinct)
+
+  path_added : path ≡ map forward_of (numbers_of added)
+  path_added = come.path_is ∙ ap (map forward_of) (sym come.numbered)
+
+  module _ (rows : HalfRows) (ends : AllByRecursion (HasHalves rows) added) where
+    pub along : (sides : List Side) → map side_of added ≡ sides → AreAlong rows path sides
+    along sides are = subst (λ (p : List Half). AreAlong rows p sides) (sym path_added) (path-along rows added ends ∙ are)
+
+    pub within : AreIn rows path
+    within = subst (AreIn rows) (sym path_added) (path-in rows added ends)
+
+    pub all-ends : AllByRecursion (HasHalves rows) m.strings → AllByRecursion (HasHalves rows) now.strings
+    all-ends old = subst (AllByRecursion (HasHalves rows)) (sym strings-are) (All-join (HasHalves rows) m.strings added old ends)
+
+  module _ (rows : HalfRows) (ends : AllByRecursion (HasHalves rows) now.strings) where
+    -- halves of rings are in the table
+    pub moved-in : (inner : Face) (others : List Boundary) (moved : List Half) → AreOfRings now rows moved inner others → AreIn rows moved
+    moved-in inner others moved of =
+        All-follows (λ h. (b : Boundary) × Contains others b × IsOnRing now rows b h × (b.face ≡ inner)) (λ h. has rows h ≡ true)
+        (λ h it. half-there (bare now rows) ends h it.2.shown) moved of.each
+
+    -- and the ends of the strings that come
+    pub added-ends : AllByRecursion (HasHalves rows) m.strings × AllByRecursion (HasHalves rows) added
+    added-ends = All-append (HasHalves rows) m.strings added (subst (AllByRecursion (HasHalves rows)) strings-are ends)
+
+  -- ---- They come
+
+  module _ {face : Face} {rows : MapRows} {table : HalfRows} {held : Held Half} {stars : Held Spoke} (ready : AreReady m added face row.number path rows table held stars) where
+    pub made-put : CanPutStrings added rows stars
+    made-put = record {
+      slots = ready.slots;
+      absent =
+          subst (λ (q : Map). AllByRecursion (λ (s : StringRow). string_of q s.number ≡ None) added) (sym ready.fits.rows_are)
+          (strings-absent m now numbers added come.numbered come.distinct come.strings_new row come.parcel_new come.rows_now);
+      differ = subst (EachPair (λ a b. a ≢ b)) (sym come.numbered) come.distinct;
+      two =
+          (All-append (λ (s : StringRow). s.from ≢ s.to) m.strings added
+          (subst (AllByRecursion (λ (s : StringRow). s.from ≢ s.to)) strings-are (two-ends now come.parts))).1;
+      room = ready.room;
+    }
+
+    pub made-parcel : parcel_of (map_in rows) row.number ≡ None
+    made-parcel = ap (λ (q : Map). parcel_of q row.number) ready.fits.rows_are ∙ come.parcel_new
+
+    -- what holds of table and kept halves, of rows and of stars makes them those of the map after it
+    pub made-fits : {grown : MapRows} {wide : HalfRows} {put : Held Half} {filled : Held Spoke} → (FitsTable now wide × KeepsEach now wide put)
+        → map_in grown ≡ record (map_in rows) { strings = (map_in rows).strings ++ added; parcels = (map_in rows).parcels ++ row ∷ [] }
+        → (AreStarsOf (map_in rows).strings stars → AreStarsOf (map_in grown).strings filled)
+        → FitMap now grown wide put filled
+    made-fits {grown = grown} {wide = wide} {put = put} {filled = filled} after_it same star =
+        let are = rows-come m now numbers added come.numbered come.distinct come.strings_new row come.parcel_new come.rows_now (map_in rows) (map_in grown) ready.fits.rows_are same in
+        record {
+          rows_are = are;
+          fits = fits.of-each now come.parts wide put after_it.0 after_it.1;
+          are_stars =
+              subst (λ (q : Map). AreStarsOf q.strings filled) are
+              (star (subst (λ (q : Map). AreStarsOf q.strings stars) (sym ready.fits.rows_are) ready.fits.are_stars));
+        }
+
+  -- ---- They go
+
+  module _ {rows : MapRows} {table : HalfRows} {held : Held Half} {stars : Held Spoke} (fit : FitMap now rows table held stars) where
+    pub gone-take : CanTakeStrings numbers rows stars
+    gone-take = record {
+      there =
+          subst (λ (q : Map). AllByRecursion (λ n. IsSome (string_of q n)) numbers) (sym fit.rows_are)
+          (added-there m now numbers added come.numbered come.strings_new strings-are);
+      differ = come.distinct;
+      numbers_differ = subst (λ (q : Map). EachPair (λ a b. a ≢ b) (map (λ (s : StringRow). s.number) q.strings)) (sym fit.rows_are) come.parts.v1.strings.distinct;
+      two = subst (λ (q : Map). AllByRecursion (λ (s : StringRow). s.from ≢ s.to) q.strings) (sym fit.rows_are) (two-ends now come.parts);
+      are = subst (λ (q : Map). AreStarsOf q.strings stars) (sym fit.rows_are) fit.are_stars;
+    }
+
+    pub gone-parcel : IsSome (parcel_of (map_in rows) row.number)
+    gone-parcel =
+        ap (λ (q : Map). is_some (parcel_of q row.number)) fit.rows_are
+        ∙ parcel-there m now numbers added come.numbered come.distinct come.strings_new row come.parcel_new come.rows_now
+
+    pub gone-fits : {left : MapRows} {wide : HalfRows} {put : Held Half} {filled : Held Spoke} → (FitsTable m wide × KeepsEach m wide put)
+        → map_in left ≡ record (map_in rows) {
+          strings = without_rows numbers (map_in rows).strings;
+          parcels = without_row (λ (r : ParcelRow). r.number) row.number (map_in rows).parcels;
+        }
+        → AreStarsOf (map_in left).strings filled → FitMap m left wide put filled
+    gone-fits {left = left} {wide = wide} {put = put} {filled = filled} before same star =
+        let are = rows-go m now numbers added come.numbered come.distinct come.strings_new row come.parcel_new come.rows_now (map_in rows) (map_in left) fit.rows_are same in
+        record {
+          rows_are = are;
+          fits = fits.of-each m come.whole wide put before.0 before.1;
+          are_stars = subst (λ (q : Map). AreStarsOf q.strings filled) are star;
+        }
