@@ -1,14 +1,15 @@
 -- A map with strings and a parcel more, however the strings lie: what it has, what its halves are, and
 -- the map without them again.
-use Rattle.std.proofs.Common.{◌≡◌, ◌≢◌, ℕ, true, sym, ap, subst, ◌∙◌, List, [], ◌∷◌, ◌++◌, map, None, is_some}
+use Rattle.std.proofs.Common.{◌≡◌, ◌≢◌, ℕ, ◌+◌, true, sym, ap, subst, ◌∙◌, List, [], ◌∷◌, ◌++◌, map, length, None, is_some, nat_eq, arith}
 use Rattle.std.specs.Prelude.{IsSome}
 use Rattle.std.specs.List.{AllByRecursion, Contains, IsDistinct}
-use Rattle.std.specs.Prelude.{nat_eq}
 use Rattle.cad_rows.specs.declared.names.Face.{Face}
+use Rattle.cad_rows.specs.declared.names.Face.TheVariants.{Parcel}
 use Rattle.cad_rows.specs.declared.rows.ParcelRow.{ParcelRow}
 use Rattle.cad_rows.specs.declared.rows.StringRow.{StringRow}
 use Rattle.cad_rings.specs.Cycle.{Side}
 use Rattle.cad_map.specs.declared.boundary.Boundary.{Boundary}
+use Rattle.cad_map.specs.Boundaries.{face_place}
 use Rattle.cad_map.specs.Map.{Map, string_of, parcel_of, side_of}
 use Rattle.cad_map.specs.Rings.{HasWholeRings}
 use Rattle.cad_map.specs.Table.{without_row}
@@ -19,13 +20,14 @@ use Rattle.half_table.specs.Half.{forward_of}
 use Rattle.half_table.specs.Rows.{HalfRows, has}
 use Rattle.half_paths.specs.Path.{AreIn, AreDifferent, strings_of}
 use Rattle.half_paths.specs.Loose.{numbers_of}
-use Rattle.key_lists.specs.Held.{Held}
+use Rattle.key_lists.specs.Held.{Held, items_at, HasRoomAt}
 use Rattle.map_parts.specs.declared.map_rows.MapRows.{MapRows}
 use Rattle.map_parts.specs.declared.stars.Spoke.{Spoke}
 use Rattle.map_parts.specs.Rows.{map_in}
 use Rattle.map_parts.specs.Parts.{HasHalves}
 use Rattle.map_parts.specs.Paths.{AreAlong, HasStringsMore}
 use Rattle.map_parts.specs.Islands.{FitsTable, AreOfRings}
+use Rattle.map_parts.specs.FaceChanges.{CanBring, CanTake}
 use Rattle.map_parts.specs.Labels.{IsOnRing}
 use Rattle.map_parts.specs.Handing.{KeepsEach}
 use Rattle.map_parts.specs.Splitting.{FitMap, AreStarsOf}
@@ -155,3 +157,57 @@ module _ {m now : Map} {numbers : List ℕ} {added : List StringRow} {row : Parc
           fits = fits.of-each m come.whole wide put before.0 before.1;
           are_stars = subst (λ (q : Map). AreStarsOf q.strings filled) are star;
         }
+
+-- ---- The table that they come into, and go from
+
+module _ {m now : Map} {numbers : List ℕ} {added : List StringRow} {row : ParcelRow} {first : Half} {rest : List Half} (come : HaveCome m now numbers added row (first ∷ rest)) where
+  abbrev inner : Face
+  inner = Parcel row.number
+
+  module _ {face : Face} {rows : MapRows} {table : HalfRows} {held : Held Half} {stars : Held Spoke} (ready : AreReady m added face row.number (first ∷ rest) rows table held stars) where
+    pub made-table : FitsTable m table
+    made-table = fits.table-of m come.whole table held ready.fits.fits
+
+    pub made-keeps : KeepsEach m table held
+    made-keeps = fits.each-of m come.whole table held stars ready.fits.are_stars ready.fits.fits
+
+    pub made-ends : AllByRecursion (HasHalves table) now.strings
+    made-ends = all-ends come table ready.there made-table.ends
+
+    pub can-bring : (moved : List Half) (others : List Boundary) → AreOfRings now table moved inner others → face_place face ≢ face_place inner → CanBring first rest face inner moved table held
+    can-bring moved others of differ = record {
+      linked = ready.fits.fits.local.linked;
+      within = within come table ready.there;
+      different = different come;
+      loose = ready.loose;
+      moved_in = moved-in come table made-ends inner others moved of;
+      kept_in = fits.kept-in m come.whole table held made-table made-keeps face;
+      faces = differ;
+      inner_room = let room = ready.inner_room in omega (arith, room);
+      outer_room = let room = ready.outer_room in omega (arith, room);
+    }
+
+  module _ {rows : MapRows} {table : HalfRows} {held : Held Half} {stars : Held Spoke} (fit : FitMap now rows table held stars) where
+    pub gone-table : FitsTable now table
+    gone-table = fits.table-of now come.parts table held fit.fits
+
+    pub gone-keeps : KeepsEach now table held
+    gone-keeps = fits.each-of now come.parts table held stars fit.are_stars fit.fits
+
+    pub gone-ends : AllByRecursion (HasHalves table) m.strings × AllByRecursion (HasHalves table) added
+    gone-ends = added-ends come table gone-table.ends
+
+    pub can-take : (face : Face) (moved : List Half) (others : List Boundary) → AreOfRings now table moved inner others → face_place face ≢ face_place inner
+        → HasRoomAt held (face_place inner) (length (items_at held (face_place face))) → HasRoomAt held (face_place face) (length (items_at held (face_place inner)))
+        → CanTake first rest face inner moved table held
+    can-take face moved others of differ inner_room outer_room = record {
+      linked = fit.fits.local.linked;
+      within = within come table gone-ends.1;
+      different = different come;
+      moved_in = moved-in come table gone-table.ends inner others moved of;
+      outer_in = fits.kept-in now come.parts table held gone-table gone-keeps face;
+      inner_in = fits.kept-in now come.parts table held gone-table gone-keeps inner;
+      faces = differ;
+      inner_room = inner_room;
+      outer_room = outer_room;
+    }

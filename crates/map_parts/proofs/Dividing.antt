@@ -38,7 +38,6 @@ use Rattle.map_parts.proofs.AddedMap as added_map
 use Rattle.map_parts.proofs.AddedMap.{HaveCome}
 use Rattle.map_parts.proofs.ChainAcross.{first-along, last-along, start-away, end-away, start-differs, path-strung, on-away, back-away}
 use Rattle.map_parts.proofs.ChainRoom.{chain_ends-room}
-use Rattle.map_parts.proofs.EachFits as fits
 use Rattle.map_parts.proofs.DividedChain.{tried-chain, tried-faces}
 use Rattle.map_parts.proofs.KeptEach.{place-same}
 use Rattle.map_parts.proofs.RoomMade.{AreReady, ready, fit-grown, along-still, of-still}
@@ -169,15 +168,6 @@ module _ {face : Face} {added : List StringRow} {parcel : ParcelRow} {first : Ha
     end_on : IsAlong m new (leaving c.is.last) end
     end_on = along-still c.new adds m (leaving c.is.last) end c.end_on
 
-    table_is : FitsTable m new
-    table_is = fits.table-of m made-come.whole new wide made-ready.fits.fits
-
-    keeps : KeepsEach m new wide
-    keeps = fits.each-of m made-come.whole new wide filled made-ready.fits.are_stars made-ready.fits.fits
-
-    ends : AllByRecursion (HasHalves new) (divided c.is).strings
-    ends = added_map.all-ends made-come new made-ready.there table_is.ends
-
     more_are : HasStringsMore m (divided c.is) path
     more_are = added_map.more made-come
 
@@ -192,24 +182,16 @@ module _ {face : Face} {added : List StringRow} {parcel : ParcelRow} {first : Ha
 
     pub made-can : CanBringAcross first rest start end face new_face moved new wide
     made-can = record {
-      linked = linked;
-      within = added_map.within made-come new made-ready.there;
-      different = added_map.different made-come;
-      loose = made-ready.loose;
+      path = added_map.can-bring made-come made-ready moved (rings_beside c.is) made-moved (places-differ m face ns added parcel.number path c.is);
       start_in = start_on.there;
       end_in = end_on.there;
       start_away = start-away m (divided c.is) path more_are new c.is.chain c.is.first c.is.last law.corners apart start end start_on end_on;
       end_away = end-away m (divided c.is) path more_are new c.is.chain c.is.first c.is.last law.corners apart start end start_on end_on;
       differ = start-differs m (divided c.is) path more_are new c.is.chain c.is.first c.is.last law.corners apart start end start_on end_on;
-      moved_in = added_map.moved-in made-come new ends new_face (rings_beside c.is) moved made-moved;
-      kept_in = fits.kept-in m made-come.whole new wide table_is keeps face;
-      faces = places-differ m face ns added parcel.number path c.is;
-      inner_room = let room = made-ready.inner_room in omega (arith, room);
-      outer_room = let room = made-ready.outer_room in omega (arith, room);
     }
 
     pub made-none : items_at wide (face_place new_face) ≡ []
-    made-none = keeps.none new_face (none m face ns added parcel.number path c.is)
+    made-none = (added_map.made-keeps made-come made-ready).none new_face (none m face ns added parcel.number path c.is)
 
     -- so the table goes with the map after it
     pub made-table : (done : HalfRows) (put : Held Half)
@@ -231,8 +213,8 @@ module _ {face : Face} {added : List StringRow} {parcel : ParcelRow} {first : Ha
     made-table done put brings =
         brings m (divided c.is) c.is.chain c.is.first c.is.last c.is.divided.cut (left_ring m face ns added parcel.number path c.is) (right_ring m face ns added parcel.number path c.is) (rings_beside c.is)
         made-come.whole made-come.parts long law (two m face ns added parcel.number path c.is) (none m face ns added parcel.number path c.is) more_are along_is
-        (first-along (side_by new) first rest c.is.chain long along_is) (last-along (side_by new) first rest c.is.chain long along_is) ends
-        start_on.shown start_on.side end_on.shown end_on.side made-moved table_is keeps
+        (first-along (side_by new) first rest c.is.chain long along_is) (last-along (side_by new) first rest c.is.chain long along_is) (added_map.made-ends made-come made-ready)
+        start_on.shown start_on.side end_on.shown end_on.side made-moved (added_map.made-table made-come made-ready) (added_map.made-keeps made-come made-ready)
 
 -- ---- It is taken back
 
@@ -253,15 +235,6 @@ module _ {face : Face} {ns : List ℕ} {parcel : ℕ} {first : Half} {rest moved
   pub gone-come : HaveCome old last ns c.added (row old face ns c.added parcel gone_path c.is) gone_path
   gone-come = come old face ns c.added parcel gone_path c.is
 
-  shown_table : FitsTable last table
-  shown_table = fits.table-of last gone-come.parts table held c.fits.fits
-
-  shown_keeps : KeepsEach last table held
-  shown_keeps = fits.each-of last gone-come.parts table held stars c.fits.are_stars c.fits.fits
-
-  old_ends : AllByRecursion (HasHalves table) old.strings × AllByRecursion (HasHalves table) c.added
-  old_ends = added_map.added-ends gone-come table shown_table.ends
-
   gone_more : HasStringsMore old last gone_path
   gone_more = added_map.more gone-come
 
@@ -272,22 +245,17 @@ module _ {face : Face} {ns : List ℕ} {parcel : ℕ} {first : Half} {rest moved
   gone_long = chain-long old face ns c.added parcel gone_path c.is
 
   gone_along : AreAlong table gone_path (sides_of_chain c.is.chain)
-  gone_along = along old face ns c.added parcel gone_path c.is table old_ends.1
+  gone_along = along old face ns c.added parcel gone_path c.is table (added_map.gone-ends gone-come c.fits).1
 
   pub gone-can : CanTakeAcross first rest face gone_face moved table held
   gone-can = record {
-    linked = c.fits.fits.local.linked;
-    within = added_map.within gone-come table old_ends.1;
-    different = added_map.different gone-come;
+    path =
+        added_map.can-take gone-come c.fits face moved (rings_beside c.is) c.moved_are (places-differ old face ns c.added parcel gone_path c.is) c.inner_room
+        (let more = c.outer_room in omega (arith, more));
     strung = path-strung old last gone-come.parts c.is.chain gone_long c.is.first c.is.last gone_law.corners first rest gone_more table c.fits.fits.local gone_along;
     on_away = on-away old last gone-come.parts c.is.chain gone_long c.is.first c.is.last gone_law.corners first rest gone_more table c.fits.fits.local gone_along;
     back_away = back-away old last gone-come.parts c.is.chain gone_long c.is.first c.is.last gone_law.corners first rest gone_more table c.fits.fits.local gone_along;
-    moved_in = added_map.moved-in gone-come table shown_table.ends gone_face (rings_beside c.is) moved c.moved_are;
-    outer_in = fits.kept-in last gone-come.parts table held shown_table shown_keeps face;
-    inner_in = fits.kept-in last gone-come.parts table held shown_table shown_keeps gone_face;
-    faces = places-differ old face ns c.added parcel gone_path c.is;
-    inner_room = c.inner_room;
-    outer_room = c.outer_room;
+    one_more = c.outer_room;
   }
 
   -- the table goes with the map before it
@@ -309,7 +277,7 @@ module _ {face : Face} {ns : List ℕ} {parcel : ℕ} {first : Half} {rest moved
       takes old last c.is.chain c.is.first c.is.last c.is.divided.cut (left_ring old face ns c.added parcel gone_path c.is) (right_ring old face ns c.added parcel gone_path c.is) (rings_beside c.is)
       gone-come.whole gone-come.parts gone_long gone_law (two old face ns c.added parcel gone_path c.is) gone_more gone_along
       (first-along (side_by table) first rest c.is.chain gone_long gone_along) (last-along (side_by table) first rest c.is.chain gone_long gone_along)
-      old_ends.0 c.moved_are shown_table shown_keeps
+      (added_map.gone-ends gone-come c.fits).0 c.moved_are (added_map.gone-table gone-come c.fits) (added_map.gone-keeps gone-come c.fits)
 
 -- room to exchange kept halves is room for the way back
 module _ {face : Face} {ns : List ℕ} {parcel : ℕ} {path moved : List Half} {rows : MapRows} {table : HalfRows} {held : Held Half} {stars : Held Spoke}

@@ -30,14 +30,13 @@ use Rattle.map_parts.specs.Adding.{HasRoomToCome, HasRoomToExchange, IsSeenAs}
 use Rattle.map_parts.specs.Parts.{HasHalves}
 use Rattle.map_parts.specs.Paths.{AreAlong, HasStringsMore}
 use Rattle.map_parts.specs.Islands.{FitsTable, AreOfRings, IsIslandOf}
-use Rattle.map_parts.specs.FaceChanges.{CanBringIn, CanTakeOut}
+use Rattle.map_parts.specs.FaceChanges.{CanBring, CanTakeOut}
 use Rattle.map_parts.specs.Handing.{KeepsEach, HaveTwoFaces}
 use Rattle.map_parts.specs.Enclosing.{IsEnclosing, enclosed, rings_placed, CanBeginEnclose, CanBeginOpen, CanOpen}
 use Rattle.map_parts.proofs.AddedMap as added_map
 use Rattle.map_parts.proofs.AddedMap.{HaveCome}
 use Rattle.map_parts.proofs.AlongPaths.{ring-round}
 use Rattle.map_parts.proofs.ChainRoom.{ring_ends-room}
-use Rattle.map_parts.proofs.EachFits as fits
 use Rattle.map_parts.proofs.EnclosedIsland.{tried-island, tried-faces}
 use Rattle.map_parts.proofs.IslandTable.{more-new, more-old}
 use Rattle.map_parts.proofs.KeptEach.{place-same}
@@ -167,30 +166,11 @@ module _ {face : Face} {added : List StringRow} {parcel : ParcelRow} {first : Ha
         holes-placed m (enclosed c.is) made-come.whole face new_face c.is.points (none m face ns added parcel.number all_path c.is)
         (λ h there. more-old m (enclosed c.is) all_path (added_map.more made-come) h there) table new made-side moved c.holes
 
-    table_is : FitsTable m new
-    table_is = fits.table-of m made-come.whole new wide made-ready.fits.fits
-
-    keeps : KeepsEach m new wide
-    keeps = fits.each-of m made-come.whole new wide filled made-ready.fits.are_stars made-ready.fits.fits
-
-    ends : AllByRecursion (HasHalves new) (enclosed c.is).strings
-    ends = added_map.all-ends made-come new made-ready.there table_is.ends
-
-    pub made-can : CanBringIn first rest face new_face moved new wide
-    made-can = record {
-      linked = linked;
-      within = added_map.within made-come new made-ready.there;
-      different = added_map.different made-come;
-      loose = made-ready.loose;
-      moved_in = added_map.moved-in made-come new ends new_face (rings_placed c.is) moved made-moved;
-      kept_in = fits.kept-in m made-come.whole new wide table_is keeps face;
-      differ = places-differ m face ns added parcel.number all_path c.is;
-      inner_room = let room = made-ready.inner_room in omega (arith, room);
-      outer_room = let room = made-ready.outer_room in omega (arith, room);
-    }
+    pub made-can : CanBring first rest face new_face moved new wide
+    made-can = added_map.can-bring made-come made-ready moved (rings_placed c.is) made-moved (places-differ m face ns added parcel.number all_path c.is)
 
     pub made-none : items_at wide (face_place new_face) ≡ []
-    made-none = keeps.none new_face (none m face ns added parcel.number all_path c.is)
+    made-none = (added_map.made-keeps made-come made-ready).none new_face (none m face ns added parcel.number all_path c.is)
 
     -- so the table goes with the map after it
     pub made-table : (done : HalfRows) (put : Held Half)
@@ -209,7 +189,8 @@ module _ {face : Face} {added : List StringRow} {parcel : ParcelRow} {first : Ha
         brings m (enclosed c.is) c.is.points (canonical_form (bounding new_face c.is.points)) (canonical_form (bounding face (reverse c.is.points))) (rings_placed c.is)
         made-come.whole made-come.parts (island m face ns added parcel.number all_path c.is)
         (two m face ns added parcel.number all_path c.is) (none m face ns added parcel.number all_path c.is) (added_map.more made-come)
-        (along m face ns added parcel.number all_path c.is new made-ready.there) ends made-moved table_is keeps
+        (along m face ns added parcel.number all_path c.is new made-ready.there) (added_map.made-ends made-come made-ready) made-moved
+        (added_map.made-table made-come made-ready) (added_map.made-keeps made-come made-ready)
 
 -- ---- It is taken back
 
@@ -230,17 +211,8 @@ module _ {face : Face} {ns : List ℕ} {parcel : ℕ} {first : Half} {rest moved
   pub gone-come : HaveCome old last ns c.added (row old face ns c.added parcel path c.is) path
   gone-come = come old face ns c.added parcel path c.is
 
-  shown_table : FitsTable last table
-  shown_table = fits.table-of last gone-come.parts table held c.fits.fits
-
-  shown_keeps : KeepsEach last table held
-  shown_keeps = fits.each-of last gone-come.parts table held stars c.fits.are_stars c.fits.fits
-
-  old_ends : AllByRecursion (HasHalves table) old.strings × AllByRecursion (HasHalves table) c.added
-  old_ends = added_map.added-ends gone-come table shown_table.ends
-
   gone_along : AreAlong table path (sides_of c.is.points)
-  gone_along = along old face ns c.added parcel path c.is table old_ends.1
+  gone_along = along old face ns c.added parcel path c.is table (added_map.gone-ends gone-come c.fits).1
 
   gone_island : IsIslandOf old last face gone_face c.is.points (canonical_form (bounding gone_face c.is.points)) (canonical_form (bounding face (reverse c.is.points))) (rings_placed c.is)
   gone_island = island old face ns c.added parcel path c.is
@@ -250,17 +222,9 @@ module _ {face : Face} {ns : List ℕ} {parcel : ℕ} {first : Half} {rest moved
 
   pub gone-can : CanTakeOut first rest face gone_face moved table held
   gone-can = record {
-    linked = c.fits.fits.local.linked;
-    within = added_map.within gone-come table old_ends.1;
-    different = added_map.different gone-come;
+    path = added_map.can-take gone-come c.fits face moved (rings_placed c.is) c.moved_are (places-differ old face ns c.added parcel path c.is) c.inner_room c.outer_room;
     round = ring-round last gone-come.parts table c.fits.fits.local first rest c.is.points long gone_along
         (All-from_each (IsShown last) path (λ h among. more-new old last path (added_map.more gone-come) h among)) gone_island.corners.along gone_island.corners.back;
-    moved_in = added_map.moved-in gone-come table shown_table.ends gone_face (rings_placed c.is) moved c.moved_are;
-    outer_in = fits.kept-in last gone-come.parts table held shown_table shown_keeps face;
-    inner_in = fits.kept-in last gone-come.parts table held shown_table shown_keeps gone_face;
-    differ = places-differ old face ns c.added parcel path c.is;
-    inner_room = c.inner_room;
-    outer_room = c.outer_room;
   }
 
   -- the table goes with the map before it
@@ -279,7 +243,8 @@ module _ {face : Face} {ns : List ℕ} {parcel : ℕ} {first : Half} {rest moved
   gone-table wide put takes =
       takes old last c.is.points (canonical_form (bounding gone_face c.is.points)) (canonical_form (bounding face (reverse c.is.points))) (rings_placed c.is)
       gone-come.whole gone-come.parts long gone_island (two old face ns c.added parcel path c.is)
-      (added_map.more gone-come) gone_along old_ends.0 c.moved_are shown_table shown_keeps
+      (added_map.more gone-come) gone_along (added_map.gone-ends gone-come c.fits).0 c.moved_are
+      (added_map.gone-table gone-come c.fits) (added_map.gone-keeps gone-come c.fits)
 
 -- room to exchange kept halves is room for the way back
 module _ {face : Face} {ns : List ℕ} {parcel : ℕ} {path moved : List Half} {rows : MapRows} {table : HalfRows} {held : Held Half} {stars : Held Spoke}

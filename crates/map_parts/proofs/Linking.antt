@@ -95,12 +95,12 @@ module _ (m : Map) (whole : HasWholeRings m) (old new : HalfRows) (stars : Held 
         face = links.face g ∙ set-other h g b.face (face old) other ∙ it.face;
       }
 
-  pub link-now : IsLinkedAt m new b s
+  link-now : IsLinkedAt m new b s
   link-now g shown side =
       let same : h ≡ g = sides-apart m whole old stars st h g here.shown shown (here.side ∙ sym side ∙ same-side g) in
       subst (IsLinkedHalf m new b.face) same linked-here
 
-  pub link-keeps : KeepsLinks m old new
+  link-keeps : KeepsLinks m old new
   link-keeps c u among has made g shown side = elim (cases_half g h) [
     | inl same ↦
         let e : u ≡ s = sym side ∙ same-side g ∙ ap (side_by old) same ∙ here.side in
@@ -109,6 +109,9 @@ module _ (m : Map) (whole : HasWholeRings m) (old new : HalfRows) (stars : Held 
         subst (λ (x : Half). IsLinkedHalf m new c.face x) (sym same) (subst (λ (x : Face). IsLinkedHalf m new x h) f linked-here)
     | inr other ↦ linked-other c.face g other (made g shown (sym (same-side g) ∙ side))
   ]
+
+  pub link-both : IsLinkedAt m new b s × KeepsLinks m old new
+  link-both = (link-now, link-keeps)
 
 -- ---- All halves are linked
 

@@ -34,6 +34,7 @@ use Rattle.map_parts.specs.Rows.{map_in}
 use Rattle.map_parts.specs.Parts.{HasHalves}
 use Rattle.map_parts.specs.Paths.{HasStringsMore}
 use Rattle.map_parts.specs.Islands.{FitsTable, AreOfRings}
+use Rattle.map_parts.specs.FaceChanges.{CanBring, CanTake}
 use Rattle.map_parts.specs.Labels.{IsOnRing}
 use Rattle.map_parts.specs.Handing.{KeepsEach, KeepsEnds, KeepsNoMore, HaveTwoFaces}
 use Rattle.map_parts.specs.Splitting.{FitMap, AreStarsOf}
@@ -306,3 +307,66 @@ module _ (old : Map) (keeper : Face) {row : ParcelRow} {place : ℕ} (gone_path 
     fits = fits.of-each old whole_rings wide put before.0 before.1;
     are_stars = star;
   }
+
+-- ---- The table that they go from, and come back into
+
+module _ (m : Map) (keeper : Face) (ended : ℕ) (first : Half) (rest : List Half) (tried : IsTried m (Merge keeper (Parcel ended)))
+    (shared : IsPermutation (numbers_of (shared_strings m keeper (Parcel ended))) (strings_of (first ∷ rest)))
+    {rows : MapRows} {table : HalfRows} {held : Held Half} {stars : Held Spoke} (fit : FitMap m rows table held stars) where
+  pub made-table : FitsTable m table
+  made-table = fits.table-of m (whole m keeper ended (first ∷ rest) tried shared) table held fit.fits
+
+  pub made-keeps : KeepsEach m table held
+  made-keeps = fits.each-of m (whole m keeper ended (first ∷ rest) tried shared) table held stars fit.are_stars fit.fits
+
+  pub can-take : (moved : List Half) (others : List Boundary) → AreOfRings m table moved (Parcel ended) others → HasRoomToExchange keeper ended held
+      → CanTake first rest keeper (Parcel ended) moved table held
+  can-take moved others of room =
+      let path = first ∷ rest in
+      record {
+        linked = fit.fits.local.linked;
+        within = within m keeper ended path tried shared table made-table.ends;
+        different = different m keeper ended path tried shared;
+        moved_in = moved-in m keeper ended path tried shared others table made-table.ends moved of;
+        outer_in = fits.kept-in m (whole m keeper ended path tried shared) table held made-table made-keeps keeper;
+        inner_in = fits.kept-in m (whole m keeper ended path tried shared) table held made-table made-keeps (Parcel ended);
+        faces = places-differ m keeper ended path tried shared;
+        inner_room = let more = room.inner in omega (arith, more);
+        outer_room = let more = room.outer in omega (arith, more);
+      }
+
+module _ (old : Map) (keeper : Face) {row : ParcelRow} {place : ℕ} (first : Half) (rest : List Half) (tried : IsTried old (Merge keeper (Parcel row.number)))
+    (shared : IsPermutation (numbers_of (shared_strings old keeper (Parcel row.number))) (strings_of (first ∷ rest))) {gone : List PlacedString}
+    (went : StoodThere old (strings_of (first ∷ rest)) row place gone) {rows : MapRows} {table : HalfRows} {held : Held Half} {stars : Held Spoke}
+    (fit : FitMap (after old (Merge keeper (Parcel row.number))) rows table held stars) (there : AllByRecursion (λ (g : PlacedString). HasHalves table g.row) gone) where
+  abbrev last_map : Map
+  last_map = after old (Merge keeper (Parcel row.number))
+
+  last_parts : HasWholeRings last_map
+  last_parts = parts old keeper row.number (first ∷ rest) tried shared
+
+  pub last-table : FitsTable last_map table
+  last-table = fits.table-of last_map last_parts table held fit.fits
+
+  pub last-keeps : KeepsEach last_map table held
+  last-keeps = fits.each-of last_map last_parts table held stars fit.are_stars fit.fits
+
+  pub all-back : AllByRecursion (HasHalves table) old.strings
+  all-back = back-ends old keeper row.number (first ∷ rest) tried shared gone went.numbers went.stood table last-table.ends there
+
+  pub can-bring : (moved : List Half) (others : List Boundary) → AreOfRings old table moved (Parcel row.number) others → AreLoose (next table) (first ∷ rest)
+      → HasRoomAt held (face_place (Parcel row.number)) (length (items_at held (face_place keeper)) + 1) → HasRoomAt held (face_place keeper) 1
+      → CanBring first rest keeper (Parcel row.number) moved table held
+  can-bring moved others of loose inner_room outer_room =
+      let path = first ∷ rest in
+      record {
+        linked = fit.fits.local.linked;
+        within = within old keeper row.number path tried shared table all-back;
+        different = different old keeper row.number path tried shared;
+        loose = loose;
+        moved_in = moved-in old keeper row.number path tried shared others table all-back moved of;
+        kept_in = fits.kept-in last_map last_parts table held last-table last-keeps keeper;
+        faces = places-differ old keeper row.number path tried shared;
+        inner_room = inner_room;
+        outer_room = outer_room;
+      }

@@ -1,5 +1,5 @@
 -- A merger along a chain on a map on half-edges that is made in place, and taken back.
-use Rattle.std.proofs.Common.{◌≡◌, ◌≢◌, ℕ, suc, ◌+◌, ◌≤◌, ◌==◌, false, sym, ap, subst, ◌∙◌, List, [], ◌∷◌, ◌++◌, length, reverse, take, add-one, arith}
+use Rattle.std.proofs.Common.{◌≡◌, ◌≢◌, ℕ, suc, ◌+◌, ◌≤◌, ◌==◌, false, refl, sym, ap, subst, ◌∙◌, List, [], ◌∷◌, ◌++◌, length, reverse, take, add-one, arith}
 use Rattle.std.specs.Prelude.{IsPermutation}
 use Rattle.std.specs.List.{AllByRecursion}
 use Rattle.std.proofs.lemmas.Bool.{eqb-true, eq-eqb}
@@ -36,11 +36,11 @@ use Rattle.map_parts.specs.Islands.{FitsTable, AreOfRings}
 use Rattle.map_parts.specs.Chains.{IsChainOf}
 use Rattle.map_parts.specs.FaceChanges.{CanBringAcross, CanTakeAcross}
 use Rattle.map_parts.specs.Handing.{KeepsEach, HaveTwoFaces}
+use Rattle.map_parts.specs.Splitting.{FitMap}
 use Rattle.map_parts.specs.Merging.{IsMerging, merged, shared_chain, first_corner, last_corner, rings_past, CanBeginMerge, CanUnmerge}
 use Rattle.map_parts.proofs.ChainAcross.{first-along, last-along, start-away, end-away, start-differs, path-strung, on-away, back-away, two-last, ends-last}
-use Rattle.map_parts.proofs.EachFits as fits
 use Rattle.map_parts.proofs.MergedRows as rows_of
-use Rattle.map_parts.proofs.RoomMade.{fit-room}
+use Rattle.map_parts.proofs.RoomMade.{fit-grown}
 
 -- ---- The shared chain
 
@@ -138,11 +138,8 @@ module _ {keeper : Face} {ended : ℕ} {strings : List ℕ} {first : Half} {rest
   whole_is : HasWholeRings m
   whole_is = whole m keeper ended path c.is
 
-  table_is : FitsTable m table
-  table_is = fits.table-of m whole_is table held c.fits.fits
-
-  keeps : KeepsEach m table wide
-  keeps = fits.each-of m whole_is table wide stars c.fits.are_stars (fit-room m table held wide alike c.fits.fits)
+  fit : FitMap m rows table wide stars
+  fit = fit-grown m c.fits refl alike
 
   open_is : IsOpenChain chain
   open_is = chain-open m keeper ended path c.is
@@ -152,18 +149,11 @@ module _ {keeper : Face} {ended : ℕ} {strings : List ℕ} {first : Half} {rest
 
   pub made-can : CanTakeAcross first rest keeper (Parcel ended) moved table wide
   made-can = record {
-    linked = c.fits.fits.local.linked;
-    within = rows_of.within m keeper ended path c.is.tried c.is.shared table table_is.ends;
-    different = rows_of.different m keeper ended path c.is.tried c.is.shared;
+    path = rows_of.can-take m keeper ended first rest c.is.tried c.is.shared fit moved (rings_past c.is) c.moved_are room;
     strung = path-strung (merged c.is) m whole_is chain open_is.long (first_corner c.is) (last_corner c.is) law.corners first rest more_is table c.fits.fits.local c.leads;
     on_away = on-away (merged c.is) m whole_is chain open_is.long (first_corner c.is) (last_corner c.is) law.corners first rest more_is table c.fits.fits.local c.leads;
     back_away = back-away (merged c.is) m whole_is chain open_is.long (first_corner c.is) (last_corner c.is) law.corners first rest more_is table c.fits.fits.local c.leads;
-    moved_in = rows_of.moved-in m keeper ended path c.is.tried c.is.shared (rings_past c.is) table table_is.ends moved c.moved_are;
-    outer_in = fits.kept-in m whole_is table wide table_is keeps keeper;
-    inner_in = fits.kept-in m whole_is table wide table_is keeps (Parcel ended);
-    faces = rows_of.places-differ m keeper ended path c.is.tried c.is.shared;
-    inner_room = let more = room.inner in omega (arith, more);
-    outer_room = room.outer;
+    one_more = room.outer;
   }
 
   -- the table goes with the map after it
@@ -185,7 +175,8 @@ module _ {keeper : Face} {ended : ℕ} {strings : List ℕ} {first : Half} {rest
       takes (merged c.is) m chain (first_corner c.is) (last_corner c.is) (one_ring m keeper ended path c.is) (bounding (Parcel ended) c.is.ended_ring) (bounding keeper c.is.kept_ring) (rings_past c.is)
       (parts m keeper ended path c.is) whole_is open_is.long law (rows_of.two m keeper ended path c.is.tried c.is.shared) more_is c.leads
       (first-along (side_by table) first rest chain open_is.long c.leads) (last-along (side_by table) first rest chain open_is.long c.leads)
-      (rows_of.ends-left m keeper ended path c.is.tried c.is.shared table table_is.ends) c.moved_are table_is keeps
+      (rows_of.ends-left m keeper ended path c.is.tried c.is.shared table c.fits.fits.ends) c.moved_are
+      (rows_of.made-table m keeper ended first rest c.is.tried c.is.shared fit) (rows_of.made-keeps m keeper ended first rest c.is.tried c.is.shared fit)
 
 -- ---- It is taken back
 
@@ -206,12 +197,6 @@ module _ {keeper : Face} {row : ParcelRow} {place : ℕ} {first : Half} {rest : 
   abbrev gone_chain : List ℕ
   gone_chain = shared_chain c.is
 
-  old_whole : HasWholeRings old
-  old_whole = whole old keeper row.number gone_path c.is
-
-  last_parts : HasWholeRings last
-  last_parts = parts old keeper row.number gone_path c.is
-
   gone_law : IsChainOf last old keeper gone_face gone_chain (first_corner c.is) (last_corner c.is) (one_ring old keeper row.number gone_path c.is) (bounding gone_face c.is.ended_ring)
       (bounding keeper c.is.kept_ring) (rings_past c.is)
   gone_law = chain-of old keeper row.number gone_path c.is
@@ -222,32 +207,15 @@ module _ {keeper : Face} {row : ParcelRow} {place : ℕ} {first : Half} {rest : 
   gone_open : IsOpenChain gone_chain
   gone_open = chain-open old keeper row.number gone_path c.is
 
-  last_table : FitsTable last table
-  last_table = fits.table-of last last_parts table held c.fits.fits
-
-  last_keeps : KeepsEach last table held
-  last_keeps = fits.each-of last last_parts table held stars c.fits.are_stars c.fits.fits
-
-  -- the ends of all strings: of those that the two share too
-  back-ends : AllByRecursion (HasHalves table) old.strings
-  back-ends = rows_of.back-ends old keeper row.number gone_path c.is.tried c.is.shared gone c.went.numbers c.went.stood table last_table.ends c.there
-
   pub back-can : CanBringAcross first rest start end keeper gone_face moved table held
   back-can = record {
-    linked = c.fits.fits.local.linked;
-    within = rows_of.within old keeper row.number gone_path c.is.tried c.is.shared table back-ends;
-    different = rows_of.different old keeper row.number gone_path c.is.tried c.is.shared;
-    loose = c.loose;
+    path =
+        rows_of.can-bring old keeper first rest c.is.tried c.is.shared c.went c.fits c.there moved (rings_past c.is) c.moved_are c.loose c.inner_room c.outer_room;
     start_in = c.start_on.there;
     end_in = c.end_on.there;
     start_away = start-away last old gone_path gone_more table gone_chain (first_corner c.is) (last_corner c.is) gone_law.corners gone_open.apart start end c.start_on c.end_on;
     end_away = end-away last old gone_path gone_more table gone_chain (first_corner c.is) (last_corner c.is) gone_law.corners gone_open.apart start end c.start_on c.end_on;
     differ = start-differs last old gone_path gone_more table gone_chain (first_corner c.is) (last_corner c.is) gone_law.corners gone_open.apart start end c.start_on c.end_on;
-    moved_in = rows_of.moved-in old keeper row.number gone_path c.is.tried c.is.shared (rings_past c.is) table back-ends moved c.moved_are;
-    kept_in = fits.kept-in last last_parts table held last_table last_keeps keeper;
-    faces = rows_of.places-differ old keeper row.number gone_path c.is.tried c.is.shared;
-    inner_room = c.inner_room;
-    outer_room = c.outer_room;
   }
 
   -- the table goes with the map before it
@@ -269,6 +237,7 @@ module _ {keeper : Face} {row : ParcelRow} {place : ℕ} {first : Half} {rest : 
       → FitsTable old wide × KeepsEach old wide put
   back-table wide put brings =
       brings last old gone_chain (first_corner c.is) (last_corner c.is) (one_ring old keeper row.number gone_path c.is) (bounding gone_face c.is.ended_ring) (bounding keeper c.is.kept_ring) (rings_past c.is)
-      last_parts old_whole gone_open.long gone_law (rows_of.two old keeper row.number gone_path c.is.tried c.is.shared) (rows_of.none old keeper row.number gone_path c.is.tried c.is.shared) gone_more c.leads
+      (parts old keeper row.number gone_path c.is) (whole old keeper row.number gone_path c.is) gone_open.long gone_law (rows_of.two old keeper row.number gone_path c.is.tried c.is.shared) (rows_of.none old keeper row.number gone_path c.is.tried c.is.shared) gone_more c.leads
       (first-along (side_by table) first rest gone_chain gone_open.long c.leads) (last-along (side_by table) first rest gone_chain gone_open.long c.leads)
-      back-ends c.start_on.shown c.start_on.side c.end_on.shown c.end_on.side c.moved_are last_table last_keeps
+      (rows_of.all-back old keeper first rest c.is.tried c.is.shared c.went c.fits c.there) c.start_on.shown c.start_on.side c.end_on.shown c.end_on.side c.moved_are
+      (rows_of.last-table old keeper first rest c.is.tried c.is.shared c.went c.fits c.there) (rows_of.last-keeps old keeper first rest c.is.tried c.is.shared c.went c.fits c.there)

@@ -1,5 +1,5 @@
 -- A merger round an island on a map on half-edges that is made in place, and taken back.
-use Rattle.std.proofs.Common.{◌≡◌, ℕ, ◌≤◌, false, subst, List, ◌∷◌, length, arith}
+use Rattle.std.proofs.Common.{◌≡◌, ℕ, ◌≤◌, false, refl, subst, List, ◌∷◌, length, arith}
 use Rattle.std.specs.List.{AllByRecursion, Contains}
 use Rattle.std.proofs.lemmas.List.Sorted.{IsPermutation-sym, Contains-permutation}
 use Rattle.cad_rows.specs.declared.names.Face.{Face}
@@ -24,14 +24,14 @@ use Rattle.map_parts.specs.Adding.{HasRoomToExchange}
 use Rattle.map_parts.specs.Parts.{HasHalves}
 use Rattle.map_parts.specs.Paths.{AreAlong, HasStringsMore}
 use Rattle.map_parts.specs.Islands.{FitsTable, AreOfRings, IsIslandOf}
-use Rattle.map_parts.specs.FaceChanges.{CanBringIn, CanTakeOut}
+use Rattle.map_parts.specs.FaceChanges.{CanBring, CanTakeOut}
 use Rattle.map_parts.specs.Handing.{KeepsEach, HaveTwoFaces}
+use Rattle.map_parts.specs.Splitting.{FitMap}
 use Rattle.map_parts.specs.MergingIsland.{IsMergingIsland, without_island, rings_apart, CanBeginMergeIsland, CanUnmergeIsland}
 use Rattle.map_parts.proofs.AlongPaths.{ring-round}
-use Rattle.map_parts.proofs.EachFits as fits
 use Rattle.map_parts.proofs.IslandTable.{more-new}
 use Rattle.map_parts.proofs.MergedRows as rows_of
-use Rattle.map_parts.proofs.RoomMade.{fit-room}
+use Rattle.map_parts.proofs.RoomMade.{fit-grown}
 
 module _ (m : Map) (keeper : Face) (ended : ℕ) (points : List ℕ) (path : List Half) (is : IsMergingIsland m keeper ended points path) where
   pub island : IsIslandOf (without_island is) m keeper (Parcel ended) points (bounding (Parcel ended) is.ended_ring) (bounding keeper is.kept_ring) (rings_apart is)
@@ -66,28 +66,17 @@ module _ {keeper : Face} {ended : ℕ} {strings : List ℕ} {first : Half} {rest
   whole_is : HasWholeRings m
   whole_is = rows_of.whole m keeper ended path c.is.tried c.is.shared
 
-  table_is : FitsTable m table
-  table_is = fits.table-of m whole_is table held c.fits.fits
-
-  keeps : KeepsEach m table wide
-  keeps = fits.each-of m whole_is table wide stars c.fits.are_stars (fit-room m table held wide alike c.fits.fits)
+  fit : FitMap m rows table wide stars
+  fit = fit-grown m c.fits refl alike
 
   more_is : HasStringsMore (without_island c.is) m path
   more_is = rows_of.more m keeper ended path c.is.tried c.is.shared
 
   pub made-can : CanTakeOut first rest keeper (Parcel ended) moved table wide
   made-can = record {
-    linked = c.fits.fits.local.linked;
-    within = rows_of.within m keeper ended path c.is.tried c.is.shared table table_is.ends;
-    different = rows_of.different m keeper ended path c.is.tried c.is.shared;
+    path = rows_of.can-take m keeper ended first rest c.is.tried c.is.shared fit moved (rings_apart c.is) c.moved_are room;
     round = ring-round m whole_is table c.fits.fits.local first rest c.points (long m keeper ended c.points path c.is) c.along
         (All-from_each (IsShown m) path (λ h among. more-new (without_island c.is) m path more_is h among)) law.corners.along law.corners.back;
-    moved_in = rows_of.moved-in m keeper ended path c.is.tried c.is.shared (rings_apart c.is) table table_is.ends moved c.moved_are;
-    outer_in = fits.kept-in m whole_is table wide table_is keeps keeper;
-    inner_in = fits.kept-in m whole_is table wide table_is keeps (Parcel ended);
-    differ = rows_of.places-differ m keeper ended path c.is.tried c.is.shared;
-    inner_room = let more = room.inner in omega (arith, more);
-    outer_room = let more = room.outer in omega (arith, more);
   }
 
   -- the table goes with the map after it
@@ -107,7 +96,8 @@ module _ {keeper : Face} {ended : ℕ} {strings : List ℕ} {first : Half} {rest
       takes (without_island c.is) m c.points (bounding (Parcel ended) c.is.ended_ring) (bounding keeper c.is.kept_ring) (rings_apart c.is)
       (rows_of.parts m keeper ended path c.is.tried c.is.shared) whole_is (long m keeper ended c.points path c.is) law
       (rows_of.two m keeper ended path c.is.tried c.is.shared) more_is c.along
-      (rows_of.ends-left m keeper ended path c.is.tried c.is.shared table table_is.ends) c.moved_are table_is keeps
+      (rows_of.ends-left m keeper ended path c.is.tried c.is.shared table c.fits.fits.ends) c.moved_are
+      (rows_of.made-table m keeper ended first rest c.is.tried c.is.shared fit) (rows_of.made-keeps m keeper ended first rest c.is.tried c.is.shared fit)
 
 -- ---- It is taken back
 
@@ -125,34 +115,8 @@ module _ {keeper : Face} {row : ParcelRow} {place : ℕ} {first : Half} {rest mo
   abbrev gone_face : Face
   gone_face = Parcel row.number
 
-  old_whole : HasWholeRings old
-  old_whole = rows_of.whole old keeper row.number gone_path c.is.tried c.is.shared
-
-  last_parts : HasWholeRings last
-  last_parts = rows_of.parts old keeper row.number gone_path c.is.tried c.is.shared
-
-  last_table : FitsTable last table
-  last_table = fits.table-of last last_parts table held c.fits.fits
-
-  last_keeps : KeepsEach last table held
-  last_keeps = fits.each-of last last_parts table held stars c.fits.are_stars c.fits.fits
-
-  -- the ends of all strings: of those that the two share too
-  back-ends : AllByRecursion (HasHalves table) old.strings
-  back-ends = rows_of.back-ends old keeper row.number gone_path c.is.tried c.is.shared gone c.went.numbers c.went.stood table last_table.ends c.there
-
-  pub back-can : CanBringIn first rest keeper gone_face moved table held
-  back-can = record {
-    linked = c.fits.fits.local.linked;
-    within = rows_of.within old keeper row.number gone_path c.is.tried c.is.shared table back-ends;
-    different = rows_of.different old keeper row.number gone_path c.is.tried c.is.shared;
-    loose = c.loose;
-    moved_in = rows_of.moved-in old keeper row.number gone_path c.is.tried c.is.shared (rings_apart c.is) table back-ends moved c.moved_are;
-    kept_in = fits.kept-in last last_parts table held last_table last_keeps keeper;
-    differ = rows_of.places-differ old keeper row.number gone_path c.is.tried c.is.shared;
-    inner_room = c.inner_room;
-    outer_room = c.outer_room;
-  }
+  pub back-can : CanBring first rest keeper gone_face moved table held
+  back-can = rows_of.can-bring old keeper first rest c.is.tried c.is.shared c.went c.fits c.there moved (rings_apart c.is) c.moved_are c.loose c.inner_room c.outer_room
 
   -- the table goes with the map before it
   pub back-table : (wide : HalfRows) (put : Held Half)
@@ -169,6 +133,8 @@ module _ {keeper : Face} {row : ParcelRow} {place : ℕ} {first : Half} {rest mo
       → FitsTable old wide × KeepsEach old wide put
   back-table wide put brings =
       brings last old c.points (bounding gone_face c.is.ended_ring) (bounding keeper c.is.kept_ring) (rings_apart c.is)
-      last_parts old_whole (island old keeper row.number c.points gone_path c.is)
+      (rows_of.parts old keeper row.number gone_path c.is.tried c.is.shared) (rows_of.whole old keeper row.number gone_path c.is.tried c.is.shared) (island old keeper row.number c.points gone_path c.is)
       (rows_of.two old keeper row.number gone_path c.is.tried c.is.shared) (rows_of.none old keeper row.number gone_path c.is.tried c.is.shared)
-      (rows_of.more old keeper row.number gone_path c.is.tried c.is.shared) c.along back-ends c.moved_are last_table last_keeps
+      (rows_of.more old keeper row.number gone_path c.is.tried c.is.shared) c.along
+      (rows_of.all-back old keeper first rest c.is.tried c.is.shared c.went c.fits c.there) c.moved_are
+      (rows_of.last-table old keeper first rest c.is.tried c.is.shared c.went c.fits c.there) (rows_of.last-keeps old keeper first rest c.is.tried c.is.shared c.went c.fits c.there)

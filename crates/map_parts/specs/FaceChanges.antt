@@ -12,63 +12,51 @@ use Rattle.half_paths.specs.Round.{IsRound}
 use Rattle.half_paths.specs.Strung.{IsStrung}
 use Rattle.key_lists.specs.Held.{Held, items_at, HasRoomAt}
 
--- a chain of loose strings can be brought across the outer face, between two halves
-pub record CanBringAcross (first : Half) (rest : List Half) (start end : Half) (outer inner : Face) (moved : List Half)
-    (table : HalfRows) (held : Held Half) : Type 0 where
+-- a path of loose strings can be brought into the outer face
+pub record CanBring (first : Half) (rest : List Half) (outer inner : Face) (moved : List Half) (table : HalfRows) (held : Held Half) : Type 0 where
   pub linked : IsLinked table
   pub within : AreIn table (first ∷ rest)
   pub different : AreDifferent (first ∷ rest)
   pub loose : AreLoose (next table) (first ∷ rest)
+  pub moved_in : AreIn table moved
+  pub kept_in : AreIn table (items_at held (face_place outer))
+  pub faces : face_place outer ≢ face_place inner
+  pub inner_room : HasRoomAt held (face_place inner) (length (items_at held (face_place outer)) + 1)
+  pub outer_room : HasRoomAt held (face_place outer) 1
+
+-- and that across the face, between two halves
+pub record CanBringAcross (first : Half) (rest : List Half) (start end : Half) (outer inner : Face) (moved : List Half)
+    (table : HalfRows) (held : Held Half) : Type 0 where
+  pub path : CanBring first rest outer inner moved table held
   pub start_in : has table start ≡ true
   pub end_in : has table end ≡ true
   pub start_away : AreElsewhere start (first ∷ rest)
   pub end_away : AreElsewhere end (first ∷ rest)
   pub differ : start ≢ end
-  pub moved_in : AreIn table moved
-  pub kept_in : AreIn table (items_at held (face_place outer))
-  pub faces : face_place outer ≢ face_place inner
-  pub inner_room : HasRoomAt held (face_place inner) (length (items_at held (face_place outer)) + 1)
-  pub outer_room : HasRoomAt held (face_place outer) 1
 
--- a chain that parts the two faces can be taken out
-pub record CanTakeAcross (first : Half) (rest : List Half) (outer inner : Face) (moved : List Half)
-    (table : HalfRows) (held : Held Half) : Type 0 where
+-- a path that parts the two faces can be taken out
+pub record CanTake (first : Half) (rest : List Half) (outer inner : Face) (moved : List Half) (table : HalfRows) (held : Held Half) : Type 0 where
   pub linked : IsLinked table
   pub within : AreIn table (first ∷ rest)
   pub different : AreDifferent (first ∷ rest)
+  pub moved_in : AreIn table moved
+  pub outer_in : AreIn table (items_at held (face_place outer))
+  pub inner_in : AreIn table (items_at held (face_place inner))
+  pub faces : face_place outer ≢ face_place inner
+  pub inner_room : HasRoomAt held (face_place inner) (length (items_at held (face_place outer)))
+  pub outer_room : HasRoomAt held (face_place outer) (length (items_at held (face_place inner)))
+
+-- and that where it is a chain, tied to other strings at both ends
+pub record CanTakeAcross (first : Half) (rest : List Half) (outer inner : Face) (moved : List Half)
+    (table : HalfRows) (held : Held Half) : Type 0 where
+  pub path : CanTake first rest outer inner moved table held
   pub strung : IsStrung (next table) first rest
   pub on_away : AreElsewhere (next table (last_of first rest)) (first ∷ rest)
   pub back_away : AreElsewhere (next table (twin first)) (first ∷ rest)
-  pub moved_in : AreIn table moved
-  pub outer_in : AreIn table (items_at held (face_place outer))
-  pub inner_in : AreIn table (items_at held (face_place inner))
-  pub faces : face_place outer ≢ face_place inner
-  pub inner_room : HasRoomAt held (face_place inner) (length (items_at held (face_place outer)))
-  pub outer_room : HasRoomAt held (face_place outer) (length (items_at held (face_place inner)) + 1)
+  pub one_more : HasRoomAt held (face_place outer) (length (items_at held (face_place inner)) + 1)
 
--- an island of loose strings can be brought into the outer face
-pub record CanBringIn (first : Half) (rest : List Half) (outer inner : Face) (moved : List Half)
-    (table : HalfRows) (held : Held Half) : Type 0 where
-  pub linked : IsLinked table
-  pub within : AreIn table (first ∷ rest)
-  pub different : AreDifferent (first ∷ rest)
-  pub loose : AreLoose (next table) (first ∷ rest)
-  pub moved_in : AreIn table moved
-  pub kept_in : AreIn table (items_at held (face_place outer))
-  pub differ : face_place outer ≢ face_place inner
-  pub inner_room : HasRoomAt held (face_place inner) (length (items_at held (face_place outer)) + 1)
-  pub outer_room : HasRoomAt held (face_place outer) 1
-
--- an island that parts the two faces can be taken out
+-- or an island, tied to itself
 pub record CanTakeOut (first : Half) (rest : List Half) (outer inner : Face) (moved : List Half)
     (table : HalfRows) (held : Held Half) : Type 0 where
-  pub linked : IsLinked table
-  pub within : AreIn table (first ∷ rest)
-  pub different : AreDifferent (first ∷ rest)
+  pub path : CanTake first rest outer inner moved table held
   pub round : IsRound (next table) first rest
-  pub moved_in : AreIn table moved
-  pub outer_in : AreIn table (items_at held (face_place outer))
-  pub inner_in : AreIn table (items_at held (face_place inner))
-  pub differ : face_place outer ≢ face_place inner
-  pub inner_room : HasRoomAt held (face_place inner) (length (items_at held (face_place outer)))
-  pub outer_room : HasRoomAt held (face_place outer) (length (items_at held (face_place inner)))

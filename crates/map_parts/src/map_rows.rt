@@ -1,12 +1,15 @@
 //! The rows of a map.
-ghost use Rattle.std.specs.Prelude.{◌≡◌, ◌≢◌, map as map_of, IfOk};
+ghost use Rattle.std.specs.Prelude.{◌≡◌, ◌≢◌, Some, map as map_of, IsSome, IfOk};
+ghost use Rattle.cad_map.specs.Map.{string_of};
 ghost use Rattle.cad_map.specs.RowTables.{rows_of_tables};
 ghost use Rattle.cad_map.specs.Valid.{EachPair, HasSoundRows};
 ghost use Rattle.map_parts.specs.Rows.{rows_in, map_in};
 
 use crate::rows::Rows;
 use cad_map::{Numbered, RowTables, Table};
-use cad_rows::{Memory, Numbers, ParcelNo, ParcelRow, PointRow, SourceRow, StringRow};
+use cad_rows::{
+    Memory, Numbers, ParcelNo, ParcelRow, PointRow, SourceRow, StringNo, StringRow,
+};
 use number_hash::NumberHash;
 use std::alloc::Global;
 
@@ -71,6 +74,14 @@ impl MapRows {
             parcels: moved(alloc, parcels)?,
             strings: moved(alloc, strings)?,
         })
+    }
+
+    /// The row of a string that is there.
+    pub(crate) fn string(&self, no: StringNo) -> &StringRow
+        requires { IsSome (string_of (map_in self.now) no) }
+        ensures { string_of (map_in self.now) no ≡ Some result.now }
+    {
+        self.strings.get(no.get()).unwrap()
     }
 }
 

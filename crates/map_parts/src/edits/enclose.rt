@@ -19,7 +19,7 @@ ghost use Rattle.map_parts.specs.Parts.{HasHalves};
 ghost use Rattle.map_parts.specs.Paths.{AreAlong, HasStringsMore};
 ghost use Rattle.map_parts.specs.Relabelled.{cycles_length};
 ghost use Rattle.map_parts.specs.Islands.{FitsTable, AreOfRings, IsIslandOf};
-ghost use Rattle.map_parts.specs.FaceChanges.{CanBringIn, CanTakeOut};
+ghost use Rattle.map_parts.specs.FaceChanges.{CanBring, CanTakeOut};
 ghost use Rattle.map_parts.specs.Handing.{KeepsEach, HaveTwoFaces, KeepsEnds, KeepsNoMore};
 
 use crate::edits::handing::{clear, hand_over};
@@ -42,7 +42,7 @@ pub(crate) fn bring_in<T: Tally>(
     inner: &Face,
     moved: &[Half],
 )
-    requires { CanBringIn first.now rest.now outer.now inner.now moved.now table.old.rows
+    requires { CanBring first.now rest.now outer.now inner.now moved.now table.old.rows
         kept.old }
 
     // A table that goes with a map goes with that map and the island, and so do the kept halves.

@@ -144,8 +144,8 @@ pub(crate) fn join<T: Tally>(
     ensures work { table.new.work ≡ ticked (length (cycle table.new.rows (forward_of row.number))
         + length (cycle table.new.rows (backward_of row.number)) + 5) table.old.work }
 {
-    let first_row = rows.strings.get(first.get()).unwrap();
-    let second_row = rows.strings.get(second.get()).unwrap();
+    let first_row = rows.string(first);
+    let second_row = rows.string(second);
     let halves = path(first_row, second_row, &point, &row.number);
     go_past(table, kept, &halves);
     join_spokes(stars, &row, first_row, second_row);
@@ -211,7 +211,7 @@ pub fn unjoin<T: Tally>(
 {
     let halves = path(&joined.first, &joined.second, &joined.point.number, &new);
     go_through(table, kept, &halves);
-    let whole = rows.strings.get(new.get()).unwrap();
+    let whole = rows.string(new);
     part_spokes(stars, whole, &joined.first, &joined.second);
     unjoin_rows(rows, joined, new);
 }

@@ -103,12 +103,7 @@ pub(crate) fn split<T: Tally>(
 {
     let halves = path(&string, &first.number, &second.number);
     go_through(table, kept, &halves);
-    part_spokes(
-        stars,
-        rows.strings.get(string.get()).unwrap(),
-        &first,
-        &second,
-    );
+    part_spokes(stars, rows.string(string), &first, &second);
     split_rows(rows, string, point, first, second)
 }
 
@@ -167,8 +162,8 @@ pub fn unsplit<T: Tally>(
 {
     let halves = path(&row.number, &first, &second);
     go_past(table, kept, &halves);
-    let first_row = rows.strings.get(first.get()).unwrap();
-    let second_row = rows.strings.get(second.get()).unwrap();
+    let first_row = rows.string(first);
+    let second_row = rows.string(second);
     join_spokes(stars, &row, first_row, second_row);
     unsplit_rows(rows, row, place, point, first, second);
 }

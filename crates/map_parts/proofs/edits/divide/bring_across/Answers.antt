@@ -17,17 +17,17 @@ use Rattle.map_parts.proofs.edits.divide.bring_across.Goals as goal
 
 pub hand_over-requires-clause-within : goal.hand_over-requires-clause-within
 hand_over-requires-clause-within g c =
-    in-relabelled c.args.table.now.rows c.bring_left.new.table.rows (items_at c.args.kept.now (face_place c.args.outer.now)) c.bring_left.ensures.has c.requires.kept_in
+    in-relabelled c.args.table.now.rows c.bring_left.new.table.rows (items_at c.args.kept.now (face_place c.args.outer.now)) c.bring_left.ensures.has c.requires.path.kept_in
 
 pub hand_over-requires-clause-room : goal.hand_over-requires-clause-room
-hand_over-requires-clause-room g c = let room = c.requires.inner_room in omega (arith, room)
+hand_over-requires-clause-room g c = let room = c.requires.path.inner_room in omega (arith, room)
 
 pub keep_both-requires-clause-inner_room : goal.keep_both-requires-clause-inner_room
 keep_both-requires-clause-inner_room g c =
     let n = face_place c.args.inner.now in
     let handed = (room-handed c.bring_left.new.table.rows (face_place c.args.outer.now) n c.args.kept.now c.hand_over.new.kept c.hand_over.ensures.hands).1 in
     let cap = c.hand_over.ensures.capacity n in
-    let room = c.requires.inner_room in
+    let room = c.requires.path.inner_room in
     omega (arith, handed, cap, room)
 
 pub keep_both-requires-clause-outer_room : goal.keep_both-requires-clause-outer_room
@@ -35,11 +35,11 @@ keep_both-requires-clause-outer_room g c =
     let n = face_place c.args.outer.now in
     let handed = (room-handed c.bring_left.new.table.rows n (face_place c.args.inner.now) c.args.kept.now c.hand_over.new.kept c.hand_over.ensures.hands).0 in
     let cap = c.hand_over.ensures.capacity n in
-    let room = c.requires.outer_room in
+    let room = c.requires.path.outer_room in
     omega (arith, handed, cap, room)
 
 pub relabel_each-requires-clause-within : goal.relabel_each-requires-clause-within
-relabel_each-requires-clause-within g c = in-relabelled c.args.table.now.rows c.bring_left.new.table.rows c.args.moved.now c.bring_left.ensures.has c.requires.moved_in
+relabel_each-requires-clause-within g c = in-relabelled c.args.table.now.rows c.bring_left.new.table.rows c.args.moved.now c.bring_left.ensures.has c.requires.path.moved_in
 
 pub hand_over-requires-2-clause-within : goal.hand_over-requires-2-clause-within
 hand_over-requires-2-clause-within g c =
@@ -50,8 +50,8 @@ hand_over-requires-2-clause-within g c =
     let same : (h : Half) → has new h ≡ has old h = λ h. c.relabel_each.ensures.relabels.has h ∙ c.bring_left.ensures.has h in
     in-relabelled old new (items_at c.keep_both.new.kept outer) same
     (both-in old inner outer c.args.first.now c.twin-back.result c.hand_over.new.kept c.keep_both.new.kept c.keep_both.ensures.both
-    (left-handed old c.bring_left.new.table.rows outer inner c.args.kept.now c.hand_over.new.kept c.hand_over.ensures.hands c.requires.kept_in)
-    (sym (c.bring_left.ensures.has c.twin-back.result) ∙ c.twin-back.ensures.inside ∙ c.bring_left.ensures.has c.args.first.now ∙ c.requires.within.0))
+    (left-handed old c.bring_left.new.table.rows outer inner c.args.kept.now c.hand_over.new.kept c.hand_over.ensures.hands c.requires.path.kept_in)
+    (sym (c.bring_left.ensures.has c.twin-back.result) ∙ c.twin-back.ensures.inside ∙ c.bring_left.ensures.has c.args.first.now ∙ c.requires.path.within.0))
 
 pub hand_over-requires-2-clause-room : goal.hand_over-requires-2-clause-room
 hand_over-requires-2-clause-room g c =
@@ -61,7 +61,7 @@ hand_over-requires-2-clause-room g c =
     let more = c.keep_both.ensures.more in
     let cap = c.keep_both.ensures.capacity inner in
     let cap_one = c.hand_over.ensures.capacity inner in
-    let room = c.requires.inner_room in
+    let room = c.requires.path.inner_room in
     omega (arith, count, more, cap, cap_one, room)
 
 pub returns-clause-halves : goal.returns-clause-halves

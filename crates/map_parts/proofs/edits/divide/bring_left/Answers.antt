@@ -31,59 +31,41 @@ bring_chain-requires-clause-end_in g c = c.relabel_path.ensures.relabels.has c.a
 pub relabel-requires : goal.relabel-requires
 relabel-requires g c = c.bring_chain.ensures.halves.has c.args.first.now ∙ c.relabel_path.ensures.relabels.has c.args.first.now ∙ c.requires.within.0
 
-pub returns-clause-has : goal.returns-clause-has
-returns-clause-has g c = λ h.
-    c.relabel.ensures.relabels.has h ∙ c.bring_chain.ensures.halves.has h ∙ c.relabel_path.ensures.relabels.has h
-
-pub returns-clause-origin : goal.returns-clause-origin
-returns-clause-origin g c = λ h.
-    c.relabel.ensures.relabels.origin h ∙ c.bring_chain.ensures.halves.origin h ∙ c.relabel_path.ensures.relabels.origin h
-
-pub returns-clause-faces : goal.returns-clause-faces
-returns-clause-faces g c = λ h.
-    let old = c.args.table.now.rows in
-    let a : Half = c.args.first.now in
-    let rest = c.args.rest.now in
-    let outer = c.args.outer.now in
-    let inner = c.args.inner.now in
-    let mid = c.bring_chain.new.table.rows in
-    let new = c.relabel.new.self.rows in
-    let labels = c.relabel.ensures.relabels in
-    let each = c.relabel_path.ensures.relabels in
-    let was : face mid h ≡ (if is_of (strings_of (a ∷ rest)) h then outer else face old h) =
-    c.bring_chain.ensures.halves.face h ∙ each.face h ∙ ap (λ (t : Bool). if t then outer else face old h) (cycles-of_loose old c.requires.linked (a ∷ rest) c.requires.within c.requires.loose h) in
-    let same : cycle mid ≡ cycle new = sym (cycle-same mid new labels.strings labels.next) in
-    labels.face h ∙ (λ i. if holds (same i a) h then inner else was i)
-
-pub returns-clause-local : goal.returns-clause-local
-returns-clause-local g c = λ whole parted chain fc lc rings parts law more along first_side last_side ends a_in a_side b_in b_side local.
+pub returns : goal.returns
+returns g c =
     let old = c.args.table.now.rows in
     let lone = c.relabel_path.new.table.rows in
     let mid = c.bring_chain.new.table.rows in
     let new = c.relabel.new.self.rows in
     let a : Half = c.args.first.now in
     let rest = c.args.rest.now in
+    let outer = c.args.outer.now in
+    let inner = c.args.inner.now in
     let labels = c.relabel.ensures.relabels in
     let each = c.relabel_path.ensures.relabels in
-    let local_lone = local-kept whole old lone (λ h shown. each.has h) (λ h shown. each.next h) (λ h shown. each.origin h) c.relabel_path.ensures.linked local in
-    local-kept parted mid new (λ h shown. labels.has h) (λ h shown. labels.next h) (λ h shown. labels.origin h) c.relabel.ensures.linked
-    (c.bring_chain.ensures.local whole parted chain fc lc rings parts law more (along-same old lone each.origin (a ∷ rest) (sides_of_chain chain) along)
-    (side-same old lone each.origin a ∙ first_side) (side-same old lone each.origin (last_of a rest) ∙ last_side) (ends-same old lone each.origin each.has parted.strings ends)
-    a_in (side-same old lone each.origin c.args.start.now ∙ a_side) b_in (side-same old lone each.origin c.args.end.now ∙ b_side) local_lone)
-
-pub returns-clause-work : goal.returns-clause-work
-returns-clause-work g c =
-    let old = c.args.table.now.rows in
-    let mid = c.bring_chain.new.table.rows in
-    let new = c.relabel.new.self.rows in
-    let a : Half = c.args.first.now in
-    let rest = c.args.rest.now in
-    let labels = c.relabel.ensures.relabels in
-    let w = c.args.table.now.work in
-    let n = length rest + 2 in
-    let p = cycles_length old (a ∷ rest) in
-    let r = length (cycle mid a) in
-    let two : p ≡ 2 + 2 * length rest = let all = length-of_loose old c.requires.linked (a ∷ rest) c.requires.within c.requires.loose in omega (arith, all) in
-    let is_r : r ≡ length (cycle new a) = sym (ap (λ (f : Half → List Half). length (f a)) (cycle-same mid new labels.strings labels.next)) in
-    c.relabel.ensures.work ∙ ap (ticked r) (c.bring_chain.ensures.work ∙ ap (ticked n) c.relabel_path.ensures.work)
-    ∙ sym (ticked-add (p + n) r w ∙ ap (ticked r) (ticked-add p n w)) ∙ (λ i. ticked ((two i + n) + is_r i) w)
+    let chained = c.bring_chain.ensures in
+    let same : cycle mid ≡ cycle new = sym (cycle-same mid new labels.strings labels.next) in
+    record {
+      faces = λ h.
+          let was : face mid h ≡ (if is_of (strings_of (a ∷ rest)) h then outer else face old h) =
+          chained.halves.face h ∙ each.face h ∙ ap (λ (t : Bool). if t then outer else face old h) (cycles-of_loose old c.requires.linked (a ∷ rest) c.requires.within c.requires.loose h) in
+          labels.face h ∙ (λ i. if holds (same i a) h then inner else was i);
+      local = λ whole parted chain fc lc rings parts law more along first_side last_side ends a_in a_side b_in b_side local.
+          let local_lone = local-kept whole old lone (λ h shown. each.has h) (λ h shown. each.next h) (λ h shown. each.origin h) c.relabel_path.ensures.linked local in
+          local-kept parted mid new (λ h shown. labels.has h) (λ h shown. labels.next h) (λ h shown. labels.origin h) c.relabel.ensures.linked
+          (chained.local whole parted chain fc lc rings parts law more (along-same old lone each.origin (a ∷ rest) (sides_of_chain chain) along)
+          (side-same old lone each.origin a ∙ first_side) (side-same old lone each.origin (last_of a rest) ∙ last_side) (ends-same old lone each.origin each.has parted.strings ends)
+          a_in (side-same old lone each.origin c.args.start.now ∙ a_side) b_in (side-same old lone each.origin c.args.end.now ∙ b_side) local_lone);
+      has = λ h. labels.has h ∙ chained.halves.has h ∙ each.has h;
+      origin = λ h. labels.origin h ∙ chained.halves.origin h ∙ each.origin h;
+      linked = c.relabel.ensures.linked;
+      work =
+          let w = c.args.table.now.work in
+          let n = length rest + 2 in
+          let p = cycles_length old (a ∷ rest) in
+          let r = length (cycle mid a) in
+          let two : p ≡ 2 + 2 * length rest = let all = length-of_loose old c.requires.linked (a ∷ rest) c.requires.within c.requires.loose in omega (arith, all) in
+          let is_r : r ≡ length (cycle new a) = ap (λ (f : Half → List Half). length (f a)) same in
+          c.relabel.ensures.work ∙ ap (ticked r) (chained.work ∙ ap (ticked n) c.relabel_path.ensures.work)
+          ∙ sym (ticked-add (p + n) r w ∙ ap (ticked r) (ticked-add p n w)) ∙ (λ i. ticked ((two i + n) + is_r i) w);
+    }

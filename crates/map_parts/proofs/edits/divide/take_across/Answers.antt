@@ -22,21 +22,21 @@ use Rattle.map_parts.proofs.ChainGone.{fits-cut, start-on, chain-gone}
 use Rattle.map_parts.proofs.edits.divide.take_across.Goals as goal
 
 pub hand_over-requires-clause-differ : goal.hand_over-requires-clause-differ
-hand_over-requires-clause-differ g c = λ e. c.requires.faces (sym e)
+hand_over-requires-clause-differ g c = λ e. c.requires.path.faces (sym e)
 
 pub hand_over-requires-clause-within : goal.hand_over-requires-clause-within
 hand_over-requires-clause-within g c =
-    in-relabelled c.args.table.now.rows c.relabel_each.new.table.rows (items_at c.args.kept.now (face_place c.args.inner.now)) c.relabel_each.ensures.relabels.has c.requires.inner_in
+    in-relabelled c.args.table.now.rows c.relabel_each.new.table.rows (items_at c.args.kept.now (face_place c.args.inner.now)) c.relabel_each.ensures.relabels.has c.requires.path.inner_in
 
 pub hand_over-requires-clause-room : goal.hand_over-requires-clause-room
-hand_over-requires-clause-room g c = let room = c.requires.outer_room in omega (arith, room)
+hand_over-requires-clause-room g c = let room = c.requires.one_more in omega (arith, room)
 
 pub next-start-requires : goal.next-start-requires
-next-start-requires g c = c.twin-back.ensures.inside ∙ c.relabel_each.ensures.relabels.has c.args.first.now ∙ c.requires.within.0
+next-start-requires g c = c.twin-back.ensures.inside ∙ c.relabel_each.ensures.relabels.has c.args.first.now ∙ c.requires.path.within.0
 
 pub take_left-requires-clause-within : goal.take_left-requires-clause-within
 take_left-requires-clause-within g c =
-    in-relabelled c.args.table.now.rows c.relabel_each.new.table.rows (c.args.first.now ∷ c.args.rest.now) c.relabel_each.ensures.relabels.has c.requires.within
+    in-relabelled c.args.table.now.rows c.relabel_each.new.table.rows (c.args.first.now ∷ c.args.rest.now) c.relabel_each.ensures.relabels.has c.requires.path.within
 
 pub take_left-requires-clause-strung : goal.take_left-requires-clause-strung
 take_left-requires-clause-strung g c =
@@ -56,24 +56,24 @@ hand_over-requires-2-clause-within g c =
     let inner : ℕ = face_place c.args.inner.now in
     let old = c.args.table.now.rows in
     let new = c.take_left.new.table.rows in
-    let away : ¬ (c.face_place.result ≡ outer) = λ e. c.requires.faces (sym (sym c.face_place.ensures ∙ e)) in
+    let away : ¬ (c.face_place.result ≡ outer) = λ e. c.requires.path.faces (sym (sym c.face_place.ensures ∙ e)) in
     let items = items-of c.face_place.result outer c.hand_over.new.kept c.clear.new.kept c.clear.ensures.others away in
     subst (AreIn new) (sym items)
     (in-relabelled old new (items_at c.hand_over.new.kept outer) (λ h. c.take_left.ensures.has h ∙ c.relabel_each.ensures.relabels.has h)
-    (in-handed old c.relabel_each.new.table.rows inner outer c.args.kept.now c.hand_over.new.kept c.hand_over.ensures.hands c.requires.inner_in c.requires.outer_in))
+    (in-handed old c.relabel_each.new.table.rows inner outer c.args.kept.now c.hand_over.new.kept c.hand_over.ensures.hands c.requires.path.inner_in c.requires.path.outer_in))
 
 pub hand_over-requires-2-clause-room : goal.hand_over-requires-2-clause-room
 hand_over-requires-2-clause-room g c =
     let outer : ℕ = face_place c.args.outer.now in
     let inner : ℕ = face_place c.args.inner.now in
     let key = c.face_place.ensures in
-    let away : ¬ (c.face_place.result ≡ outer) = λ e. c.requires.faces (sym (sym key ∙ e)) in
+    let away : ¬ (c.face_place.result ≡ outer) = λ e. c.requires.path.faces (sym (sym key ∙ e)) in
     let items = ap length (items-of c.face_place.result outer c.hand_over.new.kept c.clear.new.kept c.clear.ensures.others away) in
     let gone = ap length (subst (λ (k : ℕ). items_at c.clear.new.kept k ≡ []) key c.clear.ensures.none) in
     let cap = put-capacity c.face_place.result inner c.hand_over.new.kept c.clear.new.kept c.clear.ensures.others c.clear.ensures.capacity in
     let cap_one = c.hand_over.ensures.capacity inner in
     let handed = (room-handed c.relabel_each.new.table.rows inner outer c.args.kept.now c.hand_over.new.kept c.hand_over.ensures.hands).1 in
-    let room = c.requires.inner_room in
+    let room = c.requires.path.inner_room in
     omega (arith, items, gone, cap, cap_one, handed, room)
 
 pub keep_one-requires-clause-room : goal.keep_one-requires-clause-room
@@ -81,14 +81,14 @@ keep_one-requires-clause-room g c =
     let outer : ℕ = face_place c.args.outer.now in
     let inner : ℕ = face_place c.args.inner.now in
     let key = c.face_place.ensures in
-    let away : ¬ (c.face_place.result ≡ outer) = λ e. c.requires.faces (sym (sym key ∙ e)) in
+    let away : ¬ (c.face_place.result ≡ outer) = λ e. c.requires.path.faces (sym (sym key ∙ e)) in
     let items = ap length (items-of c.face_place.result outer c.hand_over.new.kept c.clear.new.kept c.clear.ensures.others away) in
     let cap = put-capacity c.face_place.result outer c.hand_over.new.kept c.clear.new.kept c.clear.ensures.others c.clear.ensures.capacity in
     let cap_one = c.hand_over.ensures.capacity outer in
     let cap_two = c.hand_over-2.ensures.capacity outer in
     let handed = (room-handed c.relabel_each.new.table.rows inner outer c.args.kept.now c.hand_over.new.kept c.hand_over.ensures.hands).1 in
     let again = (room-handed c.take_left.new.table.rows outer inner c.clear.new.kept c.hand_over-2.new.kept c.hand_over-2.ensures.hands).0 in
-    let room = c.requires.outer_room in
+    let room = c.requires.one_more in
     omega (arith, items, cap, cap_one, cap_two, handed, again, room)
 
 pub returns-clause-halves : goal.returns-clause-halves
@@ -102,7 +102,7 @@ returns-clause-kept g c =
     let outer : ℕ = face_place c.args.outer.now in
     let inner : ℕ = face_place c.args.inner.now in
     let key = c.face_place.ensures in
-    let away : ¬ (c.face_place.result ≡ outer) = λ e. c.requires.faces (sym (sym key ∙ e)) in
+    let away : ¬ (c.face_place.result ≡ outer) = λ e. c.requires.path.faces (sym (sym key ∙ e)) in
     let items = ap length (items-of c.face_place.result outer c.hand_over.new.kept c.clear.new.kept c.clear.ensures.others away) in
     let gone = ap length (subst (λ (k : ℕ). items_at c.clear.new.kept k ≡ []) key c.clear.ensures.none) in
     let count = count-handed c.relabel_each.new.table.rows inner outer c.args.kept.now c.hand_over.new.kept c.hand_over.ensures.hands in

@@ -31,7 +31,7 @@ pub put-requires-2 : goal.put-requires-2
 put-requires-2 g c =
     let key = c.face_place-outer_key.ensures in
     let n = face_place c.args.outer.now in
-    let apart : ¬ (c.face_place-inner_key.result ≡ n) = λ e. c.requires.differ (sym (sym c.face_place-inner_key.ensures ∙ e)) in
+    let apart : ¬ (c.face_place-inner_key.result ≡ n) = λ e. c.requires.faces (sym (sym c.face_place-inner_key.ensures ∙ e)) in
     let items = items-of c.face_place-inner_key.result n c.hand_over.new.kept c.put.new.self c.put.ensures.others apart in
     let own = capacity-of c.face_place-inner_key.result n c.hand_over.new.kept c.put.new.self c.put.ensures.others apart in
     let handed = (room-handed c.bring_island.new.table.rows n (face_place c.args.inner.now) c.args.kept.now c.hand_over.new.kept c.hand_over.ensures.hands).0 in
@@ -62,8 +62,8 @@ returns-clause-island g c = λ whole parted ring left right others rings parts i
     let fits_new : FitsTable parted new = c.bring_island.ensures.island whole parted ring left right others rings parts it more along ends of fits in
     let on = first-on whole parted c.args.outer.now c.args.inner.now ring left right others it parts first c.args.rest.now more c.args.moved.now new
     (along-same old new c.bring_island.ensures.origin path (sides_of ring) along) in
-    let far_inner : ¬ (c.face_place-outer_key.result ≡ inner) = λ e. c.requires.differ (sym is_outer ∙ e) in
-    let far_outer : ¬ (c.face_place-inner_key.result ≡ outer) = λ e. c.requires.differ (sym (sym is_inner ∙ e)) in
+    let far_inner : ¬ (c.face_place-outer_key.result ≡ inner) = λ e. c.requires.faces (sym is_outer ∙ e) in
+    let far_outer : ¬ (c.face_place-inner_key.result ≡ outer) = λ e. c.requires.faces (sym (sym is_inner ∙ e)) in
     let at_inner : items_at now inner ≡ items_at mid inner ++ first ∷ [] =
     items-of c.face_place-outer_key.result inner one now c.put-2.ensures.others far_inner
     ∙ subst (λ (k : ℕ). items_at one k ≡ items_at mid k ++ first ∷ []) is_inner c.put.ensures.items in
@@ -88,8 +88,8 @@ returns-clause-count g c =
     let now = c.put-2.new.self in
     let is_inner = c.face_place-inner_key.ensures in
     let is_outer = c.face_place-outer_key.ensures in
-    let far_inner : ¬ (c.face_place-outer_key.result ≡ inner) = λ e. c.requires.differ (sym is_outer ∙ e) in
-    let far_outer : ¬ (c.face_place-inner_key.result ≡ outer) = λ e. c.requires.differ (sym (sym is_inner ∙ e)) in
+    let far_inner : ¬ (c.face_place-outer_key.result ≡ inner) = λ e. c.requires.faces (sym is_outer ∙ e) in
+    let far_outer : ¬ (c.face_place-inner_key.result ≡ outer) = λ e. c.requires.faces (sym (sym is_inner ∙ e)) in
     let at_inner : items_at now inner ≡ items_at mid inner ++ c.args.first.now ∷ [] =
     items-of c.face_place-outer_key.result inner one now c.put-2.ensures.others far_inner
     ∙ subst (λ (k : ℕ). items_at one k ≡ items_at mid k ++ c.args.first.now ∷ []) is_inner c.put.ensures.items in

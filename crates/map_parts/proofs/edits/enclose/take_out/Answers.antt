@@ -14,11 +14,11 @@ use Rattle.map_parts.proofs.KeptIsland.{items-of, put-capacity, island-gone}
 use Rattle.map_parts.proofs.edits.enclose.take_out.Goals as goal
 
 pub hand_over-requires-clause-differ : goal.hand_over-requires-clause-differ
-hand_over-requires-clause-differ g c = λ e. c.requires.differ (sym e)
+hand_over-requires-clause-differ g c = λ e. c.requires.path.faces (sym e)
 
 pub hand_over-requires-clause-within : goal.hand_over-requires-clause-within
 hand_over-requires-clause-within g c =
-    in-relabelled c.args.table.now.rows c.take_island.new.table.rows (items_at c.args.kept.now (face_place c.args.inner.now)) c.take_island.ensures.has c.requires.inner_in
+    in-relabelled c.args.table.now.rows c.take_island.new.table.rows (items_at c.args.kept.now (face_place c.args.inner.now)) c.take_island.ensures.has c.requires.path.inner_in
 
 pub hand_over-requires-2-clause-within : goal.hand_over-requires-2-clause-within
 hand_over-requires-2-clause-within g c =
@@ -26,8 +26,8 @@ hand_over-requires-2-clause-within g c =
     let outer : ℕ = face_place c.args.outer.now in
     let inner : ℕ = face_place c.args.inner.now in
     in-handed new new inner outer c.args.kept.now c.hand_over.new.kept c.hand_over.ensures.hands
-    (in-relabelled c.args.table.now.rows new (items_at c.args.kept.now inner) c.take_island.ensures.has c.requires.inner_in)
-    (in-relabelled c.args.table.now.rows new (items_at c.args.kept.now outer) c.take_island.ensures.has c.requires.outer_in)
+    (in-relabelled c.args.table.now.rows new (items_at c.args.kept.now inner) c.take_island.ensures.has c.requires.path.inner_in)
+    (in-relabelled c.args.table.now.rows new (items_at c.args.kept.now outer) c.take_island.ensures.has c.requires.path.outer_in)
 
 pub hand_over-requires-2-clause-room : goal.hand_over-requires-2-clause-room
 hand_over-requires-2-clause-room g c =
@@ -35,7 +35,7 @@ hand_over-requires-2-clause-room g c =
     let inner : ℕ = face_place c.args.inner.now in
     let count = count-handed c.take_island.new.table.rows inner outer c.args.kept.now c.hand_over.new.kept c.hand_over.ensures.hands in
     let cap = c.hand_over.ensures.capacity inner in
-    let room = c.requires.inner_room in
+    let room = c.requires.path.inner_room in
     omega (arith, count, cap, room)
 
 pub returns-clause-kept : goal.returns-clause-kept
@@ -44,7 +44,7 @@ returns-clause-kept g c =
     let outer : ℕ = face_place c.args.outer.now in
     let inner : ℕ = face_place c.args.inner.now in
     let key = c.face_place.ensures in
-    let away : ¬ (c.face_place.result ≡ outer) = λ e. c.requires.differ (sym (sym key ∙ e)) in
+    let away : ¬ (c.face_place.result ≡ outer) = λ e. c.requires.path.faces (sym (sym key ∙ e)) in
     let items = ap length (items-of c.face_place.result outer c.hand_over-2.new.kept c.clear.new.kept c.clear.ensures.others away) in
     let gone = ap length (subst (λ (k : ℕ). items_at c.clear.new.kept k ≡ []) key c.clear.ensures.none) in
     let count = count-handed new inner outer c.args.kept.now c.hand_over.new.kept c.hand_over.ensures.hands in

@@ -1,43 +1,42 @@
-use Rattle.std.proofs.Common.{◌≡◌, ◌∙◌, sym, subst, Some}
+use Rattle.std.proofs.Common.{◌≡◌, ◌∙◌, refl, sym, subst}
+use Rattle.std.specs.Prelude.{IsSome}
 use Rattle.std.proofs.lemmas.Option.{same_Some}
 use Rattle.cad_rows.specs.declared.rows.StringRow.{StringRow}
-use Rattle.cad_map.specs.Map.{string_of}
 use Rattle.map_parts.specs.declared.edits.passing.Passing.{Passing}
+use Rattle.map_parts.specs.Joined.{CanJoin}
 use Rattle.map_parts.specs.Passing.{CanGoPast, path_at}
 use Rattle.map_parts.specs.Rows.{map_in}
 use Rattle.map_parts.specs.Splitting.{CanMeet}
-use Rattle.map_parts.proofs.RowLists.{some-copied}
 use Rattle.map_parts.proofs.Passing.JoinMade as made
+use Rattle.map_parts.proofs.edits.join.join.Goals.{After-string-second_row}
 use Rattle.map_parts.proofs.edits.join.join.Goals as goal
 
-pub unwrap-first_row-requires : goal.unwrap-first_row-requires
-unwrap-first_row-requires g c =
-    some-copied c.get-2.result _ ((rw c.get.ensures.value at c.get-2.ensures) ∙ made.join-first c.args.point c.args.first c.args.second c.args.row c.args.rows.now c.args.table.now.rows c.args.kept.now c.args.stars.now c.requires)
+first_is : (g : _) (c : goal.After-string-second_row g) (can : CanJoin c.args.point c.args.first c.args.second c.args.row c.args.rows.now c.args.table.now.rows c.args.kept.now c.args.stars.now) → c.string-first_row.result.now ≡ can.one
+first_is g c can = same_Some _ _ (sym c.string-first_row.ensures ∙ made.join-first c.args.point c.args.first c.args.second c.args.row c.args.rows.now c.args.table.now.rows c.args.kept.now c.args.stars.now can)
 
-pub unwrap-second_row-requires : goal.unwrap-second_row-requires
-unwrap-second_row-requires g c =
-    some-copied c.get-4.result _ ((rw c.get-3.ensures.value at c.get-4.ensures) ∙ made.join-second c.args.point c.args.first c.args.second c.args.row c.args.rows.now c.args.table.now.rows c.args.kept.now c.args.stars.now c.requires)
+second_is : (g : _) (c : goal.After-string-second_row g) (can : CanJoin c.args.point c.args.first c.args.second c.args.row c.args.rows.now c.args.table.now.rows c.args.kept.now c.args.stars.now) → c.string-second_row.result.now ≡ can.other
+second_is g c can = same_Some _ _ (sym c.string-second_row.ensures ∙ made.join-second c.args.point c.args.first c.args.second c.args.row c.args.rows.now c.args.table.now.rows c.args.kept.now c.args.stars.now can)
+
+pub string-first_row-requires : goal.string-first_row-requires
+string-first_row-requires g c = subst IsSome (sym (made.join-first c.args.point c.args.first c.args.second c.args.row c.args.rows.now c.args.table.now.rows c.args.kept.now c.args.stars.now c.requires)) refl
+
+pub string-second_row-requires : goal.string-second_row-requires
+string-second_row-requires g c = subst IsSome (sym (made.join-second c.args.point c.args.first c.args.second c.args.row c.args.rows.now c.args.table.now.rows c.args.kept.now c.args.stars.now c.requires)) refl
 
 pub go_past-requires : goal.go_past-requires
 go_past-requires g c =
-    let one_at : Some c.unwrap-first_row.result.now ≡ string_of (map_in c.args.rows.now) c.args.first =
-    rw (c.unwrap-first_row.ensures, c.get.ensures.value) at c.get-2.ensures in
-    let other_at : Some c.unwrap-second_row.result.now ≡ string_of (map_in c.args.rows.now) c.args.second =
-    rw (c.unwrap-second_row.ensures, c.get-3.ensures.value) at c.get-4.ensures in
-    let one = same_Some c.unwrap-first_row.result.now c.requires.one (one_at ∙ made.join-first c.args.point c.args.first c.args.second c.args.row c.args.rows.now c.args.table.now.rows c.args.kept.now c.args.stars.now c.requires) in
-    let other = same_Some c.unwrap-second_row.result.now c.requires.other (other_at ∙ made.join-second c.args.point c.args.first c.args.second c.args.row c.args.rows.now c.args.table.now.rows c.args.kept.now c.args.stars.now c.requires) in
+    let at = (goal.at.go_past-requires g c).After-string-second_row in
+    let one = first_is g at c.requires in
+    let other = second_is g at c.requires in
     subst (λ (q : Passing). CanGoPast q c.args.table.now.rows c.args.kept.now)
     (sym (c.path-halves.ensures ∙ (λ i. path_at c.args.point (one i) (other i) c.args.row.number)))
     (made.join-can c.args.point c.args.first c.args.second c.args.row c.args.rows.now c.args.table.now.rows c.args.kept.now c.args.stars.now c.requires)
 
 pub join_spokes-requires : goal.join_spokes-requires
 join_spokes-requires g c =
-    let one_at : Some c.unwrap-first_row.result.now ≡ string_of (map_in c.args.rows.now) c.args.first =
-    rw (c.unwrap-first_row.ensures, c.get.ensures.value) at c.get-2.ensures in
-    let other_at : Some c.unwrap-second_row.result.now ≡ string_of (map_in c.args.rows.now) c.args.second =
-    rw (c.unwrap-second_row.ensures, c.get-3.ensures.value) at c.get-4.ensures in
-    let one = same_Some c.unwrap-first_row.result.now c.requires.one (one_at ∙ made.join-first c.args.point c.args.first c.args.second c.args.row c.args.rows.now c.args.table.now.rows c.args.kept.now c.args.stars.now c.requires) in
-    let other = same_Some c.unwrap-second_row.result.now c.requires.other (other_at ∙ made.join-second c.args.point c.args.first c.args.second c.args.row c.args.rows.now c.args.table.now.rows c.args.kept.now c.args.stars.now c.requires) in
+    let at = (goal.at.join_spokes-requires g c).After-string-second_row in
+    let one = first_is g at c.requires in
+    let other = second_is g at c.requires in
     subst (λ (v : StringRow × StringRow). CanMeet c.args.row v.0 v.1 c.args.stars.now) (λ i. (sym one i, sym other i))
     (made.join-meet c.args.point c.args.first c.args.second c.args.row c.args.rows.now c.args.table.now.rows c.args.kept.now c.args.stars.now c.requires)
 
@@ -52,12 +51,9 @@ join_rows-requires-clause-absent g c = made.join-absent c.args.point c.args.firs
 
 pub returns-clause-fits : goal.returns-clause-fits
 returns-clause-fits g c = λ can.
-    let one_at : Some c.unwrap-first_row.result.now ≡ string_of (map_in c.args.rows.now) c.args.first =
-    rw (c.unwrap-first_row.ensures, c.get.ensures.value) at c.get-2.ensures in
-    let other_at : Some c.unwrap-second_row.result.now ≡ string_of (map_in c.args.rows.now) c.args.second =
-    rw (c.unwrap-second_row.ensures, c.get-3.ensures.value) at c.get-4.ensures in
-    let one = same_Some c.unwrap-first_row.result.now can.one (one_at ∙ made.join-first c.args.point c.args.first c.args.second c.args.row c.args.rows.now c.args.table.now.rows c.args.kept.now c.args.stars.now can) in
-    let other = same_Some c.unwrap-second_row.result.now can.other (other_at ∙ made.join-second c.args.point c.args.first c.args.second c.args.row c.args.rows.now c.args.table.now.rows c.args.kept.now c.args.stars.now can) in
+    let at = (goal.at.returns-clause-fits g c).After-string-second_row in
+    let one = first_is g at can in
+    let other = second_is g at can in
     record {
       rows_are = made.join-rows_are c.args.point c.args.first c.args.second c.args.row c.args.rows.now c.args.table.now.rows c.args.kept.now c.args.stars.now can (map_in c.join_rows.new.rows) c.join_rows.ensures.rows;
       fits =
@@ -65,7 +61,7 @@ returns-clause-fits g c = λ can.
           (c.path-halves.ensures ∙ (λ i. path_at c.args.point (one i) (other i) c.args.row.number))
           c.go_past.new.table.rows c.go_past.new.kept c.go_past.ensures.fits;
       are_stars =
-          made.join-stars c.args.point c.args.first c.args.second c.args.row c.args.rows.now c.args.table.now.rows c.args.kept.now c.args.stars.now can c.unwrap-first_row.result.now c.unwrap-second_row.result.now one other
+          made.join-stars c.args.point c.args.first c.args.second c.args.row c.args.rows.now c.args.table.now.rows c.args.kept.now c.args.stars.now can c.string-first_row.result.now c.string-second_row.result.now one other
           c.join_spokes.new.stars c.join_spokes.ensures.stars;
     }
 
@@ -81,14 +77,11 @@ returns-clause-second_there g c =
 
 pub returns-clause-room : goal.returns-clause-room
 returns-clause-room g c =
-    let one_at : Some c.unwrap-first_row.result.now ≡ string_of (map_in c.args.rows.now) c.args.first =
-    rw (c.unwrap-first_row.ensures, c.get.ensures.value) at c.get-2.ensures in
-    let other_at : Some c.unwrap-second_row.result.now ≡ string_of (map_in c.args.rows.now) c.args.second =
-    rw (c.unwrap-second_row.ensures, c.get-3.ensures.value) at c.get-4.ensures in
-    let one = same_Some c.unwrap-first_row.result.now c.requires.one (one_at ∙ made.join-first c.args.point c.args.first c.args.second c.args.row c.args.rows.now c.args.table.now.rows c.args.kept.now c.args.stars.now c.requires) in
-    let other = same_Some c.unwrap-second_row.result.now c.requires.other (other_at ∙ made.join-second c.args.point c.args.first c.args.second c.args.row c.args.rows.now c.args.table.now.rows c.args.kept.now c.args.stars.now c.requires) in
+    let at = (goal.at.returns-clause-room g c).After-string-second_row in
+    let one = first_is g at c.requires in
+    let other = second_is g at c.requires in
     made.join-room c.args.point c.args.first c.args.second c.args.row c.args.rows.now c.args.table.now.rows c.args.kept.now c.args.stars.now c.requires
-    c.unwrap-first_row.result.now c.unwrap-second_row.result.now one other c.join_spokes.new.stars c.join_spokes.ensures.room
+    c.string-first_row.result.now c.string-second_row.result.now one other c.join_spokes.new.stars c.join_spokes.ensures.room
 
 pub returns-clause-taken : goal.returns-clause-taken
 returns-clause-taken g c = record {

@@ -1,12 +1,11 @@
-use Rattle.std.proofs.Common.{◌≡◌, ◌∙◌, sym, subst, Some}
+use Rattle.std.proofs.Common.{◌∙◌, refl, sym, subst}
+use Rattle.std.specs.Prelude.{IsSome}
 use Rattle.std.proofs.lemmas.Option.{same_Some}
 use Rattle.cad_rows.specs.declared.rows.StringRow.{StringRow}
-use Rattle.cad_map.specs.Map.{string_of}
 use Rattle.map_parts.specs.declared.edits.passing.Passing.{Passing}
 use Rattle.map_parts.specs.Passing.{CanGoThrough}
 use Rattle.map_parts.specs.Rows.{map_in}
 use Rattle.map_parts.specs.Splitting.{CanPart}
-use Rattle.map_parts.proofs.RowLists.{some-copied}
 use Rattle.map_parts.proofs.Passing.JoinUndone as undone
 use Rattle.map_parts.proofs.edits.join.unjoin.Goals as goal
 
@@ -15,15 +14,12 @@ go_through-requires g c =
     subst (λ (q : Passing). CanGoThrough q c.args.table.now.rows c.args.kept.now) (sym c.path-halves.ensures)
     (undone.undo-can c.args.joined c.args.new c.args.rows.now c.args.table.now.rows c.args.kept.now c.args.stars.now c.requires)
 
-pub unwrap-whole-requires : goal.unwrap-whole-requires
-unwrap-whole-requires g c =
-    some-copied c.get-2.result _ ((rw c.get.ensures.value at c.get-2.ensures) ∙ undone.undo-whole c.args.joined c.args.new c.args.rows.now c.args.table.now.rows c.args.kept.now c.args.stars.now c.requires)
+pub string-whole-requires : goal.string-whole-requires
+string-whole-requires g c = subst IsSome (sym (undone.undo-whole c.args.joined c.args.new c.args.rows.now c.args.table.now.rows c.args.kept.now c.args.stars.now c.requires)) refl
 
 pub part_spokes-requires : goal.part_spokes-requires
 part_spokes-requires g c =
-    let at : Some c.unwrap-whole.result.now ≡ string_of (map_in c.args.rows.now) c.args.new =
-    rw (c.unwrap-whole.ensures, c.get.ensures.value) at c.get-2.ensures in
-    let same = same_Some c.unwrap-whole.result.now _ (at ∙ undone.undo-whole c.args.joined c.args.new c.args.rows.now c.args.table.now.rows c.args.kept.now c.args.stars.now c.requires) in
+    let same = same_Some c.string-whole.result.now _ (sym c.string-whole.ensures ∙ undone.undo-whole c.args.joined c.args.new c.args.rows.now c.args.table.now.rows c.args.kept.now c.args.stars.now c.requires) in
     subst (λ (v : StringRow). CanPart v c.args.joined.first c.args.joined.second c.args.stars.now) (sym same)
     (undone.undo-part c.args.joined c.args.new c.args.rows.now c.args.table.now.rows c.args.kept.now c.args.stars.now c.requires)
 
@@ -50,14 +46,12 @@ unjoin_rows-requires-clause-first_place g c = undone.undo-first_place c.args.joi
 
 pub returns-clause-fits : goal.returns-clause-fits
 returns-clause-fits g c = λ can.
-    let at : Some c.unwrap-whole.result.now ≡ string_of (map_in c.args.rows.now) c.args.new =
-    rw (c.unwrap-whole.ensures, c.get.ensures.value) at c.get-2.ensures in
-    let same = same_Some c.unwrap-whole.result.now _ (at ∙ undone.undo-whole c.args.joined c.args.new c.args.rows.now c.args.table.now.rows c.args.kept.now c.args.stars.now can) in
+    let same = same_Some c.string-whole.result.now _ (sym c.string-whole.ensures ∙ undone.undo-whole c.args.joined c.args.new c.args.rows.now c.args.table.now.rows c.args.kept.now c.args.stars.now can) in
     record {
       rows_are = undone.undo-rows_are c.args.joined c.args.new c.args.rows.now c.args.table.now.rows c.args.kept.now c.args.stars.now can (map_in c.unjoin_rows.new.rows) c.unjoin_rows.ensures;
       fits =
           undone.undo-fits c.args.joined c.args.new c.args.rows.now c.args.table.now.rows c.args.kept.now c.args.stars.now can c.path-halves.result c.path-halves.ensures c.go_through.new.table.rows
           c.go_through.new.kept c.go_through.ensures.fits;
       are_stars =
-          undone.undo-stars c.args.joined c.args.new c.args.rows.now c.args.table.now.rows c.args.kept.now c.args.stars.now can c.unwrap-whole.result.now same c.part_spokes.new.stars c.part_spokes.ensures;
+          undone.undo-stars c.args.joined c.args.new c.args.rows.now c.args.table.now.rows c.args.kept.now c.args.stars.now can c.string-whole.result.now same c.part_spokes.new.stars c.part_spokes.ensures;
     }

@@ -1,7 +1,7 @@
-use Rattle.std.proofs.Common.{◌≡◌, ◌∙◌, sym, subst, Some}
+use Rattle.std.proofs.Common.{◌∙◌, refl, sym, subst}
+use Rattle.std.specs.Prelude.{IsSome}
 use Rattle.std.proofs.lemmas.Option.{same_Some}
 use Rattle.cad_rows.specs.declared.rows.StringRow.{StringRow}
-use Rattle.cad_map.specs.Map.{string_of}
 use Rattle.map_parts.specs.declared.edits.passing.Passing.{Passing}
 use Rattle.map_parts.specs.Passing.{CanGoThrough}
 use Rattle.map_parts.specs.Rows.{map_in}
@@ -14,11 +14,13 @@ go_through-requires g c =
     subst (λ (q : Passing). CanGoThrough q c.args.table.now.rows c.args.kept.now) (sym c.path-halves.ensures)
     (made.split-can c.args.string c.args.point c.args.first c.args.second c.args.rows.now c.args.table.now.rows c.args.kept.now c.args.stars.now c.requires)
 
+pub string-requires : goal.string-requires
+string-requires g c = subst IsSome (sym (made.split-found c.args.string c.args.point c.args.first c.args.second c.args.rows.now c.args.table.now.rows c.args.kept.now c.args.stars.now c.requires)) refl
+
 pub part_spokes-requires : goal.part_spokes-requires
 part_spokes-requires g c =
-    let at : Some c.unwrap.result.now ≡ string_of (map_in c.args.rows.now) c.args.string = rw (c.unwrap.ensures, c.get.ensures.value) at c.get-2.ensures in
     let found = made.split-found c.args.string c.args.point c.args.first c.args.second c.args.rows.now c.args.table.now.rows c.args.kept.now c.args.stars.now c.requires in
-    let same = same_Some c.unwrap.result.now c.requires.row (at ∙ found) in
+    let same = same_Some c.string.result.now c.requires.row (sym c.string.ensures ∙ found) in
     subst (λ (w : StringRow). CanPart w c.args.first c.args.second c.args.stars.now) (sym same)
     (made.split-part c.args.string c.args.point c.args.first c.args.second c.args.rows.now c.args.table.now.rows c.args.kept.now c.args.stars.now c.requires)
 
@@ -40,9 +42,8 @@ split_rows-requires-clause-differ g c =
 
 pub returns-clause-fits : goal.returns-clause-fits
 returns-clause-fits g c = λ can.
-    let at : Some c.unwrap.result.now ≡ string_of (map_in c.args.rows.now) c.args.string = rw (c.unwrap.ensures, c.get.ensures.value) at c.get-2.ensures in
     let found = made.split-found c.args.string c.args.point c.args.first c.args.second c.args.rows.now c.args.table.now.rows c.args.kept.now c.args.stars.now can in
-    let same = same_Some c.unwrap.result.now can.row (at ∙ found) in
+    let same = same_Some c.string.result.now can.row (sym c.string.ensures ∙ found) in
     record {
       rows_are =
           made.split-rows_are c.args.string c.args.point c.args.first c.args.second c.args.rows.now c.args.table.now.rows c.args.kept.now c.args.stars.now can
@@ -52,7 +53,7 @@ returns-clause-fits g c = λ can.
           c.path-halves.result c.path-halves.ensures c.go_through.new.table.rows c.go_through.new.kept c.go_through.ensures.fits;
       are_stars =
           made.split-stars c.args.string c.args.point c.args.first c.args.second c.args.rows.now c.args.table.now.rows c.args.kept.now c.args.stars.now can
-          c.unwrap.result.now same c.part_spokes.new.stars c.part_spokes.ensures;
+          c.string.result.now same c.part_spokes.new.stars c.part_spokes.ensures;
     }
 
 pub returns-clause-there : goal.returns-clause-there

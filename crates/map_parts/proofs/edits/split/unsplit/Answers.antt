@@ -2,12 +2,10 @@ use Rattle.std.proofs.Common.{refl, ◌≡◌, ◌∙◌, sym, subst, Some}
 use Rattle.std.proofs.lemmas.Option.{same_Some}
 use Rattle.std.specs.Prelude.{IsSome}
 use Rattle.cad_rows.specs.declared.rows.StringRow.{StringRow}
-use Rattle.cad_map.specs.Map.{string_of}
 use Rattle.map_parts.specs.declared.edits.passing.Passing.{Passing}
 use Rattle.map_parts.specs.Passing.{CanGoPast}
 use Rattle.map_parts.specs.Rows.{map_in}
 use Rattle.map_parts.specs.Splitting.{CanMeet}
-use Rattle.map_parts.proofs.RowLists.{some-copied}
 use Rattle.map_parts.proofs.Passing.SplitUndone as undone
 use Rattle.map_parts.proofs.edits.split.unsplit.Goals as goal
 
@@ -16,22 +14,16 @@ go_past-requires g c =
     subst (λ (q : Passing). CanGoPast q c.args.table.now.rows c.args.kept.now) (sym c.path-halves.ensures)
     (undone.undo-can c.args.row c.args.place c.args.point c.args.first c.args.second c.args.rows.now c.args.table.now.rows c.args.kept.now c.args.stars.now c.requires)
 
-pub unwrap-first_row-requires : goal.unwrap-first_row-requires
-unwrap-first_row-requires g c =
-    some-copied c.get-2.result _ ((rw c.get.ensures.value at c.get-2.ensures) ∙ undone.undo-first c.args.row c.args.place c.args.point c.args.first c.args.second c.args.rows.now c.args.table.now.rows c.args.kept.now c.args.stars.now c.requires)
+pub string-first_row-requires : goal.string-first_row-requires
+string-first_row-requires g c = subst IsSome (sym (undone.undo-first c.args.row c.args.place c.args.point c.args.first c.args.second c.args.rows.now c.args.table.now.rows c.args.kept.now c.args.stars.now c.requires)) refl
 
-pub unwrap-second_row-requires : goal.unwrap-second_row-requires
-unwrap-second_row-requires g c =
-    some-copied c.get-4.result _ ((rw c.get-3.ensures.value at c.get-4.ensures) ∙ undone.undo-second c.args.row c.args.place c.args.point c.args.first c.args.second c.args.rows.now c.args.table.now.rows c.args.kept.now c.args.stars.now c.requires)
+pub string-second_row-requires : goal.string-second_row-requires
+string-second_row-requires g c = subst IsSome (sym (undone.undo-second c.args.row c.args.place c.args.point c.args.first c.args.second c.args.rows.now c.args.table.now.rows c.args.kept.now c.args.stars.now c.requires)) refl
 
 pub join_spokes-requires : goal.join_spokes-requires
 join_spokes-requires g c =
-    let one : Some c.unwrap-first_row.result.now ≡ string_of (map_in c.args.rows.now) c.args.first =
-    rw (c.unwrap-first_row.ensures, c.get.ensures.value) at c.get-2.ensures in
-    let other : Some c.unwrap-second_row.result.now ≡ string_of (map_in c.args.rows.now) c.args.second =
-    rw (c.unwrap-second_row.ensures, c.get-3.ensures.value) at c.get-4.ensures in
-    let first = same_Some c.unwrap-first_row.result.now _ (one ∙ undone.undo-first c.args.row c.args.place c.args.point c.args.first c.args.second c.args.rows.now c.args.table.now.rows c.args.kept.now c.args.stars.now c.requires) in
-    let second = same_Some c.unwrap-second_row.result.now _ (other ∙ undone.undo-second c.args.row c.args.place c.args.point c.args.first c.args.second c.args.rows.now c.args.table.now.rows c.args.kept.now c.args.stars.now c.requires) in
+    let first = same_Some c.string-first_row.result.now _ (sym c.string-first_row.ensures ∙ undone.undo-first c.args.row c.args.place c.args.point c.args.first c.args.second c.args.rows.now c.args.table.now.rows c.args.kept.now c.args.stars.now c.requires) in
+    let second = same_Some c.string-second_row.result.now _ (sym c.string-second_row.ensures ∙ undone.undo-second c.args.row c.args.place c.args.point c.args.first c.args.second c.args.rows.now c.args.table.now.rows c.args.kept.now c.args.stars.now c.requires) in
     subst (λ (v : StringRow × StringRow). CanMeet c.args.row v.0 v.1 c.args.stars.now) (λ i. (sym first i, sym second i))
     (undone.undo-meet c.args.row c.args.place c.args.point c.args.first c.args.second c.args.rows.now c.args.table.now.rows c.args.kept.now c.args.stars.now c.requires)
 
@@ -55,18 +47,14 @@ unsplit_rows-requires-clause-place g c = undone.undo-place c.args.row c.args.pla
 
 pub returns-clause-fits : goal.returns-clause-fits
 returns-clause-fits g c = λ can.
-    let one : Some c.unwrap-first_row.result.now ≡ string_of (map_in c.args.rows.now) c.args.first =
-    rw (c.unwrap-first_row.ensures, c.get.ensures.value) at c.get-2.ensures in
-    let other : Some c.unwrap-second_row.result.now ≡ string_of (map_in c.args.rows.now) c.args.second =
-    rw (c.unwrap-second_row.ensures, c.get-3.ensures.value) at c.get-4.ensures in
-    let first = same_Some c.unwrap-first_row.result.now _ (one ∙ undone.undo-first c.args.row c.args.place c.args.point c.args.first c.args.second c.args.rows.now c.args.table.now.rows c.args.kept.now c.args.stars.now can) in
-    let second = same_Some c.unwrap-second_row.result.now _ (other ∙ undone.undo-second c.args.row c.args.place c.args.point c.args.first c.args.second c.args.rows.now c.args.table.now.rows c.args.kept.now c.args.stars.now can) in
+    let first = same_Some c.string-first_row.result.now _ (sym c.string-first_row.ensures ∙ undone.undo-first c.args.row c.args.place c.args.point c.args.first c.args.second c.args.rows.now c.args.table.now.rows c.args.kept.now c.args.stars.now can) in
+    let second = same_Some c.string-second_row.result.now _ (sym c.string-second_row.ensures ∙ undone.undo-second c.args.row c.args.place c.args.point c.args.first c.args.second c.args.rows.now c.args.table.now.rows c.args.kept.now c.args.stars.now can) in
     record {
       rows_are = undone.undo-rows_are c.args.row c.args.place c.args.point c.args.first c.args.second c.args.rows.now c.args.table.now.rows c.args.kept.now c.args.stars.now can (map_in c.unsplit_rows.new.rows) c.unsplit_rows.ensures;
       fits =
           undone.undo-fits c.args.row c.args.place c.args.point c.args.first c.args.second c.args.rows.now c.args.table.now.rows c.args.kept.now c.args.stars.now can c.path-halves.result c.path-halves.ensures c.go_past.new.table.rows
           c.go_past.new.kept c.go_past.ensures.fits;
       are_stars =
-          undone.undo-stars c.args.row c.args.place c.args.point c.args.first c.args.second c.args.rows.now c.args.table.now.rows c.args.kept.now c.args.stars.now can c.unwrap-first_row.result.now c.unwrap-second_row.result.now first second
+          undone.undo-stars c.args.row c.args.place c.args.point c.args.first c.args.second c.args.rows.now c.args.table.now.rows c.args.kept.now c.args.stars.now can c.string-first_row.result.now c.string-second_row.result.now first second
           c.join_spokes.new.stars c.join_spokes.ensures.stars;
     }
