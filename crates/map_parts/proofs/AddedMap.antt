@@ -1,6 +1,6 @@
 -- A map with strings and a parcel more, however the strings lie: what it has, what its halves are, and
 -- the map without them again.
-use Rattle.std.proofs.Common.{◌≡◌, ◌≢◌, ℕ, ◌+◌, true, sym, ap, subst, ◌∙◌, List, [], ◌∷◌, ◌++◌, map, length, None, is_some, nat_eq, arith}
+use Rattle.std.proofs.Common.{◌≡◌, ◌≢◌, ℕ, true, sym, ap, subst, ◌∙◌, List, [], ◌∷◌, ◌++◌, map, length, None, is_some, nat_eq, arith}
 use Rattle.std.specs.Prelude.{IsSome}
 use Rattle.std.specs.List.{AllByRecursion, Contains, IsDistinct}
 use Rattle.cad_rows.specs.declared.names.Face.{Face}

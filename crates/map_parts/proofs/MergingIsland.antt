@@ -1,5 +1,5 @@
 -- A merger round an island on a map on half-edges that is made in place, and taken back.
-use Rattle.std.proofs.Common.{◌≡◌, ℕ, ◌≤◌, false, refl, subst, List, ◌∷◌, length, arith}
+use Rattle.std.proofs.Common.{◌≡◌, ℕ, ◌≤◌, false, refl, subst, List, ◌∷◌, length}
 use Rattle.std.specs.List.{AllByRecursion, Contains}
 use Rattle.std.proofs.lemmas.List.Sorted.{IsPermutation-sym, Contains-permutation}
 use Rattle.cad_rows.specs.declared.names.Face.{Face}

@@ -41,3 +41,10 @@ pub record HasRoomToCome (strings : List StringRow) (face : Face) (parcel : ℕ)
 pub record HasRoomToExchange (face : Face) (parcel : ℕ) (held : Held Half) : Type 0 where
   pub inner : HasRoomAt held (face_place (Parcel parcel)) (length (items_at held (face_place face)) + 1)
   pub outer : HasRoomAt held (face_place face) (length (items_at held (face_place (Parcel parcel))) + 1)
+
+-- A point and two strings that meet there can come without memory.
+pub record HasRoomForPath (point first second : ℕ) (rows : MapRows) (stars : Held Spoke) : Type 0 where
+  pub point_slot : HasSlot rows.points point
+  pub first_slot : HasSlot rows.strings first
+  pub second_slot : HasSlot rows.strings second
+  pub star_room : HasRoomAt stars point 2

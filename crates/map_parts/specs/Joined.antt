@@ -7,7 +7,6 @@ use Rattle.cad_map.specs.Effects.{after}
 use Rattle.cad_map.specs.Map.{Map, point_of, string_of, strings_at, far_end}
 use Rattle.cad_map.specs.Table.{without_row}
 use Rattle.half_table.specs.declared.half.Half.{Half}
-use Rattle.half_table.specs.Half.{forward_of}
 use Rattle.half_table.specs.Rows.{HalfRows, next}
 use Rattle.half_paths.specs.Loose.{AreNew, AreLoose}
 use Rattle.entry_list.specs.Slots.{HasSlot}
@@ -39,29 +38,6 @@ pub record CanBePutBack (joined : JoinedRows) (rows : MapRows) : Type 0 where
   pub first_slot : HasSlot rows.strings joined.first.number
   pub second_slot : HasSlot rows.strings joined.second.number
 
--- The join at a point of the map is tried, and it has been looked that the far ends aren't joined:
--- the new string is in the table, loose, and its number has a slot.
-pub record CanJoin (point first second : ℕ) (row : StringRow) (rows : MapRows) (table : HalfRows)
-    (held : Held Half) (stars : Held Spoke) : Type 0 where
-  pub map : Map
-  pub one : StringRow
-  pub other : StringRow
-  pub tried : IsTried map (Join point row.number)
-  pub apart : FarEndsAreApart map (Join point row.number)
-  pub are : by_number (strings_at map point) ≡ one ∷ other ∷ []
-  pub first_is : one.number ≡ first
-  pub second_is : other.number ≡ second
-  pub row_is : row ≡ record {
-    number = row.number;
-    from = far_end one point;
-    to = far_end other point;
-    sources = joined_sources (one ∷ other ∷ []);
-  }
-  pub fits : FitMap map rows table held stars
-  pub there : HasHalves table row
-  pub loose : AreLoose (next table) (forward_of row.number ∷ [])
-  pub slot : HasSlot rows.strings row.number
-
 -- The map is that after a join which was tried, and the rows that it took are at hand, with their
 -- places: the strings are in the table, loose, and there is room for rows and stars.
 pub record CanUnjoin (joined : JoinedRows) (new : ℕ) (rows : MapRows) (table : HalfRows)
@@ -84,12 +60,6 @@ pub record CanUnjoin (joined : JoinedRows) (new : ℕ) (rows : MapRows) (table :
   pub first_slot : HasSlot rows.strings joined.first.number
   pub second_slot : HasSlot rows.strings joined.second.number
   pub room : HasRoomAt stars joined.point.number 2
-
--- the map with the two strings joined
-abbrev pub after_join : {point first second : ℕ} {row : StringRow} {rows : MapRows}
-    {table : HalfRows} {held : Held Half} {stars : Held Spoke}
-    → CanJoin point first second row rows table held stars → Map
-after_join {point} {first} {second} {row} can = after can.map (Join point row.number)
 
 -- The join at a point of the map is tried, and it has been looked that the far ends aren't joined:
 -- the table hasn't the new string yet.

@@ -61,26 +61,6 @@ pub record FitMap (m : Map) (rows : MapRows) (table : HalfRows) (held : Held Hal
   pub fits : FitTable m table held
   pub are_stars : AreStarsOf m.strings stars
 
--- The split of a string of the map is tried, with the rows that it brings: the strings are in the
--- table, loose, and there is room for rows and stars.
-pub record CanSplit (string : ℕ) (point : PointRow) (first second : StringRow) (rows : MapRows)
-    (table : HalfRows) (held : Held Half) (stars : Held Spoke) : Type 0 where
-  pub map : Map
-  pub row : StringRow
-  pub tried : IsTried map (Split string point.number point.position.x point.position.y first.number second.number)
-  pub found : string_of map string ≡ Some row
-  pub no_sources : point.sources ≡ []
-  pub first_is : first ≡ record { number = first.number; from = row.from; to = point.number; sources = row.sources }
-  pub second_is : second ≡ record { number = second.number; from = point.number; to = row.to; sources = row.sources }
-  pub fits : FitMap map rows table held stars
-  pub first_there : HasHalves table first
-  pub second_there : HasHalves table second
-  pub loose : AreLoose (next table) (forward_of first.number ∷ forward_of second.number ∷ [])
-  pub point_slot : HasSlot rows.points point.number
-  pub first_slot : HasSlot rows.strings first.number
-  pub second_slot : HasSlot rows.strings second.number
-  pub room : HasRoomAt stars point.number 2
-
 -- The map is that after a split which was tried, and the row of the string that was split, with its
 -- place, is at hand: the string is in the table, loose, and its number has a slot.
 pub record CanUnsplit (row : StringRow) (place point first second : ℕ) (rows : MapRows)
@@ -94,13 +74,6 @@ pub record CanUnsplit (row : StringRow) (place point first second : ℕ) (rows :
   pub there : HasHalves table row
   pub loose : AreLoose (next table) (forward_of row.number ∷ [])
   pub slot : HasSlot rows.strings row.number
-
--- the map with the string split
-abbrev pub after_split : {string : ℕ} {point : PointRow} {first second : StringRow} {rows : MapRows}
-    {table : HalfRows} {held : Held Half} {stars : Held Spoke}
-    → CanSplit string point first second rows table held stars → Map
-after_split {string} {point} {first} {second} can =
-    after can.map (Split string point.number point.position.x point.position.y first.number second.number)
 
 -- The split of a string of the map is tried, with the rows that it brings: the table has none of the
 -- two strings yet.

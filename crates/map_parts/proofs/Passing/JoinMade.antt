@@ -25,7 +25,8 @@ use Rattle.map_parts.specs.Rows.{map_in}
 use Rattle.map_parts.specs.Parts.{HasHalves}
 use Rattle.map_parts.specs.Passing.{HasBetween, FitTable, CanGoPast, path_at}
 use Rattle.map_parts.specs.Splitting.{Connects, CanMeet, AreStarsOf}
-use Rattle.map_parts.specs.Joined.{CanJoin, after_join}
+use Rattle.map_parts.specs.Joined.{CanBeginJoin}
+use Rattle.map_parts.proofs.Passing.Begun.{IsStringReady}
 use Rattle.map_parts.proofs.Passing.Between as between
 use Rattle.map_parts.proofs.Passing.JoinBetween as made
 use Rattle.map_parts.proofs.Passing.StarsChanged.{stars-permuted}
@@ -113,8 +114,13 @@ two-out m p new s t tried are apart =
         by true e = at_end e ∙ ap not (sym e)
         by false e = elsewhere e ∙ ap not (sym e)
 
-module _ (p first second : ℕ) (row : StringRow) (rows : MapRows) (table : HalfRows) (held : Held Half)
-    (stars : Held Spoke) (can : CanJoin p first second row rows table held stars) where
+-- the map with the two strings joined
+abbrev after_join : {p first second : ℕ} {row : StringRow} {rows : MapRows} {table : HalfRows} {held : Held Half} {stars : Held Spoke}
+    → CanBeginJoin p first second row rows table held stars → Map
+after_join {p} {first} {second} {row} can = after can.map (Join p row.number)
+
+module _ {p first second : ℕ} {row : StringRow} {before : MapRows} {old : HalfRows} {held : Held Half} {stars : Held Spoke}
+    (can : CanBeginJoin p first second row before old held stars) {rows : MapRows} {table : HalfRows} (ready : IsStringReady can.map row rows table held stars) where
   abbrev m : Map
   m = can.map
 
@@ -135,9 +141,9 @@ module _ (p first second : ℕ) (row : StringRow) (rows : MapRows) (table : Half
     a = far_end s p;
     b = far_end t p;
     between = it;
-    fits = can.fits.fits;
-    whole_there = subst (HasHalves table) can.row_is can.there;
-    loose = can.loose;
+    fits = ready.fits.fits;
+    whole_there = subst (HasHalves table) can.row_is ready.there;
+    loose = ready.loose;
   }
 
   pub join-fits : (q : Passing) → q ≡ path_at p s t row.number → (new : HalfRows) → (put : Held Half)
@@ -148,12 +154,12 @@ module _ (p first second : ℕ) (row : StringRow) (rows : MapRows) (table : Half
 
   pub join-first : string_of (map_in rows) first ≡ Some s
   join-first =
-      ap (λ (q : Map). string_of q first) can.fits.rows_are ∙ ap (string_of m) (sym can.first_is)
+      ap (λ (q : Map). string_of q first) ready.fits.rows_are ∙ ap (string_of m) (sym can.first_is)
       ∙ made.join-found_first m p row.number s t can.tried can.are can.apart
 
   pub join-second : string_of (map_in rows) second ≡ Some t
   join-second =
-      ap (λ (q : Map). string_of q second) can.fits.rows_are ∙ ap (string_of m) (sym can.second_is)
+      ap (λ (q : Map). string_of q second) ready.fits.rows_are ∙ ap (string_of m) (sym can.second_is)
       ∙ made.join-found_second m p row.number s t can.tried can.are can.apart
 
   pub join-differ : first ≢ second
@@ -162,12 +168,12 @@ module _ (p first second : ℕ) (row : StringRow) (rows : MapRows) (table : Half
 
   pub join-absent : string_of (map_in rows) row.number ≡ None
   join-absent =
-      ap (λ (q : Map). string_of q row.number) can.fits.rows_are
+      ap (λ (q : Map). string_of q row.number) ready.fits.rows_are
       ∙ made.join-free m p row.number s t can.tried can.are can.apart
 
   pub join-point : IsSome (point_of (map_in rows) p)
   join-point =
-      ap (λ (q : Map). is_some (point_of q p)) can.fits.rows_are
+      ap (λ (q : Map). is_some (point_of q p)) ready.fits.rows_are
       ∙ made.join-point_there m p row.number s t can.tried can.are can.apart
 
   abbrev pub join-meet : CanMeet row s t stars
@@ -181,7 +187,7 @@ module _ (p first second : ℕ) (row : StringRow) (rows : MapRows) (table : Half
       record {
         strings = m.strings;
         left = made.others m p row.number s t can.tried can.are can.apart;
-        are = can.fits.are_stars;
+        are = ready.fits.are_stars;
         parts = made.join-before m p row.number s t can.tried can.are can.apart;
         point = p;
         two = λ e. it.joined.apart (sym from ∙ e ∙ to);
@@ -197,10 +203,10 @@ module _ (p first second : ℕ) (row : StringRow) (rows : MapRows) (table : Half
       → AreStarsOf (row ∷ left) new) → AreStarsOf (after_join can).strings new
   join-stars one other one_is other_is new each =
       let rest = made.others m p row.number s t can.tried can.are can.apart in
-      let before = made.join-before m p row.number s t can.tried can.are can.apart in
+      let parts = made.join-before m p row.number s t can.tried can.are can.apart in
       let now =
-      each m.strings rest can.fits.are_stars
-      (subst (λ (w : StringRow × StringRow). IsPermutation m.strings (w.0 ∷ w.1 ∷ rest)) (λ i. (sym one_is i, sym other_is i)) before) in
+      each m.strings rest ready.fits.are_stars
+      (subst (λ (w : StringRow × StringRow). IsPermutation m.strings (w.0 ∷ w.1 ∷ rest)) (λ i. (sym one_is i, sym other_is i)) parts) in
       stars-permuted (after_join can).strings (row ∷ rest) new
       (subst (λ (w : StringRow). IsPermutation (after_join can).strings (w ∷ rest)) (sym can.row_is)
       (made.join-after m p row.number s t can.tried can.are can.apart)) now
@@ -235,7 +241,7 @@ module _ (p first second : ℕ) (row : StringRow) (rows : MapRows) (table : Half
         points = without_row (λ (r : PointRow). r.number) p q.points;
         strings = without_row (λ (r : StringRow). r.number) second
             (without_row (λ (r : StringRow). r.number) first q.strings) ++ row ∷ [];
-      }) can.fits.rows_are
+      }) ready.fits.rows_are
       ∙ (λ i. record {
         sources = sym others-are.0 i;
         points = sym others-are.3 i;
@@ -250,8 +256,8 @@ module _ (p first second : ℕ) (row : StringRow) (rows : MapRows) (table : Half
       → ((h : Half) → has new h ≡ has table h) → ((h : Half) → origin_of new h ≡ origin_of table h)
       → HasHalves new r
   join-whole n r found new stays begins =
-      let among = (find-Contains (λ (q : StringRow). q.number == n) m.strings r (sym (ap (λ (q : Map). string_of q n) can.fits.rows_are) ∙ found)).0 in
-      let e = All-at_each (HasHalves table) m.strings r can.fits.fits.ends among in
+      let among = (find-Contains (λ (q : StringRow). q.number == n) m.strings r (sym (ap (λ (q : Map). string_of q n) ready.fits.rows_are) ∙ found)).0 in
+      let e = All-at_each (HasHalves table) m.strings r ready.fits.fits.ends among in
       record {
         there = stays (forward_of r.number) ∙ e.there;
         back = stays (backward_of r.number) ∙ e.back;

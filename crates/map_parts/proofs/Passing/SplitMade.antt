@@ -1,5 +1,5 @@
 -- A split of a map on half-edges that is made in place.
-use Rattle.std.proofs.Common.{◌≡◌, ◌≢◌, ℕ, inl, inr, sym, ap, subst, ◌∙◌, List, [], ◌∷◌, ◌++◌, append_assoc, Option, Some, None}
+use Rattle.std.proofs.Common.{◌≡◌, ◌≢◌, ℕ, inl, inr, sym, ap, subst, ◌∙◌, List, [], ◌∷◌, ◌++◌, append_assoc, true, Option, Some, None}
 use Rattle.std.specs.Prelude.{IsPermutation, option_map, unwrap_or}
 use Rattle.std.specs.List.{Contains}
 use Rattle.std.proofs.lemmas.Option.{same_Some}
@@ -15,14 +15,15 @@ use Rattle.cad_map.proofs.CallerLemmas.{All-at_each, allowed, free-split}
 use Rattle.half_table.specs.declared.half.Half.{Half}
 use Rattle.half_table.specs.Half.{forward_of, backward_of}
 use Rattle.half_table.specs.Rows.{HalfRows, has, origin_of}
-use Rattle.key_lists.specs.Held.{Held}
+use Rattle.key_lists.specs.Held.{Held, HasRoomAt}
 use Rattle.map_parts.specs.declared.edits.passing.Passing.{Passing}
 use Rattle.map_parts.specs.declared.map_rows.MapRows.{MapRows}
 use Rattle.map_parts.specs.declared.stars.Spoke.{Spoke}
 use Rattle.map_parts.specs.Rows.{map_in}
 use Rattle.map_parts.specs.Parts.{HasHalves}
 use Rattle.map_parts.specs.Passing.{HasBetween, FitTable, CanGoThrough, path_of}
-use Rattle.map_parts.specs.Splitting.{CanSplit, CanPart, AreStarsOf, after_split}
+use Rattle.map_parts.specs.Splitting.{CanBeginSplit, CanPart, AreStarsOf}
+use Rattle.map_parts.proofs.Passing.Begun.{IsPathReady}
 use Rattle.map_parts.proofs.Passing.Between as between
 use Rattle.map_parts.proofs.Passing.SplitBetween as made
 use Rattle.map_parts.proofs.Passing.StarsChanged.{stars-permuted}
@@ -55,8 +56,20 @@ split-rows m string point first second row found number none first_is second_is 
     split m row point.number point.position.x point.position.y first.number second.number) o) m) { boundaries = [] })
     (sym found)
 
-module _ (string : ℕ) (point : PointRow) (first second : StringRow) (rows : MapRows) (table : HalfRows)
-    (held : Held Half) (stars : Held Spoke) (can : CanSplit string point first second rows table held stars) where
+-- the map with the string split
+abbrev after_split : {string : ℕ} {point : PointRow} {first second : StringRow} {rows : MapRows} {table : HalfRows} {held : Held Half} {stars : Held Spoke}
+    → CanBeginSplit string point first second rows table held stars → Map
+after_split {string} {point} {first} {second} can =
+    after can.map (Split string point.number point.position.x point.position.y first.number second.number)
+
+module _ {string : ℕ} {point : PointRow} {first second : StringRow} {before : MapRows} {old : HalfRows} {held : Held Half} {narrow : Held Spoke}
+    (can : CanBeginSplit string point first second before old held narrow) where
+  pub split-differ : first.number ≢ second.number
+  split-differ = made.split-two can.map string point.number point.position.x point.position.y first.number second.number can.row can.tried can.found
+
+module _ {string : ℕ} {point : PointRow} {first second : StringRow} {before : MapRows} {old : HalfRows} {held : Held Half} {narrow : Held Spoke}
+    (can : CanBeginSplit string point first second before old held narrow) {rows : MapRows} {table : HalfRows} {stars : Held Spoke}
+    (ready : IsPathReady can.map first second true true rows table held stars) where
   abbrev m : Map
   m = can.map
 
@@ -77,10 +90,10 @@ module _ (string : ℕ) (point : PointRow) (first second : StringRow) (rows : Ma
     a = row.from;
     b = row.to;
     between = it;
-    fits = can.fits.fits;
-    first_there = subst (HasHalves table) can.first_is can.first_there;
-    second_there = subst (HasHalves table) can.second_is can.second_there;
-    loose = can.loose;
+    fits = ready.fits.fits;
+    first_there = subst (HasHalves table) can.first_is ready.first_there;
+    second_there = subst (HasHalves table) can.second_is ready.second_there;
+    loose = ready.loose;
   }
 
   -- what holds of that path holds of the halves that are it
@@ -97,13 +110,13 @@ module _ (string : ℕ) (point : PointRow) (first second : StringRow) (rows : Ma
   two : row.from ≢ row.to
   two = All-at_each (λ (s : StringRow). s.from ≢ s.to) m.strings row can.tried.valid.sound.v2 there
 
-  pub split-part : CanPart row first second stars
-  split-part =
+  pub split-part : HasRoomAt stars p 2 → CanPart row first second stars
+  split-part room =
       let a-p = between.a-p (after_split can) m p row.from row.to (path_of string first.number second.number) it in
       let b-p = between.b-p (after_split can) m p row.from row.to (path_of string first.number second.number) it in
       record {
         strings = m.strings;
-        are = can.fits.are_stars;
+        are = ready.fits.are_stars;
         there = there;
         two = two;
         point = p;
@@ -111,16 +124,16 @@ module _ (string : ℕ) (point : PointRow) (first second : StringRow) (rows : Ma
         to_apart = b-p;
         before = inl (ap (λ (s : StringRow). s.from) can.first_is, ap (λ (s : StringRow). s.to) can.first_is);
         behind = inr (ap (λ (s : StringRow). s.from) can.second_is, ap (λ (s : StringRow). s.to) can.second_is);
-        room = can.room;
+        room = room;
       }
 
   -- the row that is found
   pub split-found : string_of (map_in rows) string ≡ Some row
-  split-found = ap (λ (q : Map). string_of q string) can.fits.rows_are ∙ can.found
+  split-found = ap (λ (q : Map). string_of q string) ready.fits.rows_are ∙ can.found
 
   pub split-no_point : point_of (map_in rows) p ≡ None
   split-no_point =
-      ap (λ (q : Map). point_of q p) can.fits.rows_are
+      ap (λ (q : Map). point_of q p) ready.fits.rows_are
       ∙ (free-split m string p point.position.x point.position.y first.number second.number
       (allowed m (Split string p point.position.x point.position.y first.number second.number) can.tried.allowed).taken).0
 
@@ -128,13 +141,10 @@ module _ (string : ℕ) (point : PointRow) (first second : StringRow) (rows : Ma
   free = made.split-free m string p point.position.x point.position.y first.number second.number row can.tried can.found
 
   pub split-no_first : string_of (map_in rows) first.number ≡ None
-  split-no_first = ap (λ (q : Map). string_of q first.number) can.fits.rows_are ∙ free.0
+  split-no_first = ap (λ (q : Map). string_of q first.number) ready.fits.rows_are ∙ free.0
 
   pub split-no_second : string_of (map_in rows) second.number ≡ None
-  split-no_second = ap (λ (q : Map). string_of q second.number) can.fits.rows_are ∙ free.1
-
-  pub split-differ : first.number ≢ second.number
-  split-differ = made.split-two m string p point.position.x point.position.y first.number second.number row can.tried can.found
+  split-no_second = ap (λ (q : Map). string_of q second.number) ready.fits.rows_are ∙ free.1
 
   number : row.number ≡ string
   number = made.split-number m string p point.position.x point.position.y first.number second.number row can.tried can.found
@@ -145,8 +155,8 @@ module _ (string : ℕ) (point : PointRow) (first second : StringRow) (rows : Ma
       → AreStarsOf (second ∷ first ∷ left) new) → AreStarsOf (after_split can).strings new
   split-stars whole is new each =
       let rest = without_row (λ (r : StringRow). r.number) string m.strings in
-      let before = made.split-before m string p point.position.x point.position.y first.number second.number row can.tried can.found in
-      let now = each m.strings rest can.fits.are_stars (subst (λ (w : StringRow). IsPermutation m.strings (w ∷ rest)) (sym is) before) in
+      let parts = made.split-before m string p point.position.x point.position.y first.number second.number row can.tried can.found in
+      let now = each m.strings rest ready.fits.are_stars (subst (λ (w : StringRow). IsPermutation m.strings (w ∷ rest)) (sym is) parts) in
       let after_it : IsPermutation (after_split can).strings (first ∷ second ∷ rest) =
       subst (λ (t : StringRow × StringRow). IsPermutation (after_split can).strings (t.0 ∷ t.1 ∷ rest))
       (λ i. (sym can.first_is i, sym can.second_is i))
@@ -160,7 +170,7 @@ module _ (string : ℕ) (point : PointRow) (first second : StringRow) (rows : Ma
     strings = (without_row (λ (r : StringRow). r.number) string (map_in rows).strings ++ first ∷ []) ++ second ∷ [];
   } → new ≡ record (after_split can) { boundaries = [] }
   split-rows_are new is =
-      is ∙ split-rows m string point first second row can.found number can.no_sources can.first_is can.second_is (map_in rows) can.fits.rows_are
+      is ∙ split-rows m string point first second row can.found number can.no_sources can.first_is can.second_is (map_in rows) ready.fits.rows_are
 
   -- the string that was split is whole in the table still
   pub split-whole : (whole : StringRow) → string_of (map_in rows) string ≡ Some whole → (new : HalfRows)
@@ -168,7 +178,7 @@ module _ (string : ℕ) (point : PointRow) (first second : StringRow) (rows : Ma
       → HasHalves new whole
   split-whole whole is new stays begins =
       let same = same_Some row whole (sym split-found ∙ is) in
-      let e = All-at_each (HasHalves table) m.strings row can.fits.fits.ends there in
+      let e = All-at_each (HasHalves table) m.strings row ready.fits.fits.ends there in
       subst (HasHalves new) same (record {
         there = stays (forward_of row.number) ∙ e.there;
         back = stays (backward_of row.number) ∙ e.back;

@@ -1,25 +1,29 @@
-//! Two strings joined at a point, and the join taken back, in place.
-ghost use Rattle.std.specs.Prelude.{◌≡◌, ◌≢◌, ◌≤◌, ◌+◌, ◌++◌, ◌∷◌, ◌==◌, [], not, Some, None, IsSome, length, insert, slice_get};
+//! Two strings joined at a point, with the room that it takes, and the join taken back, in place.
+ghost use Rattle.std.specs.Prelude.{◌≡◌, ◌≢◌, ◌≤◌, ◌+◌, ◌++◌, ◌∷◌, ◌==◌, [], ℕ, true, not, Some, None, IsSome, length, insert, slice_get};
+ghost use Rattle.std.specs.Prelude.{if◌then◌else◌, OnErr, IfOk, OnOk};
 ghost use Rattle.half_table.specs.declared.half.Half.{Half as HalfOf};
 ghost use Rattle.half_table.specs.Count.{ticked};
 ghost use Rattle.half_table.specs.Half.{half_of, twin, forward_of, backward_of};
 ghost use Rattle.half_table.specs.Rows.{next, has, origin_of, strings, cycle};
-ghost use Rattle.half_paths.specs.Loose.{AreLoose};
+ghost use Rattle.half_paths.specs.Loose.{AreLoose, is_of};
 ghost use Rattle.entry_list.specs.Slots.{HasSlot};
 ghost use Rattle.key_lists.specs.Held.{HasRoomAt};
+ghost use Rattle.cad_map.specs.Effects.{after};
 ghost use Rattle.cad_map.specs.Map.{point_of, string_of};
 ghost use Rattle.cad_map.specs.Table.{without_row};
-ghost use Rattle.map_parts.specs.Joined.{CanBePutBack, CanJoin, CanUnjoin, HaveJoined, after_join};
+ghost use Rattle.cad_rows.specs.declared.edits.Edit.TheVariants.{Join};
+ghost use Rattle.map_parts.specs.Joined.{CanBePutBack, CanBeginJoin, CanBeginUnjoin, CanUnjoin, HaveJoined};
 ghost use Rattle.map_parts.specs.Parts.{HasHalves};
 ghost use Rattle.map_parts.specs.Passing.{path_at};
 ghost use Rattle.map_parts.specs.Rows.{map_in};
 ghost use Rattle.map_parts.specs.Splitting.{FitMap};
 
 use crate::edits::passing::{Passing, go_past, go_through};
+use crate::edits::rooms::{add_path, add_string};
 use crate::edits::spokes::{join_spokes, part_spokes};
 use crate::map_rows::MapRows;
 use crate::stars::Spoke;
-use cad_rows::{PointNo, PointRow, StringNo, StringRow};
+use cad_rows::{Memory, PointNo, PointRow, StringNo, StringRow};
 use half_table::{Half, HalfTable, Tally};
 use key_lists::KeyLists;
 
@@ -113,11 +117,15 @@ fn join_rows(
     }
 }
 
-/// Joins the two strings that end at a point, the lower-numbered first, into one whose row it is
-/// given, and gives the rows that go, with their places. The two strings are loose in the table
-/// then. It takes no memory, and time by the two rings through the point, by the rings of their
-/// faces, and by the strings at the three points.
-pub(crate) fn join<T: Tally>(
+/// Joins the two strings that end at a point, the lower-numbered first, with the room that it takes,
+/// and gives the rows that go, with their places. The two strings stay in the table, loose. It takes
+/// time by the two rings through the point, by the rings of their faces, and by the strings at the
+/// three points.
+///
+/// # Errors
+///
+/// Where memory runs out the map stays, and so does the table.
+pub fn begin_join<T: Tally>(
     rows: &mut MapRows,
     table: &mut HalfTable<T>,
     kept: &mut KeyLists<Half>,
@@ -126,30 +134,35 @@ pub(crate) fn join<T: Tally>(
     first: StringNo,
     second: StringNo,
     row: StringRow,
-) -> JoinedRows
-    requires { CanJoin point first second row rows.old table.old.rows kept.old stars.old }
-    ensures fits { (can : CanJoin point first second row rows.old table.old.rows kept.old stars.old)
-        → FitMap (after_join can) rows.new table.new.rows kept.new stars.new }
-    ensures taken { HaveJoined (map_in rows.old) point first second result }
-    ensures slots { CanBePutBack result rows.new }
-    ensures room { HasRoomAt stars.new point 2 }
-    ensures first_there { HasHalves table.new.rows result.first }
-    ensures second_there { HasHalves table.new.rows result.second }
-    ensures loose { AreLoose (next table.new.rows)
-        ((path_at point result.first result.second row.number).first
-        ∷ (path_at point result.first result.second row.number).second ∷ []) }
-    ensures has { (h : HalfOf) → has table.new.rows h ≡ has table.old.rows h }
-    ensures origin { (h : HalfOf) → origin_of table.new.rows h ≡ origin_of table.old.rows h }
-    ensures strings { strings table.new.rows ≡ strings table.old.rows }
-    ensures work { table.new.work ≡ ticked (length (cycle table.new.rows (forward_of row.number))
-        + length (cycle table.new.rows (backward_of row.number)) + 5) table.old.work }
+) -> Result<JoinedRows, Memory>
+    requires { CanBeginJoin point first second row rows.old table.old.rows kept.old stars.old }
+    ensures fits { (can : CanBeginJoin point first second row rows.old table.old.rows kept.old stars.old)
+        → OnOk result (FitMap (after can.map (Join point row.number))
+        rows.new table.new.rows kept.new stars.new) }
+    ensures err { (can : CanBeginJoin point first second row rows.old table.old.rows kept.old stars.old)
+        → OnErr result (FitMap can.map rows.new table.new.rows kept.new stars.new) }
+    ensures err_table { OnErr result (table.new ≡ table.old) }
+    ensures taken { IfOk result (HaveJoined (map_in rows.old) point first second) }
+    ensures slots { IfOk result (λ r. CanBePutBack r rows.new) }
+    ensures room { OnOk result (HasRoomAt stars.new point 2) }
+    ensures first_there { IfOk result (λ r. HasHalves table.new.rows r.first) }
+    ensures second_there { IfOk result (λ r. HasHalves table.new.rows r.second) }
+    ensures loose { IfOk result (λ r. AreLoose (next table.new.rows)
+        ((path_at point r.first r.second row.number).first
+        ∷ (path_at point r.first r.second row.number).second ∷ [])) }
+    ensures has { OnOk result ((h : HalfOf) → has table.new.rows h
+        ≡ (if is_of (row.number ∷ []) h then true else has table.old.rows h)) }
+    ensures work { OnOk result (table.new.work
+        ≡ ticked (1 + (length (cycle table.new.rows (forward_of row.number))
+        + length (cycle table.new.rows (backward_of row.number)) + 5)) table.old.work) }
 {
+    add_string(rows, table, &row)?;
     let first_row = rows.string(first);
     let second_row = rows.string(second);
     let halves = path(first_row, second_row, &point, &row.number);
     go_past(table, kept, &halves);
     join_spokes(stars, &row, first_row, second_row);
-    join_rows(rows, point, first, second, row)
+    Ok(join_rows(rows, point, first, second, row))
 }
 
 // The row of a string out, and those of two strings and of a point in at their places.
@@ -214,4 +227,41 @@ pub fn unjoin<T: Tally>(
     let whole = rows.string(new);
     part_spokes(stars, whole, &joined.first, &joined.second);
     unjoin_rows(rows, joined, new);
+}
+
+/// Takes a join back, with the room that it takes. The new string stays in the table, loose.
+///
+/// # Errors
+///
+/// Where memory runs out the map stays, and the table has the strings that it had.
+pub fn begin_unjoin<T: Tally>(
+    rows: &mut MapRows,
+    table: &mut HalfTable<T>,
+    kept: &mut KeyLists<Half>,
+    stars: &mut KeyLists<Spoke>,
+    joined: JoinedRows,
+    string: StringNo,
+) -> Result<(), Memory>
+    requires { CanBeginUnjoin joined string rows.old table.old.rows kept.old stars.old }
+    ensures fits { (can : CanBeginUnjoin joined string rows.old table.old.rows kept.old stars.old)
+        → OnOk result (FitMap can.map rows.new table.new.rows kept.new stars.new) }
+    ensures err { (can : CanBeginUnjoin joined string rows.old table.old.rows kept.old stars.old)
+        → OnErr result (FitMap (after can.map (Join joined.point.number string))
+        rows.new table.new.rows kept.new stars.new) }
+    ensures err_table { OnErr result (table.new.rows ≡ table.old.rows) }
+    ensures err_work { OnErr result ((count : ℕ) × (count ≤ 2)
+        × (table.new.work ≡ ticked count table.old.work)) }
+    ensures loose { OnOk result (AreLoose (next table.new.rows) (forward_of string ∷ [])) }
+    ensures has { OnOk result ((h : HalfOf) → has table.new.rows h
+        ≡ (if is_of (joined.first.number ∷ joined.second.number ∷ []) h then true
+        else has table.old.rows h)) }
+    ensures work { let path = path_at joined.point.number joined.first joined.second string in
+        OnOk result (table.new.work ≡ ticked (2 + (length (cycle table.new.rows path.first)
+        + length (cycle table.new.rows (twin path.second)) + 5)) table.old.work) }
+{
+    let first = &joined.first;
+    let second = &joined.second;
+    add_path(rows, table, stars, joined.point.number, first, second)?;
+    unjoin(rows, table, kept, stars, joined, string);
+    Ok(())
 }

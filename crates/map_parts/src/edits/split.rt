@@ -1,23 +1,27 @@
-//! A string split at a new point, and the split taken back, in place.
-ghost use Rattle.std.specs.Prelude.{◌≡◌, ◌≢◌, ◌+◌, ◌++◌, ◌∷◌, [], Some, None, IsSome, ◌≤◌, length, insert, slice_get};
+//! A string split at a new point, with the room that it takes, and the split taken back, in place.
+ghost use Rattle.std.specs.Prelude.{◌≡◌, ◌≢◌, ◌+◌, ◌++◌, ◌∷◌, [], ℕ, true, Some, None, IsSome, ◌≤◌, length, insert, slice_get};
+ghost use Rattle.std.specs.Prelude.{if◌then◌else◌, OnErr, IfOk, OnOk};
 ghost use Rattle.half_table.specs.declared.half.Half.{Half as HalfOf};
 ghost use Rattle.half_table.specs.Count.{ticked};
 ghost use Rattle.half_table.specs.Half.{forward_of, backward_of};
 ghost use Rattle.half_table.specs.Rows.{next, has, origin_of, strings, cycle};
-ghost use Rattle.half_paths.specs.Loose.{AreLoose};
+ghost use Rattle.half_paths.specs.Loose.{AreLoose, is_of};
 ghost use Rattle.entry_list.specs.Slots.{HasSlot};
+ghost use Rattle.cad_map.specs.Effects.{after};
 ghost use Rattle.cad_map.specs.Map.{point_of, string_of};
 ghost use Rattle.cad_map.specs.Table.{without_row};
+ghost use Rattle.cad_rows.specs.declared.edits.Edit.TheVariants.{Split};
 ghost use Rattle.map_parts.specs.Parts.{HasHalves};
 ghost use Rattle.map_parts.specs.Passing.{path_of};
 ghost use Rattle.map_parts.specs.Rows.{map_in};
-ghost use Rattle.map_parts.specs.Splitting.{CanSplit, CanUnsplit, FitMap, after_split};
+ghost use Rattle.map_parts.specs.Splitting.{CanBeginSplit, CanBeginUnsplit, CanUnsplit, FitMap};
 
 use crate::edits::passing::{Passing, go_past, go_through};
+use crate::edits::rooms::{add_path, add_string};
 use crate::edits::spokes::{join_spokes, part_spokes};
 use crate::map_rows::MapRows;
 use crate::stars::Spoke;
-use cad_rows::{PointNo, PointRow, StringNo, StringRow};
+use cad_rows::{Memory, PointNo, PointRow, StringNo, StringRow};
 use half_table::{Half, HalfTable, Tally};
 use key_lists::KeyLists;
 
@@ -73,11 +77,14 @@ fn split_rows(
     taken
 }
 
-/// Splits a string at a new point, whose row and the rows of whose two strings it is given, and
-/// gives the string's row with its place. The string is loose in the table then. It takes no
-/// memory, and time by the two rings through the point, by the rings of their faces, and by the
-/// strings at the string's ends.
-pub(crate) fn split<T: Tally>(
+/// Splits a string at a new point, with the room that it takes, and gives the string's row with its
+/// place. The string stays in the table, loose. It takes time by the two rings through the point, by
+/// the rings of their faces, and by the strings at the string's ends.
+///
+/// # Errors
+///
+/// Where memory runs out the map stays, and the table has the strings that it had.
+pub fn begin_split<T: Tally>(
     rows: &mut MapRows,
     table: &mut HalfTable<T>,
     kept: &mut KeyLists<Half>,
@@ -86,25 +93,33 @@ pub(crate) fn split<T: Tally>(
     point: PointRow,
     first: StringRow,
     second: StringRow,
-) -> (usize, StringRow)
-    requires { CanSplit string point first second rows.old table.old.rows kept.old stars.old }
-    ensures fits { (can : CanSplit string point first second rows.old table.old.rows kept.old stars.old)
-        → FitMap (after_split can) rows.new table.new.rows kept.new stars.new }
-    ensures row { slice_get (map_in rows.old).strings result.0 ≡ Some result.1 }
-    ensures found { string_of (map_in rows.old) string ≡ Some result.1 }
-    ensures slot { HasSlot rows.new.strings result.1.number }
-    ensures there { HasHalves table.new.rows result.1 }
-    ensures loose { AreLoose (next table.new.rows) (forward_of string ∷ []) }
-    ensures has { (h : HalfOf) → has table.new.rows h ≡ has table.old.rows h }
-    ensures origin { (h : HalfOf) → origin_of table.new.rows h ≡ origin_of table.old.rows h }
-    ensures strings { strings table.new.rows ≡ strings table.old.rows }
-    ensures work { table.new.work ≡ ticked (length (cycle table.new.rows (forward_of first.number))
-        + length (cycle table.new.rows (backward_of second.number)) + 5) table.old.work }
+) -> Result<(usize, StringRow), Memory>
+    requires { CanBeginSplit string point first second rows.old table.old.rows kept.old stars.old }
+    ensures fits { (can : CanBeginSplit string point first second rows.old table.old.rows kept.old
+        stars.old) → OnOk result (FitMap (after can.map (Split string point.number
+        point.position.x point.position.y first.number second.number))
+        rows.new table.new.rows kept.new stars.new) }
+    ensures err { (can : CanBeginSplit string point first second rows.old table.old.rows kept.old
+        stars.old) → OnErr result (FitMap can.map rows.new table.new.rows kept.new stars.new) }
+    ensures err_table { OnErr result (table.new.rows ≡ table.old.rows) }
+    ensures row { IfOk result (λ r. slice_get (map_in rows.old).strings r.0 ≡ Some r.1) }
+    ensures found { IfOk result (λ r. string_of (map_in rows.old) string ≡ Some r.1) }
+    ensures slot { IfOk result (λ r. HasSlot rows.new.strings r.1.number) }
+    ensures there { IfOk result (λ r. HasHalves table.new.rows r.1) }
+    ensures loose { OnOk result (AreLoose (next table.new.rows) (forward_of string ∷ [])) }
+    ensures has { OnOk result ((h : HalfOf) → has table.new.rows h
+        ≡ (if is_of (first.number ∷ second.number ∷ []) h then true else has table.old.rows h)) }
+    ensures work { OnOk result (table.new.work
+        ≡ ticked (2 + (length (cycle table.new.rows (forward_of first.number))
+        + length (cycle table.new.rows (backward_of second.number)) + 5)) table.old.work) }
+    ensures err_work { OnErr result ((count : ℕ) × (count ≤ 2)
+        × (table.new.work ≡ ticked count table.old.work)) }
 {
+    add_path(rows, table, stars, point.number, &first, &second)?;
     let halves = path(&string, &first.number, &second.number);
     go_through(table, kept, &halves);
     part_spokes(stars, rows.string(string), &first, &second);
-    split_rows(rows, string, point, first, second)
+    Ok(split_rows(rows, string, point, first, second))
 }
 
 // The rows of a point and of two strings out, and that of a string in at its place.
@@ -166,4 +181,44 @@ pub fn unsplit<T: Tally>(
     let second_row = rows.string(second);
     join_spokes(stars, &row, first_row, second_row);
     unsplit_rows(rows, row, place, point, first, second);
+}
+
+/// Takes a split back, with the room that it takes: puts the string in at its place again. The two
+/// strings that the split brought stay in the table, loose.
+///
+/// # Errors
+///
+/// Where memory runs out the map stays, and so does the table.
+pub fn begin_unsplit<T: Tally>(
+    rows: &mut MapRows,
+    table: &mut HalfTable<T>,
+    kept: &mut KeyLists<Half>,
+    stars: &mut KeyLists<Spoke>,
+    row: StringRow,
+    place: usize,
+    point: PointNo,
+    first: StringNo,
+    second: StringNo,
+) -> Result<(), Memory>
+    requires { CanBeginUnsplit row place point first second rows.old table.old.rows kept.old
+        stars.old }
+    ensures fits { (can : CanBeginUnsplit row place point first second rows.old table.old.rows
+        kept.old stars.old)
+        → OnOk result (FitMap can.map rows.new table.new.rows kept.new stars.new) }
+    ensures err { (can : CanBeginUnsplit row place point first second rows.old table.old.rows
+        kept.old stars.old) → OnErr result (FitMap
+        (after can.map (Split row.number point can.x can.y first second))
+        rows.new table.new.rows kept.new stars.new) }
+    ensures err_table { OnErr result (table.new ≡ table.old) }
+    ensures loose { OnOk result (AreLoose (next table.new.rows)
+        (forward_of first ∷ forward_of second ∷ [])) }
+    ensures has { OnOk result ((h : HalfOf) → has table.new.rows h
+        ≡ (if is_of (row.number ∷ []) h then true else has table.old.rows h)) }
+    ensures work { OnOk result (table.new.work
+        ≡ ticked (1 + (length (cycle table.new.rows (forward_of row.number))
+        + length (cycle table.new.rows (backward_of row.number)) + 5)) table.old.work) }
+{
+    add_string(rows, table, &row)?;
+    unsplit(rows, table, kept, stars, row, place, point, first, second);
+    Ok(())
 }
