@@ -1,14 +1,12 @@
 -- A division that is made again, from what its record tells.
-use Rattle.std.proofs.Common.{◌≡◌, ℕ, ◌+◌, inl, inr, not, Bool, false, true, true≢false, refl, sym, ap, subst, ◌∙◌, List, [], ◌∷◌, ◌++◌, map, length, Option, Some, None, is_some}
+use Rattle.std.proofs.Common.{◌≡◌, ℕ, inl, inr, not, Bool, false, true, true≢false, refl, sym, ap, subst, ◌∙◌, List, [], ◌∷◌, ◌++◌, map, Option, Some, None, is_some}
 use Rattle.std.specs.List.{AllByRecursion, Contains}
 use Rattle.std.proofs.lemmas.List.Elements.{Contains-append_left, Contains-append_cases}
-use Rattle.cad_rows.specs.declared.edits.Edit.{Edit}
 use Rattle.cad_rows.specs.declared.names.Face.TheVariants.{Parcel}
 use Rattle.cad_rows.specs.declared.rows.StringRow.{StringRow}
 use Rattle.cad_rings.specs.Cycle.{Side, has_side, opposite, sides_of}
 use Rattle.cad_rings.specs.Surgery.{both_ways, corner, sides_of_chain}
 use Rattle.cad_map.specs.declared.boundary.Boundary.{Boundary}
-use Rattle.cad_map.specs.Asked.{GivesInRange}
 use Rattle.cad_map.specs.Chain.{start_of, next_of, end_of, last_but_one, leaving}
 use Rattle.cad_map.specs.Division.{hole_placed}
 use Rattle.cad_map.specs.Effects.{after}
@@ -21,20 +19,14 @@ use Rattle.half_table.specs.Rows.{HalfRows, has}
 use Rattle.cad_laws.specs.Faces.{left_of_chain, uncut}
 use Rattle.cad_laws.specs.Tried.{IsTried}
 use Rattle.cad_laws.proofs.CallerLemmas.{before-one, divided-faces, some-corner, whole-after}
-use Rattle.cad_surgery.specs.declared.draft.Draft.TheInside.{Inside}
 use Rattle.cad_surgery.specs.declared.edits.given.NewParcel.{NewParcel}
-use Rattle.cad_surgery.specs.declared.edits.try_divide.Cut.{Cut}
-use Rattle.edit_records.specs.declared.record.SmallRecord.{SmallRecord}
 use Rattle.map_parts.specs.Chains.{IsChainOf}
 use Rattle.map_parts.specs.Dividing.{IsDividing, rings_beside}
 use Rattle.cad_surgery.specs.Divisions.{divided_by, strings_across, HasCrossing}
 use Rattle.edit_records.specs.HeldChains.{side_along, LeadsAlong, IsOfRing, HeldChain, rings_beside as rings_but}
 use Rattle.map_parts.specs.Labels.{IsAlong, IsOnRing}
-use Rattle.map_parts.specs.Parts.{Parts, FitTogether, HasHalves, map_of}
-use Rattle.edit_records.specs.Record.{edit_of, Holds, Belongs}
-use Rattle.cad_surgery.proofs.DividedBack.{by-record, first_side}
-use Rattle.cad_surgery.proofs.DraftFits.{draft-fits}
-use Rattle.cad_surgery.proofs.FitParts.{parts-in}
+use Rattle.map_parts.specs.Parts.{HasHalves}
+use Rattle.cad_surgery.proofs.DividedBack.{first_side}
 use Rattle.map_parts.proofs.Dividing as divides
 use Rattle.map_parts.proofs.KeptShown.{bare}
 use Rattle.cad_surgery.proofs.NamedRings.{row-side, named-among, named-rings, named-once}
@@ -201,23 +193,3 @@ module _ (m : Map) (d : NewParcel) (tried : IsTried m (divided_by d)) (rows : Ha
     once =
         named-once now whole_now (Parcel d.parcel) left right (rings_beside is_it) law.were law.left_face (λ e. law.differ (sym law.right_face ∙ e)) s on_left rows led moved it.moved_are;
   }
-
--- ---- By its record, on a draft
-
-module _ {T : Type 0} (inside : Inside T) {v : Parts} (view : parts-in inside ≡ v) (fit : FitTogether (parts-in inside)) (r : SmallRecord) (d : NewParcel) (cut : Cut)
-    (given : GivesInRange (edit_of r)) (same : edit_of r ≡ divided_by d)
-    (told : (b : Map) → Holds r b → HeldChain (after b (edit_of r)) (Parcel d.parcel) d.points.now cut.start cut.end cut.moved.now)
-    {after_it : Map} (it : Belongs r (map_of v) after_it) where
-  pub again-tried : IsTried (map_of v) (divided_by d)
-  again-tried = (by-record r {d = d} cut given same told (map_of v) after_it it).tried
-
-  pub again-many : length d.strings.now + 1 ≡ length d.points.now
-  again-many =
-      (can-divide (map_of v) d.face d.points.now d.strings.now d.parcel d.label.now d.source again-tried.given (allowed (map_of v) (divided_by d) again-tried.allowed)).as_many
-
-  pub again-crossing : HasCrossing (map_of v) v.table.rows d cut.start cut.end cut.moved.now
-  again-crossing =
-      subst (λ (q : Parts). HasCrossing (map_of v) q.table.rows d cut.start cut.end cut.moved.now) view
-      (crossing (map_of v) d again-tried inside.table.rows
-      (draft-fits inside.rows inside.table inside.kept inside.stars inside.grid v view fit (whole_valid (map_of v) it.valid)).fits.ends cut.start cut.end cut.moved.now
-      (subst (λ (e : Edit). HeldChain (after (map_of v) e) (Parcel d.parcel) d.points.now cut.start cut.end cut.moved.now) same (told (map_of v) it.holds)))

@@ -1,5 +1,5 @@
 -- The steps of an edit beside the grid.
-use Rattle.std.proofs.Common.{◌≡◌, ℕ, ap, subst, sym, ◌∙◌, ◌⊎◌, arith}
+use Rattle.std.proofs.Common.{◌≡◌, ℕ, inl, inr, refl, ap, subst, sym, ◌∙◌, ◌⊎◌, arith}
 use Rattle.cad_map.specs.Asked.{GivesInRange}
 use Rattle.cad_map.specs.Effects.{after}
 use Rattle.cad_map.specs.Map.{Map}
@@ -7,6 +7,7 @@ use Rattle.cell_grid.specs.Together.{Listed}
 use Rattle.cad_laws.specs.Tried.{IsTried}
 use Rattle.cad_surgery.specs.AtRest.{IsAtRest}
 use Rattle.edit_records.specs.Exchanged.{IsExchange}
+use Rattle.edit_records.proofs.Exchanges.{exchange-back}
 use Rattle.edit_records.specs.Gridded.{IsGridOf}
 use Rattle.edit_records.specs.GridEdits.{gone_by, come_by}
 use Rattle.edit_records.specs.GridLists.{AreEntries, IsBeside}
@@ -39,10 +40,10 @@ module _ (old new : Parts) (beside : new ≡ record old { grid = new.grid }) whe
 pub idle : (old new : Parts) (most : ℕ) → new.table ≡ old.table → TakesWork old.table new.table most
 idle old new most is = subst (λ (t : Table). TakesWork old.table t most) (sym is) (record { rises = omega arith; few = omega arith })
 
-pub worked : (a b c d : Parts) (most more : ℕ) → b.table ≡ a.table → d.table ≡ c.table → most ≡ more → TakesWork b.table c.table most → TakesWork a.table d.table more
-worked a b c d most more first last is takes =
-    subst (λ (t : Table). TakesWork t d.table more) first
-    (subst (λ (t : Table). TakesWork b.table t more) (sym last) (subst (λ (n : ℕ). TakesWork b.table c.table n) is takes))
+pub worked : (a b c d : Parts) {most more : ℕ} → b ≡ record a { grid = b.grid } → d ≡ record c { grid = d.grid } → most ≡ more → TakesWork b.table c.table most → TakesWork a.table d.table more
+worked a b c d {most} {more} first last is takes =
+    subst (λ (t : Table). TakesWork t d.table more) (same-table a b first)
+    (subst (λ (t : Table). TakesWork b.table t more) (sym (same-table c d last)) (subst (λ (n : ℕ). TakesWork b.table c.table n) is takes))
 
 -- a record that leads to a map is of its edit as it is made
 pub made-by : (r : SmallRecord) (before after : Map) → Belongs r before after → IsMadeOf r before
@@ -59,6 +60,20 @@ exchange-of m b r gone come made given is goes comes =
     let tried = tried-of r b made given in
     let beside : IsBeside m b (edit_of r) = record { tried = tried; is = is } in
     listed b (edit_of r) tried gone come (goes b beside made.holds) (comes b beside made.holds)
+
+-- beside the map before it, on the way on
+pub exchange-on : {m n : Map} {r : SmallRecord} {gone come : Listed} → Belongs r m n → GivesInRange (edit_of r)
+    → ((b : Map) → IsBeside m b (edit_of r) → Holds r b → AreEntries (gone_by b (edit_of r)) gone)
+    → ((b : Map) → IsBeside m b (edit_of r) → Holds r b → AreEntries (come_by b (edit_of r)) come) → IsExchange m gone come (after m (edit_of r))
+exchange-on {m} {n} {r} {gone} {come} belongs given = exchange-of m m r gone come (made-by r m n belongs) given (inl refl)
+
+-- and beside the map after it, on the way back
+pub exchange-off : {m n : Map} {r : SmallRecord} {gone come : Listed} → Belongs r m n → GivesInRange (edit_of r)
+    → ((b : Map) → IsBeside n b (edit_of r) → Holds r b → AreEntries (gone_by b (edit_of r)) gone)
+    → ((b : Map) → IsBeside n b (edit_of r) → Holds r b → AreEntries (come_by b (edit_of r)) come) → IsExchange n come gone m
+exchange-off {m} {n} {r} {gone} {come} belongs given goes comes =
+    subst (λ (q : Map). IsExchange q come gone m) (sym belongs.leads.is)
+    (exchange-back m (after m (edit_of r)) gone come (exchange-of n m r gone come (made-by r m n belongs) given (inr belongs.leads.is) goes comes))
 
 -- a table that stands took none
 pub stood : {s t : Table} {most : ℕ} → t ≡ s → TakesWork s t most

@@ -1,8 +1,7 @@
 -- A merger round an island that a record tells, in a table that goes with the map.
 use Rattle.std.proofs.Common.{◌≡◌, ◌≤◌, ℕ, inl, true, sym, ap, subst, ◌∙◌, List, [], ◌∷◌, map, length, is_some, Option, arith}
-use Rattle.std.specs.Prelude.{IsPermutation}
 use Rattle.std.specs.List.{AllByRecursion, Contains}
-use Rattle.std.proofs.lemmas.List.Sorted.{Contains-permutation, IsPermutation-map, IsPermutation-sym}
+use Rattle.std.proofs.lemmas.List.Sorted.{Contains-permutation}
 use Rattle.cad_rows.specs.declared.edits.Edit.TheVariants.{Merge}
 use Rattle.cad_rows.specs.declared.names.Face.{Face}
 use Rattle.cad_rows.specs.declared.names.Face.TheVariants.{Parcel}
@@ -14,37 +13,29 @@ use Rattle.cad_rings.proofs.CallerLemmas.{sides_of_chain-is}
 use Rattle.cad_map.specs.declared.boundary.Boundary.{Boundary}
 use Rattle.cad_map.specs.Boundaries.{bounding}
 use Rattle.cad_map.specs.Chain.{start_of, next_of}
-use Rattle.cad_map.specs.Asked.{GivesInRange}
 use Rattle.cad_map.specs.Map.{Map, all_sides}
-use Rattle.cad_map.specs.Merger.{handed_over, is_shared}
+use Rattle.cad_map.specs.Merger.{handed_over}
 use Rattle.cad_map.specs.Rings.{HasWholeRings}
-use Rattle.cad_map.proofs.CallerLemmas.{All-at_each, All-from_each, Contains-first, Contains-map, filter-Contains, map-Contains, whole_valid}
+use Rattle.cad_map.proofs.CallerLemmas.{All-at_each, All-from_each, Contains-first, Contains-map, whole_valid}
 use Rattle.half_table.specs.declared.half.Half.{Half}
 use Rattle.half_table.specs.Rows.{HalfRows, has}
-use Rattle.half_paths.specs.Path.{AreIn, strings_of}
-use Rattle.half_paths.specs.Loose.{numbers_of}
-use Rattle.cad_laws.specs.Counts.{shared_strings}
+use Rattle.half_paths.specs.Path.{AreIn}
 use Rattle.cad_laws.specs.Tried.{IsTried}
 use Rattle.cad_laws.proofs.CallerLemmas.{some-corner}
 use Rattle.edit_records.specs.declared.record.ChainString.{ChainString}
-use Rattle.edit_records.specs.HeldChains.{IsOfRing, closed, rings_beside as rings_but, rows_along, side_along}
-use Rattle.edit_records.specs.declared.record.SmallRecord.{SmallRecord}
-use Rattle.edit_records.specs.Record.{edit_of, Holds, Belongs, HeldMergedIsland}
-use Rattle.cad_surgery.specs.declared.draft.Draft.TheInside.{Inside}
-use Rattle.cad_surgery.specs.declared.edits.try_merge_island.MergedRound.{MergedRound}
-use Rattle.cad_surgery.specs.Mergers.{halves_of}
+use Rattle.edit_records.specs.HeldChains.{IsOfRing, closed, rings_beside as rings_but}
+use Rattle.edit_records.specs.Record.{HeldMergedIsland}
+use Rattle.cad_surgery.specs.ToldMergers.{halves_of}
 use Rattle.cad_surgery.specs.IslandMergers.{HasSharedRing}
 use Rattle.map_parts.specs.Islands.{AreOfRings, IsIslandOf}
 use Rattle.map_parts.specs.Labels.{IsAlong, IsOnRing}
 use Rattle.map_parts.specs.MergingIsland.{IsMergingIsland, without_island, rings_apart}
-use Rattle.map_parts.specs.Parts.{Parts, FitTogether, HasHalves, map_of}
+use Rattle.map_parts.specs.Parts.{HasHalves}
 use Rattle.map_parts.specs.Paths.{AreAlong}
 use Rattle.map_parts.proofs.MergedIsland.{merged-island}
 use Rattle.map_parts.proofs.MergedRows as rows_of
 use Rattle.map_parts.proofs.MergingIsland as merging
-use Rattle.cad_surgery.proofs.DraftFits.{draft-fits}
-use Rattle.cad_surgery.proofs.FitParts.{parts-in}
-use Rattle.cad_surgery.proofs.HeldMergers.{along-rows, numbers-along, record-tried, rows-both}
+use Rattle.cad_surgery.proofs.HeldMergers.{along-rows, rows-led, rows-there, shared-names}
 use Rattle.cad_surgery.proofs.HeldPaths.{HasRowsBoth, left-there, off-past, off-rows, stays-along}
 use Rattle.cad_surgery.proofs.NamedRings.{named-among, named-on, named-once, named-rings}
 
@@ -67,12 +58,6 @@ module _ (m : Map) (kept : Face) (row : ParcelRow) (place : ℕ) (points : List 
   abbrev inner : Face
   inner = Parcel row.number
 
-  pub shared : IsPermutation (numbers_of (shared_strings m kept inner)) (strings_of path)
-  shared =
-      subst (IsPermutation (numbers_of (shared_strings m kept inner))) (numbers-along strings (closed points) it.gone.as_many)
-      (IsPermutation-sym (numbers_of (rows_along strings (closed points))) (numbers_of (shared_strings m kept inner))
-      (IsPermutation-map (λ (s : StringRow). s.number) (rows_along strings (closed points)) (shared_strings m kept inner) it.gone.shared))
-
   abbrev pub is_it : IsMergingIsland m kept row.number points path
   is_it = record {
     tried = tried;
@@ -81,7 +66,7 @@ module _ (m : Map) (kept : Face) (row : ParcelRow) (place : ℕ) (points : List 
     there = it.shared.there;
     leads = it.shared.is;
     taken = merged-island m kept inner points it.shared.kept_ring it.shared.ended_ring tried it.shared.there it.shared.is;
-    shared = shared;
+    shared = shared-names it.gone;
   }
 
   whole_old : HasWholeRings m
@@ -91,7 +76,7 @@ module _ (m : Map) (kept : Face) (row : ParcelRow) (place : ℕ) (points : List 
   now = without_island is_it
 
   whole_now : HasWholeRings now
-  whole_now = rows_of.parts m kept row.number path tried shared
+  whole_now = rows_of.parts m kept row.number path tried (shared-names it.gone)
 
   abbrev left : Boundary
   left = bounding inner is_it.ended_ring
@@ -111,17 +96,11 @@ module _ (m : Map) (kept : Face) (row : ParcelRow) (place : ℕ) (points : List 
   on_left : Contains (sides_of left.ring) s
   on_left = Contains-permutation (sides_of points) (sides_of left.ring) s law.left_sides (first-side points long)
 
-  -- the rows round the ring were there
-  round-there : (r : StringRow) → Contains (rows_along strings (closed points)) r → Contains m.strings r
-  round-there r among =
-      (filter-Contains (is_shared m kept inner) m.strings r
-      (Contains-permutation (rows_along strings (closed points)) (shared_strings m kept inner) r it.gone.shared among)).0
-
   -- ---- In a table of the map before it
 
   module _ (rows : HalfRows) (ends : AllByRecursion (HasHalves rows) m.strings) where
     along : AreAlong rows path (sides_of points)
-    along = along-rows m rows ends strings (closed points) it.gone.as_many round-there ∙ closed-sides points long
+    along = along-rows m rows ends strings (closed points) it.gone.as_many (rows-there it.gone) ∙ closed-sides points long
 
     -- what the record tells is at hand
     pub shared-ring : HasSharedRing m rows kept row.number path moved
@@ -139,9 +118,7 @@ module _ (m : Map) (kept : Face) (row : ParcelRow) (place : ℕ) (points : List 
   -- ---- In a table of the map after it
 
   both : HasRowsBoth m path (sides_of points)
-  both n among =
-      let at = map-Contains (λ (r : StringRow). r.number) (rows_along strings (closed points)) n (subst (λ (l : List ℕ). Contains l n) (sym (numbers-along strings (closed points) it.gone.as_many)) among) in
-      (at.0, round-there at.0 at.1, at.2, λ h. subst (λ (l : List Side). Contains (both_ways l) (side_along at.0 h)) (closed-sides points long) (rows-both strings (closed points) at.0 at.1 h))
+  both = subst (HasRowsBoth m path) (closed-sides points long) (rows-led it.gone)
 
   -- no side of the map after it is round the ring
   off-now : (t : Side) → Contains (all_sides now) t → Contains (both_ways (sides_of points)) t → ⊥
@@ -158,7 +135,7 @@ module _ (m : Map) (kept : Face) (row : ParcelRow) (place : ℕ) (points : List 
     past-along : (b : Boundary) → Contains (rings_apart is_it) b → (h : Half) → (of : IsOfRing m b h) → IsAlong now rows of.side h
     past-along b among h of =
         let each = tried.valid.sound.v1.strings.distinct in
-        stays-along m each path now (rows_of.more m kept row.number path tried shared) (left-there m kept row.number) rows ends h of.side of.along
+        stays-along m each path now (rows_of.more m kept row.number path tried (shared-names it.gone)) (left-there m kept row.number) rows ends h of.side of.along
         (off-rows m each path (sides_of points) both h of.side of.along
         (off-past now kept inner (rings_apart is_it) there-now (both_ways (sides_of points)) off-now b among of.side of.on))
 
@@ -175,14 +152,3 @@ module _ (m : Map) (kept : Face) (row : ParcelRow) (place : ℕ) (points : List 
 
     pub moved_are : AreOfRings m rows moved inner (rings_apart is_it)
     moved_are = named-rings m whole_old inner left right (rings_apart is_it) law.were law.left_face (λ e. law.differ (sym law.right_face ∙ e)) s on_left rows led moved it.held
-
--- ---- By its record, on a draft
-
-module _ {T : Type 0} (inside : Inside T) {v : Parts} (view : parts-in inside ≡ v) (fit : FitTogether (parts-in inside)) (r : SmallRecord) (t : MergedRound)
-    (given : GivesInRange (edit_of r)) (same : edit_of r ≡ Merge t.kept (Parcel t.row.now.number))
-    (told : (b : Map) → Holds r b → HeldMergedIsland b t.kept t.row.now t.place t.points.now t.strings.now t.moved.now) {after_it : Map} (it : Belongs r (map_of v) after_it) where
-  pub again-ring : HasSharedRing (map_of v) v.table.rows t.kept t.row.now.number (halves_of t.strings.now) t.moved.now
-  again-ring =
-      subst (λ (q : Parts). HasSharedRing (map_of v) q.table.rows t.kept t.row.now.number (halves_of t.strings.now) t.moved.now) view
-      (shared-ring (map_of v) t.kept t.row.now t.place t.points.now t.strings.now t.moved.now (record-tried r (Merge t.kept (Parcel t.row.now.number)) given same (map_of v) after_it it) (told (map_of v) it.holds)
-      inside.table.rows (draft-fits inside.rows inside.table inside.kept inside.stars inside.grid v view fit (whole_valid (map_of v) it.valid)).fits.ends)

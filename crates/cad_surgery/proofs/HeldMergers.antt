@@ -1,9 +1,8 @@
 -- A merger along a chain that a record tells, in a table that goes with the map.
-use Rattle.std.proofs.Common.{◌≡◌, ℕ, ◌+◌, inl, inr, Bool, true, false, refl, sym, ap, subst, ◌∙◌, List, [], ◌∷◌, length, arith}
+use Rattle.std.proofs.Common.{◌≡◌, ℕ, ◌+◌, inl, inr, Bool, true, false, refl, sym, subst, ◌∙◌, List, [], ◌∷◌, length, arith}
 use Rattle.std.specs.Prelude.{IsPermutation}
 use Rattle.std.specs.List.{AllByRecursion, Contains}
 use Rattle.std.proofs.lemmas.List.Sorted.{Contains-permutation, IsPermutation-map, IsPermutation-sym}
-use Rattle.cad_rows.specs.declared.edits.Edit.{Edit}
 use Rattle.cad_rows.specs.declared.edits.Edit.TheVariants.{Merge}
 use Rattle.cad_rows.specs.declared.names.Face.{Face}
 use Rattle.cad_rows.specs.declared.names.Face.TheVariants.{Parcel}
@@ -12,11 +11,9 @@ use Rattle.cad_rows.specs.declared.rows.StringRow.{StringRow}
 use Rattle.cad_rings.specs.Cycle.{Side}
 use Rattle.cad_rings.specs.Surgery.{both_ways, sides_of_chain}
 use Rattle.cad_map.specs.Chain.{leaving}
-use Rattle.cad_map.specs.Asked.{GivesInRange}
-use Rattle.cad_map.specs.Refusals.{first_refusal}
 use Rattle.cad_map.specs.Map.{Map}
 use Rattle.cad_map.specs.Merger.{is_shared}
-use Rattle.cad_map.proofs.CallerLemmas.{All-at_each, map-Contains, Contains-cases, Contains-first, Contains-later, filter-Contains, whole_valid}
+use Rattle.cad_map.proofs.CallerLemmas.{All-at_each, map-Contains, Contains-cases, Contains-first, Contains-later, filter-Contains}
 use Rattle.half_table.specs.declared.half.Half.{Half}
 use Rattle.half_table.specs.Rows.{HalfRows}
 use Rattle.half_paths.specs.Path.{AreIn, strings_of}
@@ -25,20 +22,16 @@ use Rattle.cad_laws.specs.Counts.{shared_strings}
 use Rattle.cad_laws.specs.Local.{side_by}
 use Rattle.cad_laws.specs.Tried.{IsTried}
 use Rattle.edit_records.specs.declared.record.ChainString.{ChainString}
-use Rattle.edit_records.specs.HeldChains.{HeldChain, rows_along, row_between, side_along}
-use Rattle.edit_records.specs.declared.record.SmallRecord.{SmallRecord}
-use Rattle.edit_records.specs.Record.{edit_of, Holds, Belongs, HeldMergedAlong}
-use Rattle.cad_surgery.specs.declared.draft.Draft.TheInside.{Inside}
-use Rattle.cad_surgery.specs.declared.edits.try_merge_along.Merged.{Merged}
-use Rattle.cad_surgery.specs.Mergers.{HasSharedPath, halves_of}
+use Rattle.edit_records.specs.HeldChains.{HeldChain, HeldMerged, rows_along, row_between, side_along}
+use Rattle.edit_records.specs.Record.{HeldMergedAlong}
+use Rattle.cad_surgery.specs.Mergers.{HasSharedPath}
+use Rattle.cad_surgery.specs.ToldMergers.{halves_of}
 use Rattle.map_parts.specs.Islands.{AreOfRings}
 use Rattle.map_parts.specs.Labels.{IsAlong}
 use Rattle.map_parts.specs.Merging.{IsMerging, merged, shared_chain, first_corner, last_corner, rings_past}
-use Rattle.map_parts.specs.Parts.{Parts, FitTogether, HasHalves, map_of}
+use Rattle.map_parts.specs.Parts.{HasHalves}
 use Rattle.map_parts.specs.Paths.{AreAlong}
 use Rattle.map_parts.proofs.MergedChain.{merged-chain}
-use Rattle.cad_surgery.proofs.DraftFits.{draft-fits}
-use Rattle.cad_surgery.proofs.FitParts.{parts-in}
 use Rattle.cad_surgery.proofs.HeldPaths as paths
 use Rattle.cad_surgery.proofs.HeldPaths.{HasRowsBoth}
 use Rattle.cad_surgery.proofs.NamedRings.{row-side}
@@ -99,6 +92,27 @@ rows-both (s ∷ strings) (a ∷ b ∷ chain) r among h = elim (Contains-cases (
     by false true = back
     by false false = first
 
+-- the strings that went are those that the two shared
+pub shared-names : {m : Map} {kept : Face} {row : ParcelRow} {place : ℕ} {strings : List ChainString} {chain : List ℕ} → HeldMerged m kept row place strings chain
+    → IsPermutation (numbers_of (shared_strings m kept (Parcel row.number))) (strings_of (halves_of strings))
+shared-names {m} {kept} {row} {place} {strings} {chain} gone =
+    subst (IsPermutation (numbers_of (shared_strings m kept (Parcel row.number)))) (numbers-along strings chain gone.as_many)
+    (IsPermutation-sym (numbers_of (rows_along strings chain)) (numbers_of (shared_strings m kept (Parcel row.number)))
+    (IsPermutation-map (λ (s : StringRow). s.number) (rows_along strings chain) (shared_strings m kept (Parcel row.number)) gone.shared))
+
+-- and they were there
+pub rows-there : {m : Map} {kept : Face} {row : ParcelRow} {place : ℕ} {strings : List ChainString} {chain : List ℕ} → HeldMerged m kept row place strings chain
+    → (r : StringRow) → Contains (rows_along strings chain) r → Contains m.strings r
+rows-there {m} {kept} {row} {place} {strings} {chain} gone r among =
+    (filter-Contains (is_shared m kept (Parcel row.number)) m.strings r (Contains-permutation (rows_along strings chain) (shared_strings m kept (Parcel row.number)) r gone.shared among)).0
+
+-- each of them has a row, which leads along the chain, or back
+pub rows-led : {m : Map} {kept : Face} {row : ParcelRow} {place : ℕ} {strings : List ChainString} {chain : List ℕ} → HeldMerged m kept row place strings chain
+    → HasRowsBoth m (halves_of strings) (sides_of_chain chain)
+rows-led {strings = strings} {chain = chain} gone n among =
+    let at = map-Contains (λ (r : StringRow). r.number) (rows_along strings chain) n (subst (λ (l : List ℕ). Contains l n) (sym (numbers-along strings chain gone.as_many)) among) in
+    (at.0, rows-there gone at.0 at.1, at.2, λ h. rows-both strings chain at.0 at.1 h)
+
 module _ (m : Map) (kept : Face) (row : ParcelRow) (place : ℕ) (chain : List ℕ) (strings : List ChainString) (start end : Half) (moved : List Half)
     (tried : IsTried m (Merge kept (Parcel row.number))) (it : HeldMergedAlong m kept row place chain strings start end moved) where
   abbrev pub path : List Half
@@ -106,12 +120,6 @@ module _ (m : Map) (kept : Face) (row : ParcelRow) (place : ℕ) (chain : List �
 
   abbrev pub inner : Face
   inner = Parcel row.number
-
-  pub shared : IsPermutation (numbers_of (shared_strings m kept inner)) (strings_of path)
-  shared =
-      subst (IsPermutation (numbers_of (shared_strings m kept inner))) (numbers-along strings chain it.gone.as_many)
-      (IsPermutation-sym (numbers_of (rows_along strings chain)) (numbers_of (shared_strings m kept inner))
-      (IsPermutation-map (λ (s : StringRow). s.number) (rows_along strings chain) (shared_strings m kept inner) it.gone.shared))
 
   abbrev pub is_it : IsMerging m kept row.number path
   is_it = record {
@@ -123,20 +131,14 @@ module _ (m : Map) (kept : Face) (row : ParcelRow) (place : ℕ) (chain : List �
     ended_place = it.shared.ended_place;
     there = it.shared.there;
     taken = merged-chain m kept inner it.shared.sides it.shared.kept_ring it.shared.kept_place it.shared.ended_ring it.shared.ended_place tried it.shared.there;
-    shared = shared;
+    shared = shared-names it.gone;
   }
 
   abbrev c : List ℕ
   c = shared_chain is_it
 
-  -- the rows along the chain were there
-  pub along-there : (r : StringRow) → Contains (rows_along strings chain) r → Contains m.strings r
-  along-there r among = (filter-Contains (is_shared m kept inner) m.strings r (Contains-permutation (rows_along strings chain) (shared_strings m kept inner) r it.gone.shared among)).0
-
   both : HasRowsBoth m path (sides_of_chain c)
-  both n among =
-      let at = map-Contains (λ (r : StringRow). r.number) (rows_along strings chain) n (subst (λ (l : List ℕ). Contains l n) (sym (numbers-along strings chain it.gone.as_many)) among) in
-      (at.0, along-there at.0 at.1, at.2, λ h. subst (λ (l : List ℕ). Contains (both_ways (sides_of_chain l)) (side_along at.0 h)) it.shared.is (rows-both strings chain at.0 at.1 h))
+  both = subst (λ (l : List ℕ). HasRowsBoth m path (sides_of_chain l)) it.shared.is (rows-led it.gone)
 
   held : HeldChain m inner c start end moved
   held = subst (λ (l : List ℕ). HeldChain m inner l start end moved) it.shared.is it.held
@@ -162,23 +164,4 @@ module _ (m : Map) (kept : Face) (row : ParcelRow) (place : ℕ) (chain : List �
   pub shared-path : (rows : HalfRows) → AllByRecursion (HasHalves rows) m.strings → HasSharedPath m rows kept row.number path start end moved
   shared-path rows ends =
       paths.path-at-hand m kept row.number path is_it start end moved held both rows ends
-      (subst (λ (l : List ℕ). AreAlong rows path (sides_of_chain l)) it.shared.is (along-rows m rows ends strings chain it.gone.as_many along-there))
-
--- ---- By its record, on a draft
-
--- the merger that the record tells is tried on the map before it
-pub record-tried : (r : SmallRecord) (e : Edit) → GivesInRange (edit_of r) → edit_of r ≡ e → (m n : Map) → Belongs r m n → IsTried m e
-record-tried r e given same m n it = record {
-  valid = it.valid;
-  given = subst GivesInRange same given;
-  allowed = ap (first_refusal m) (sym same) ∙ it.leads.allowed;
-}
-
-module _ {T : Type 0} (inside : Inside T) {v : Parts} (view : parts-in inside ≡ v) (fit : FitTogether (parts-in inside)) (r : SmallRecord) (t : Merged)
-    (given : GivesInRange (edit_of r)) (same : edit_of r ≡ Merge t.kept (Parcel t.row.now.number))
-    (told : (b : Map) → Holds r b → HeldMergedAlong b t.kept t.row.now t.place t.chain.now t.strings.now t.start t.end t.moved.now) {after_it : Map} (it : Belongs r (map_of v) after_it) where
-  pub again-path : HasSharedPath (map_of v) v.table.rows t.kept t.row.now.number (halves_of t.strings.now) t.start t.end t.moved.now
-  again-path =
-      subst (λ (q : Parts). HasSharedPath (map_of v) q.table.rows t.kept t.row.now.number (halves_of t.strings.now) t.start t.end t.moved.now) view
-      (shared-path (map_of v) t.kept t.row.now t.place t.chain.now t.strings.now t.start t.end t.moved.now (record-tried r (Merge t.kept (Parcel t.row.now.number)) given same (map_of v) after_it it) (told (map_of v) it.holds)
-      inside.table.rows (draft-fits inside.rows inside.table inside.kept inside.stars inside.grid v view fit (whole_valid (map_of v) it.valid)).fits.ends)
+      (subst (λ (l : List ℕ). AreAlong rows path (sides_of_chain l)) it.shared.is (along-rows m rows ends strings chain it.gone.as_many (rows-there it.gone)))

@@ -2,7 +2,6 @@
 use Rattle.std.proofs.Common.{◌≡◌, ◌≤◌, ◌+◌, ◌==◌, ℕ, sym, ap, subst, ◌∙◌, [], ◌∷◌, length, not, true, false, Bool, if◌then◌else◌, arith}
 use Rattle.cad_rows.specs.declared.edits.Edit.TheVariants.{Join}
 use Rattle.cad_rows.specs.declared.rows.StringRow.{StringRow}
-use Rattle.cell_grid.specs.Grid.{Grid}
 use Rattle.cad_map.specs.Changes.{by_number}
 use Rattle.cad_map.specs.Costs.{work_bound}
 use Rattle.cad_map.specs.Effects.{after}
@@ -41,21 +40,6 @@ use Rattle.cad_surgery.proofs.WorkTaken.{ticks-just, ticks-then}
 module _ {T : Type 0} (inside : Inside T) {v : Parts} (view : parts-in inside ≡ v) (fit : FitTogether (parts-in inside)) (p : ℕ) (k : Joining)
     (tried : IsTried (map_of v) (Join p k.row.number)) (apart : FarEndsAreApart (map_of v) (Join p k.row.number))
     (told : IsJoiningAt (map_of v) p k) (proper : IsProper (map_of v) v.table.rows (kept_at v)) where
-  abbrev rows : MapRows
-  rows = inside.rows
-
-  abbrev table : Table
-  table = inside.table
-
-  abbrev held : Held Half
-  held = inside.kept
-
-  abbrev stars : Held Spoke
-  stars = inside.stars
-
-  abbrev grid : Grid
-  grid = inside.grid
-
   abbrev m : Map
   m = map_of v
 
@@ -68,11 +52,11 @@ module _ {T : Type 0} (inside : Inside T) {v : Parts} (view : parts-in inside �
   whole : HasWholeRings m
   whole = whole_valid m tried.valid
 
-  pub fits : FitMap m rows table.rows held stars
-  fits = draft-fits rows table held stars grid v view fit whole
+  pub fits : FitMap m inside.rows inside.table.rows inside.kept inside.stars
+  fits = draft-fits inside.rows inside.table inside.kept inside.stars inside.grid v view fit whole
 
-  pub all : (g : Half) → has table.rows g ≡ has_string m g.string
-  all = draft-all rows table held stars grid v view proper
+  pub all : (g : Half) → has inside.table.rows g ≡ has_string m g.string
+  all = draft-all inside.rows inside.table inside.kept inside.stars inside.grid v view proper
 
   pub met : (s : StringRow) × (t : StringRow) × (by_number (strings_at m p) ≡ s ∷ t ∷ [])
   met = draft.strings-met m p new tried
@@ -86,29 +70,29 @@ module _ {T : Type 0} (inside : Inside T) {v : Parts} (view : parts-in inside �
   pub are : by_number (strings_at m p) ≡ s ∷ t ∷ []
   are = met.2
 
-  abbrev pub begins : CanBeginJoin p k.first k.second k.row rows table.rows held stars
-  begins = draft.join-begins m p k tried apart s t are (told s t are) rows table.rows held stars fits all
+  abbrev pub begins : CanBeginJoin p k.first k.second k.row inside.rows inside.table.rows inside.kept inside.stars
+  begins = draft.join-begins m p k tried apart s t are (told s t are) inside.rows inside.table.rows inside.kept inside.stars fits all
 
   whole-now : HasWholeRings n
   whole-now = draft.join-whole_after m p new s t tried are apart
 
   module _ {rows1 : MapRows} (table1 : Table) {held1 : Held Half} {stars1 : Held Spoke} where
     -- where memory ran out
-    module _ (err : (can : CanBeginJoin p k.first k.second k.row rows table.rows held stars) → FitMap can.map rows1 table1.rows held1 stars1) where
+    module _ (err : (can : CanBeginJoin p k.first k.second k.row inside.rows inside.table.rows inside.kept inside.stars) → FitMap can.map rows1 table1.rows held1 stars1) where
       pub left : GoWith m rows1 table1 held1 stars1
       left = record { whole = whole; fits = err begins }
 
-      pub left-rest : table1 ≡ table → IsProper (map_of (parts rows1 table1 held1 stars1 grid)) table1.rows (kept_at (parts rows1 table1 held1 stars1 grid))
-      left-rest same = at-rest grid left (λ g. ap (λ (w : Table). has w.rows g) same ∙ all g)
+      pub left-rest : table1 ≡ inside.table → IsProper (map_of (parts rows1 table1 held1 stars1 inside.grid)) table1.rows (kept_at (parts rows1 table1 held1 stars1 inside.grid))
+      left-rest same = at-rest inside.grid left (λ g. ap (λ (w : Table). has w.rows g) same ∙ all g)
 
     -- where the strings are joined
-    module _ (ok : (can : CanBeginJoin p k.first k.second k.row rows table.rows held stars)
+    module _ (ok : (can : CanBeginJoin p k.first k.second k.row inside.rows inside.table.rows inside.kept inside.stars)
         → FitMap (after can.map (Join p k.row.number)) rows1 table1.rows held1 stars1) where
       pub gone-through : GoWith n rows1 table1 held1 stars1
       gone-through = record { whole = whole-now; fits = ok begins }
 
-      module _ (joined : JoinedRows) (taken : HaveJoined (map_in rows) p k.first k.second joined)
-          (more : (g : Half) → has table1.rows g ≡ (if is_of (k.row.number ∷ []) g then true else has table.rows g)) where
+      module _ (joined : JoinedRows) (taken : HaveJoined (map_in inside.rows) p k.first k.second joined)
+          (more : (g : Half) → has table1.rows g ≡ (if is_of (k.row.number ∷ []) g then true else has inside.table.rows g)) where
         more-of : (g : Half) → has table1.rows g ≡ (if is_of (new ∷ []) g then true else has_string m g.string)
         more-of g = more g ∙ ap (λ (b : Bool). if is_of (new ∷ []) g then true else b) (all g)
 
@@ -141,32 +125,32 @@ module _ {T : Type 0} (inside : Inside T) {v : Parts} (view : parts-in inside �
               subst (λ (w : Half × Half). AreDifferent (w.0 ∷ w.1 ∷ [])) (λ i. (sym x_is i, sym y_is i))
               (draft.join-different m p new joined.first joined.second tried are-now apart)
 
-          pub two-hidden : (g : Half) → IsShown (map_of (parts rows1 table1 held1 stars1 grid)) g
+          pub two-hidden : (g : Half) → IsShown (map_of (parts rows1 table1 held1 stars1 inside.grid)) g
               → is_of (strings_of (x ∷ y ∷ [])) g ≡ false
           two-hidden g shown =
               subst (λ (w : Half × Half). is_of (strings_of (w.0 ∷ w.1 ∷ [])) g ≡ false) (λ i. (sym x_is i, sym y_is i))
               (draft.join-hidden m p new joined.first joined.second tried are-now apart g
-              (subst (λ (q : Map). IsShown q g) (stand-for grid gone-through) shown))
+              (subst (λ (q : Map). IsShown q g) (stand-for inside.grid gone-through) shown))
 
-          module _ (d : Parts) (fit_now : FitTogether d) (same : map_of d ≡ map_of (parts rows1 table1 held1 stars1 grid))
+          module _ (d : Parts) (fit_now : FitTogether d) (same : map_of d ≡ map_of (parts rows1 table1 held1 stars1 inside.grid))
               (drops : DropsStrings (x ∷ y ∷ []) table1.rows d.table.rows) where
             pub done-proper : IsProper (map_of d) d.table.rows (kept_at d)
             done-proper =
-                settled d n fit_now (same ∙ stand-for grid gone-through) whole-now
+                settled d n fit_now (same ∙ stand-for inside.grid gone-through) whole-now
                 (draft.join-alone m p new joined.first joined.second tried are-now apart table1.rows more-of d.table.rows
                 (subst (λ (w : Half × Half). DropsStrings (w.0 ∷ w.1 ∷ []) table1.rows d.table.rows) (λ i. (x_is i, y_is i)) drops))
 
-            pub done-work : table.work ≤ greatest
-                → table1.work ≡ ticked (1 + (length (cycle table1.rows (forward_of new)) + length (cycle table1.rows (backward_of new)) + 5)) table.work
+            pub done-work : inside.table.work ≤ greatest
+                → table1.work ≡ ticked (1 + (length (cycle table1.rows (forward_of new)) + length (cycle table1.rows (backward_of new)) + 5)) inside.table.work
                 → d.table.work ≡ ticked (length (x ∷ y ∷ [])) table1.work
                 → TakesWork v.table d.table (work_bound m n)
             done-work within one two =
                 let ring = length (cycle table1.rows (forward_of new)) + length (cycle table1.rows (backward_of new)) in
                 let few = draft.join-few m p new joined.first joined.second tried are-now apart table1.rows rows1 held1 stars1 gone-through.fits in
                 let most = draft.join-work m p new joined.first joined.second tried are-now apart in
-                draft-work rows table held stars grid v view d.table ((1 + (ring + 5)) + 2) (work_bound m n) within
+                draft-work inside.rows inside.table inside.kept inside.stars inside.grid v view d.table ((1 + (ring + 5)) + 2) (work_bound m n) within
                 (omega (arith, few, most))
-                (ticks-then table table1 d.table (1 + (ring + 5)) 2 (ticks-just table table1 (1 + (ring + 5)) one) (ticks-just table1 d.table 2 two))
+                (ticks-then inside.table table1 d.table (1 + (ring + 5)) 2 (ticks-just inside.table table1 (1 + (ring + 5)) one) (ticks-just table1 d.table 2 two))
 
         -- ---- Taken back
 
@@ -194,23 +178,23 @@ module _ {T : Type 0} (inside : Inside T) {v : Parts} (view : parts-in inside �
               one-different =
                   subst (λ (w : Half). AreDifferent (w ∷ [])) (sym z_is) (draft.undo-different m p new joined.first joined.second tried are-now apart)
 
-              pub one-hidden : (g : Half) → IsShown (map_of (parts rows2 table2 held2 stars2 grid)) g
+              pub one-hidden : (g : Half) → IsShown (map_of (parts rows2 table2 held2 stars2 inside.grid)) g
                   → is_of (strings_of (z ∷ [])) g ≡ false
               one-hidden g shown =
                   subst (λ (w : Half). is_of (strings_of (w ∷ [])) g ≡ false) (sym z_is)
                   (draft.undo-hidden m p new joined.first joined.second tried are-now apart g
-                  (subst (λ (q : Map). IsShown q g) (stand-for grid gone-back) shown))
+                  (subst (λ (q : Map). IsShown q g) (stand-for inside.grid gone-back) shown))
 
-              module _ (d : Parts) (fit_now : FitTogether d) (same : map_of d ≡ map_of (parts rows2 table2 held2 stars2 grid))
+              module _ (d : Parts) (fit_now : FitTogether d) (same : map_of d ≡ map_of (parts rows2 table2 held2 stars2 inside.grid))
                   (drops : DropsStrings (z ∷ []) table2.rows d.table.rows) where
                 pub undone-proper : IsProper (map_of d) d.table.rows (kept_at d)
                 undone-proper =
-                    settled d m fit_now (same ∙ stand-for grid gone-back) whole
+                    settled d m fit_now (same ∙ stand-for inside.grid gone-back) whole
                     (draft.undo-alone m p new joined.first joined.second tried are-now apart table2.rows (λ g. kept g ∙ more-of g) d.table.rows
                     (subst (λ (w : Half). DropsStrings (w ∷ []) table2.rows d.table.rows) z_is drops))
 
-                pub undone-work : table.work ≤ greatest
-                    → table1.work ≡ ticked (1 + (length (cycle table1.rows (forward_of new)) + length (cycle table1.rows (backward_of new)) + 5)) table.work
+                pub undone-work : inside.table.work ≤ greatest
+                    → table1.work ≡ ticked (1 + (length (cycle table1.rows (forward_of new)) + length (cycle table1.rows (backward_of new)) + 5)) inside.table.work
                     → table2.work ≡ ticked (length (cycle table2.rows (path_at joined.point.number joined.first joined.second new).first)
                     + length (cycle table2.rows (twin (path_at joined.point.number joined.first joined.second new).second)) + 5) table1.work
                     → d.table.work ≡ ticked (length (z ∷ [])) table2.work
@@ -224,8 +208,8 @@ module _ {T : Type 0} (inside : Inside T) {v : Parts} (view : parts-in inside �
                     let few = draft.join-few m p new joined.first joined.second tried are-now apart table1.rows rows1 held1 stars1 gone-through.fits in
                     let less = draft.unjoin-few m p new joined.first joined.second tried are-now apart table2.rows rows2 held2 stars2 gone-back.fits in
                     let most = draft.join-work m p new joined.first joined.second tried are-now apart in
-                    draft-work rows table held stars grid v view d.table (((1 + (ring + 5)) + (old + 5)) + 1) (work_bound m n) within
+                    draft-work inside.rows inside.table inside.kept inside.stars inside.grid v view d.table (((1 + (ring + 5)) + (old + 5)) + 1) (work_bound m n) within
                     (omega (arith, few, less, most))
-                    (ticks-then table table2 d.table ((1 + (ring + 5)) + (old + 5)) 1
-                    (ticks-then table table1 table2 (1 + (ring + 5)) (old + 5) (ticks-just table table1 (1 + (ring + 5)) one) (ticks-just table1 table2 (old + 5) at))
+                    (ticks-then inside.table table2 d.table ((1 + (ring + 5)) + (old + 5)) 1
+                    (ticks-then inside.table table1 table2 (1 + (ring + 5)) (old + 5) (ticks-just inside.table table1 (1 + (ring + 5)) one) (ticks-just table1 table2 (old + 5) at))
                     (ticks-just table2 d.table 1 three))

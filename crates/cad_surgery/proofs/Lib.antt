@@ -21,6 +21,7 @@ pub mod Played
 pub mod Weights
 pub mod Trials
 pub mod GridSteps
+pub mod Entered
 pub mod WorkTaken
 pub mod DraftFits
 pub mod SplitDraft
@@ -37,7 +38,8 @@ pub mod OpenedDraft
 pub mod NamedRings
 pub mod DividedBack
 pub mod DividedAgain
-pub mod LeadsBy
+pub mod AddedBack
+pub mod ComingParcels
 pub mod MergersTried
 pub mod MergedIslandDraft
 pub mod HalvesRound
@@ -50,8 +52,7 @@ pub mod MergedDraft
 pub mod HeldMergers
 pub mod TakenBack
 pub mod UnmergedDraft
-pub mod UnmergedIslandDraft
+pub mod ToldMergers
 pub mod PlacedChains
 pub mod RecordedStrings
-pub mod RecordedIsland
-pub mod RecordedPaths
+pub mod RecordedMergers

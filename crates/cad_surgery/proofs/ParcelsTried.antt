@@ -42,7 +42,7 @@ use Rattle.cad_surgery.proofs.Trials.{is-left, is-left-too, is-made}
 use Rattle.cad_surgery.proofs.WorkTaken.{ticks-just, ticks-fewer, ticks-then, ticks-work, work-allowed}
 
 -- what it may take of work
-new-work : (m : Map) (w : Way) (d : NewParcel) → IsTried m (edit_by w d)
+pub new-work : (m : Map) (w : Way) (d : NewParcel) → IsTried m (edit_by w d)
     → 16 * (length d.strings.now + 2) + 4 * sides_of_face (Parcel d.parcel) (after m (edit_by w d)) ≤ work_bound m (after m (edit_by w d))
 new-work m (way.Along start end) d tried = let w = work-allowed m (edit_by (way.Along start end) d) tried in omega (arith, w)
 new-work m way.Round d tried = let w = work-allowed m (edit_by way.Round d) tried in omega (arith, w)

@@ -1,9 +1,9 @@
 -- What the stars tell of the sides of the map.
-use Rattle.std.proofs.Common.{◌≡◌, ℕ, ◌==◌, Bool, true, false, List, [], ◌∷◌, length, filter, refl, sym, ap, ◌∙◌, subst, arith, Option, Some, None}
-use Rattle.std.specs.Prelude.{IfSome, IfNone, option_map}
+use Rattle.std.proofs.Common.{◌≡◌, ℕ, ◌==◌, Bool, true, false, List, [], ◌∷◌, length, filter, refl, sym, ◌∙◌, subst, arith, Option, Some, None}
+use Rattle.std.specs.Prelude.{IfSome, IfNone}
 use Rattle.std.proofs.lemmas.List.Sorted.{length_permutation}
 use Rattle.cad_rows.specs.declared.rows.StringRow.{StringRow}
-use Rattle.cad_rings.specs.Cycle.{Side, opposite, has_side}
+use Rattle.cad_rings.specs.Cycle.{Side, has_side}
 use Rattle.cad_map.specs.Map.{is_end, degree, string_of, all_sides}
 use Rattle.cad_map.specs.Views.{HasSide, IsNoSide, ComesAfter, HasFaces, HasNoFaces}
 use Rattle.cad_map.proofs.CallerLemmas.{find-Contains, has_side-Contains}
@@ -11,13 +11,12 @@ use Rattle.half_table.specs.declared.half.Half.{Half}
 use Rattle.half_table.specs.Half.{twin, forward_of, backward_of}
 use Rattle.half_table.specs.Rows.{HalfRows, has, next, origin_of, face}
 use Rattle.key_lists.specs.Held.{items_at}
-use Rattle.cad_laws.specs.Local.{side_by}
 use Rattle.map_parts.specs.Stars.{spokes_at}
 use Rattle.map_parts.specs.Parts.{Parts, FitTogether, rows_of, map_of}
 use Rattle.map_parts.specs.Views.{view_half}
 use Rattle.map_parts.specs.Labels.{IsAlong}
 use Rattle.map_parts.proofs.StarHalves.{by_ends-some, told-by_ends}
-use Rattle.map_parts.proofs.PartsRings.{half-there, ends-of, shown-string, half-side, half-corner, side-half}
+use Rattle.map_parts.proofs.PartsRings.{ends-of, shown-string, half-side, half-corner, side-half}
 
 -- a star has one spoke for each string at its point
 pub length-star : (p : ℕ) (strings : List StringRow) → length (spokes_at p strings) ≡ length (filter (λ s. is_end s p) strings)

@@ -28,7 +28,7 @@ use Rattle.half_table.specs.declared.half.Half.{Half}
 use Rattle.half_table.specs.Cycle.{holds}
 use Rattle.half_table.specs.Half.{backward_of, forward_of}
 use Rattle.half_table.specs.Rows.{HalfRows, has, origin_of, cycle}
-use Rattle.half_paths.specs.Path.{strings_of}
+use Rattle.half_paths.specs.Path.{AreIn, strings_of}
 use Rattle.half_paths.specs.Loose.{numbers_of}
 use Rattle.cad_laws.specs.Counts.{shared_strings}
 use Rattle.cad_laws.specs.Local.{IsShown, side_by}
@@ -37,17 +37,19 @@ use Rattle.cad_laws.proofs.CallerLemmas.{shared-counted}
 use Rattle.map_parts.specs.Fits.{FitRings}
 use Rattle.edit_records.specs.HeldChains.{IsOfRing, NamesRings, rings_beside}
 use Rattle.map_parts.specs.MergingIsland.{IsMergingIsland}
-use Rattle.map_parts.specs.Parts.{Parts, FitTogether, HasHalves, map_of, kept_at}
+use Rattle.map_parts.specs.Labels.{IsAlong}
+use Rattle.map_parts.specs.Parts.{Parts, FitTogether, HasHalves, map_of, rows_of, kept_at}
 use Rattle.map_parts.specs.Paths.{AreAlong}
 use Rattle.map_parts.proofs.AlongPaths.{first-of}
 use Rattle.map_parts.proofs.MergedChain.{faces-apart}
 use Rattle.map_parts.proofs.MergedIsland.{merged-island}
+use Rattle.map_parts.proofs.MergedRows as rows_of_merged
 use Rattle.map_parts.proofs.MergingIsland as merging
 use Rattle.map_parts.proofs.PartsRings.{row-there}
 use Rattle.map_parts.proofs.StringRowsPut.{each-left}
 use Rattle.map_parts.proofs.ToHalves.{fits}
 use Rattle.map_parts.proofs.WholeStrings.{strings-once}
-use Rattle.cad_surgery.specs.IslandMergers.{HasSharedRing}
+use Rattle.cad_surgery.specs.IslandMergers.{HasSharedRing, HasFoundRing}
 use Rattle.cad_surgery.proofs.HalvesRound.{all-shown, leads-round, names-rings, same-round}
 use Rattle.cad_surgery.proofs.NamedRings.{named-on, named-once, named-rings}
 
@@ -192,7 +194,7 @@ module _ (d : Parts) (fit : FitTogether d) (keeper : Face) (ended : ℕ) (tried 
         }
 
   -- by what is at hand
-  pub found-ring : (p : List Half) → p ≡ path → (own : List Half) → own ≡ kept_at d (Parcel ended) → (moved : List Half)
+  found-ring : (p : List Half) → p ≡ path → (own : List Half) → own ≡ kept_at d (Parcel ended) → (moved : List Half)
       → moved ≡ filter (λ g. not (holds p g)) own → HasSharedRing m rows keeper ended p moved
   found-ring p p_is own own_is moved is =
       subst (λ (l : List Half). HasSharedRing m rows keeper ended l moved) (sym p_is) (has-ring moved (is ∙ (λ i. filter (λ g. not (holds (p_is i) g)) (own_is i))))
@@ -200,7 +202,7 @@ module _ (d : Parts) (fit : FitTogether d) (keeper : Face) (ended : ℕ) (tried 
 -- ---- By a side of the kept parcel's ring
 
 module _ (m : Map) (valid : IsValid m) (kept ended : Face) (side : Side) (told : IsSharedChain m kept ended (Around side)) where
-  pub the-ring : (k : Ring) × (e : Ring) × Contains (shared_chains m kept ended) (around k e) × Contains (sides_of k) side
+  the-ring : (k : Ring) × (e : Ring) × Contains (shared_chains m kept ended) (around k e) × Contains (sides_of k) side
   the-ring = by told.shared_chain told.there told.is
     where
       by : (x : ChainInRings) → Contains (shared_chains m kept ended) x → IsChainOf x (Around side)
@@ -212,7 +214,7 @@ module _ (m : Map) (valid : IsValid m) (kept ended : Face) (side : Side) (told :
   is-round = are-round m valid kept ended (around the-ring.0 the-ring.1) (found m valid kept ended (around the-ring.0 the-ring.1) the-ring.2)
 
   -- the ended parcel has the opposite side
-  pub back-on : Contains (sides_of the-ring.1) (opposite side)
+  back-on : Contains (sides_of the-ring.1) (opposite side)
   back-on =
       Contains-permutation (map opposite (sides_of the-ring.0)) (sides_of the-ring.1) (opposite side) (around-back _ the-ring.0 the-ring.1 is-round.2)
       (Contains-map opposite (sides_of the-ring.0) side the-ring.3)
@@ -225,3 +227,24 @@ module _ (m : Map) (valid : IsValid m) (kept ended : Face) (side : Side) (told :
     where
       is_no : {b : Bool} → IsFalse b → b ≡ false
       is_no h = h
+
+module _ (d : Parts) (fit : FitTogether d) (keeper : Face) (ended : ℕ) (tried : IsTried (map_of d) (Merge keeper (Parcel ended)))
+    (side : Side) (told : IsSharedChain (map_of d) keeper (Parcel ended) (Around side)) (h : Half) (h_along : IsAlong (rows_of d) d.table.rows (opposite side) h) where
+  abbrev ring : (k : Ring) × (e : Ring) × Contains (shared_chains (map_of d) keeper (Parcel ended)) (around k e) × Contains (sides_of k) side
+  ring = the-ring (map_of d) tried.valid keeper (Parcel ended) side told
+
+  on-it : Contains (sides_of ring.1) (side_by d.table.rows h)
+  on-it = subst (Contains (sides_of ring.1)) (sym h_along.side) (back-on (map_of d) tried.valid keeper (Parcel ended) side told)
+
+  -- its halves are in the table
+  pub ring-in : AreIn d.table.rows (cycle d.table.rows h)
+  ring-in =
+      rows_of_merged.within (map_of d) keeper ended (cycle d.table.rows h) tried (round-strings d fit keeper ended tried ring.0 ring.1 ring.2 h h_along.shown on-it) d.table.rows fit.ends
+
+  -- and what the merger goes by
+  pub ring-found : (p : List Half) → p ≡ cycle d.table.rows h → (own : List Half) → own ≡ kept_at d (Parcel ended) → (moved : List Half)
+      → moved ≡ filter (λ g. not (holds p g)) own → (origins : List ℕ) → origins ≡ map (origin_of d.table.rows) p → HasFoundRing (map_of d) d.table.rows keeper ended p origins moved
+  ring-found p p_is own own_is moved is origins origins_are = record {
+    merger = found-ring d fit keeper ended tried ring.0 ring.1 ring.2 h h_along.shown on-it p p_is own own_is moved is;
+    points_are = origins_are;
+  }

@@ -2,7 +2,6 @@
 use Rattle.std.proofs.Common.{◌≡◌, ◌≤◌, ◌+◌, ℕ, sym, ap, subst, ◌∙◌, List, [], ◌∷◌, length, true, false, if◌then◌else◌, arith}
 use Rattle.cad_rows.specs.declared.edits.Edit.TheVariants.{Split}
 use Rattle.cad_rows.specs.declared.rows.StringRow.{StringRow}
-use Rattle.cell_grid.specs.Grid.{Grid}
 use Rattle.cad_map.specs.Asked.{GivesInRange}
 use Rattle.cad_map.specs.Costs.{work_bound}
 use Rattle.cad_map.specs.Effects.{after}
@@ -36,21 +35,6 @@ use Rattle.cad_surgery.proofs.SplitDraft.{split-whole_after, whole-free, unsplit
 module _ {T : Type 0} (inside : Inside T) {v : Parts} (view : parts-in inside ≡ v) (fit : FitTogether (parts-in inside)) (h : Halving)
     {row : StringRow} {place : ℕ} (given : GivesInRange (split_by row.number h)) {m : Map} (from : IsSplitFrom row place h (map_of v) m)
     (rest : IsProper (map_of v) v.table.rows (kept_at v)) where
-  abbrev rows : MapRows
-  rows = inside.rows
-
-  abbrev table : Table
-  table = inside.table
-
-  abbrev held : Held Half
-  held = inside.kept
-
-  abbrev stars : Held Spoke
-  stars = inside.stars
-
-  abbrev grid : Grid
-  grid = inside.grid
-
   abbrev it : IsMadeOf (split_record row place h) m
   it = from.0
 
@@ -66,15 +50,15 @@ module _ {T : Type 0} (inside : Inside T) {v : Parts} (view : parts-in inside �
   behind-whole : HasWholeRings behind
   behind-whole = split-whole_after m h row.number of
 
-  behind-fits : FitMap behind rows table.rows held stars
+  behind-fits : FitMap behind inside.rows inside.table.rows inside.kept inside.stars
   behind-fits =
-      subst (λ (q : Map). FitMap q rows table.rows held stars) was
-      (draft-fits rows table held stars grid v view fit (subst HasWholeRings (sym was) behind-whole))
+      subst (λ (q : Map). FitMap q inside.rows inside.table.rows inside.kept inside.stars) was
+      (draft-fits inside.rows inside.table inside.kept inside.stars inside.grid v view fit (subst HasWholeRings (sym was) behind-whole))
 
-  behind-all : (g : Half) → has table.rows g ≡ has_string behind g.string
-  behind-all g = draft-all rows table held stars grid v view rest g ∙ ap (λ (q : Map). has_string q g.string) was
+  behind-all : (g : Half) → has inside.table.rows g ≡ has_string behind g.string
+  behind-all g = draft-all inside.rows inside.table inside.kept inside.stars inside.grid v view rest g ∙ ap (λ (q : Map). has_string q g.string) was
 
-  abbrev begun : CanBeginUnsplit row place h.point h.first h.second rows table.rows held stars
+  abbrev begun : CanBeginUnsplit row place h.point h.first h.second inside.rows inside.table.rows inside.kept inside.stars
   begun = record {
     map = m;
     x = h.position.x;
@@ -82,25 +66,25 @@ module _ {T : Type 0} (inside : Inside T) {v : Parts} (view : parts-in inside �
     tried = of;
     at = it.holds;
     fits = behind-fits;
-    new = (whole-free m h row.number of table.rows behind-all, tt);
+    new = (whole-free m h row.number of inside.table.rows behind-all, tt);
   }
 
-  pub back-begins : CanBeginUnsplit row place h.point h.first h.second rows table.rows held stars
+  pub back-begins : CanBeginUnsplit row place h.point h.first h.second inside.rows inside.table.rows inside.kept inside.stars
   back-begins = begun
 
   module _ {new : MapRows} (t : Table) {put : Held Half} {wide : Held Spoke} where
     -- where memory ran out
-    module _ (each : (c : CanBeginUnsplit row place h.point h.first h.second rows table.rows held stars)
+    module _ (each : (c : CanBeginUnsplit row place h.point h.first h.second inside.rows inside.table.rows inside.kept inside.stars)
         → FitMap (after c.map (Split row.number h.point c.x c.y h.first h.second)) new t.rows put wide) where
       pub stays : GoWith behind new t put wide
       stays = record { whole = behind-whole; fits = each begun }
 
-      pub stays-rest : t ≡ table → IsProper (map_of (parts new t put wide grid)) t.rows (kept_at (parts new t put wide grid))
-      stays-rest same = at-rest grid stays (λ g. ap (λ (l : Table). has l.rows g) same ∙ behind-all g)
+      pub stays-rest : t ≡ inside.table → IsProper (map_of (parts new t put wide inside.grid)) t.rows (kept_at (parts new t put wide inside.grid))
+      stays-rest same = at-rest inside.grid stays (λ g. ap (λ (l : Table). has l.rows g) same ∙ behind-all g)
 
     -- where the string is in
-    module _ (each : (c : CanBeginUnsplit row place h.point h.first h.second rows table.rows held stars) → FitMap c.map new t.rows put wide)
-        (some : (g : Half) → has t.rows g ≡ (if is_of (row.number ∷ []) g then true else has table.rows g)) where
+    module _ (each : (c : CanBeginUnsplit row place h.point h.first h.second inside.rows inside.table.rows inside.kept inside.stars) → FitMap c.map new t.rows put wide)
+        (some : (g : Half) → has t.rows g ≡ (if is_of (row.number ∷ []) g then true else has inside.table.rows g)) where
       pub gone-back : GoWith m new t put wide
       gone-back = record { whole = whole_valid m it.valid; fits = each begun }
 
@@ -109,30 +93,30 @@ module _ {T : Type 0} (inside : Inside T) {v : Parts} (view : parts-in inside �
         pair P p = subst P (λ i. sym are_two.0 i ∷ sym are_two.1 i ∷ []) p
 
         pub in-two : AreIn t.rows (x ∷ y ∷ [])
-        in-two = pair (λ l. AreIn t.rows l) (unsplit-in m h row.number of table.rows behind-all t.rows some)
+        in-two = pair (λ l. AreIn t.rows l) (unsplit-in m h row.number of inside.table.rows behind-all t.rows some)
 
         pub in-two_differ : AreDifferent (x ∷ y ∷ [])
         in-two_differ = pair (λ l. AreDifferent l) (back-different m h row.number of)
 
-        pub in-two_hidden : (g : Half) → IsShown (map_of (parts new t put wide grid)) g → is_of (strings_of (x ∷ y ∷ [])) g ≡ false
+        pub in-two_hidden : (g : Half) → IsShown (map_of (parts new t put wide inside.grid)) g → is_of (strings_of (x ∷ y ∷ [])) g ≡ false
         in-two_hidden g shown =
             pair (λ l. is_of (strings_of l) g ≡ false)
-            (back-hidden m h row.number of g (subst (λ (q : Map). IsShown q g) (stand-for grid gone-back) shown))
+            (back-hidden m h row.number of g (subst (λ (q : Map). IsShown q g) (stand-for inside.grid gone-back) shown))
 
-        pub in-proper : (d : Parts) → FitTogether d → map_of d ≡ map_of (parts new t put wide grid)
+        pub in-proper : (d : Parts) → FitTogether d → map_of d ≡ map_of (parts new t put wide inside.grid)
             → DropsStrings (x ∷ y ∷ []) t.rows d.table.rows → IsProper (map_of d) d.table.rows (kept_at d)
         in-proper d d_fit same drops =
-            settled d m d_fit (same ∙ (stand-for grid gone-back)) (whole_valid m it.valid)
-            (unsplit-alone m h row.number of table.rows behind-all t.rows some d.table.rows
+            settled d m d_fit (same ∙ (stand-for inside.grid gone-back)) (whole_valid m it.valid)
+            (unsplit-alone m h row.number of inside.table.rows behind-all t.rows some d.table.rows
             (subst (λ (l : List Half). DropsStrings l t.rows d.table.rows) (λ i. are_two.0 i ∷ are_two.1 i ∷ []) drops))
 
-      pub in-work : table.work ≤ greatest
-          → t.work ≡ ticked (1 + (length (cycle t.rows (forward_of row.number)) + length (cycle t.rows (backward_of row.number)) + 5)) table.work
+      pub in-work : inside.table.work ≤ greatest
+          → t.work ≡ ticked (1 + (length (cycle t.rows (forward_of row.number)) + length (cycle t.rows (backward_of row.number)) + 5)) inside.table.work
           → (u : Table) → u.work ≡ ticked 2 t.work → TakesWork v.table u (work_bound m (map_of v))
       in-work within work u one =
           let ring = length (cycle t.rows (forward_of row.number)) + length (cycle t.rows (backward_of row.number)) + 5 in
           let most = split-work m h row.number of in
           let low = whole-few m h row.number of t.rows new put wide gone-back.fits in
           subst (λ (q : Map). TakesWork v.table u (work_bound m q)) (sym was)
-          (draft-work rows table held stars grid v view u (1 + ring + 2) (work_bound m behind) within (omega (arith, most, low))
-          (ticks-then table t u (1 + ring) 2 (ticks-just table t (1 + ring) work) (ticks-just t u 2 one)))
+          (draft-work inside.rows inside.table inside.kept inside.stars inside.grid v view u (1 + ring + 2) (work_bound m behind) within (omega (arith, most, low))
+          (ticks-then inside.table t u (1 + ring) 2 (ticks-just inside.table t (1 + ring) work) (ticks-just t u 2 one)))

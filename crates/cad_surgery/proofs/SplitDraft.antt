@@ -5,7 +5,6 @@ use Rattle.std.proofs.lemmas.Bool.{false_from_ne_true}
 use Rattle.std.proofs.lemmas.Cmp.{nat_eq_equiv}
 use Rattle.cad_rows.specs.declared.edits.Edit.TheVariants.{Split}
 use Rattle.cad_rows.specs.declared.rows.StringRow.{StringRow}
-use Rattle.cell_grid.specs.Grid.{Grid}
 use Rattle.cad_map.specs.Costs.{work_bound}
 use Rattle.cad_map.specs.Effects.{after}
 use Rattle.cad_map.specs.Map.{Map, string_of, has_string}
@@ -253,114 +252,99 @@ module _ (m : Map) (h : Halving) (string : ℕ) (tried : IsTried m (split_by str
 
 module _ {T : Type 0} (inside : Inside T) {v : Parts} (view : parts-in inside ≡ v) (fit : FitTogether (parts-in inside)) (h : Halving) (string : ℕ)
     (tried : IsTried (map_of v) (split_by string h)) (rest : IsProper (map_of v) v.table.rows (kept_at v)) where
-  abbrev rows : MapRows
-  rows = inside.rows
-
-  abbrev table : Table
-  table = inside.table
-
-  abbrev held : Held Half
-  held = inside.kept
-
-  abbrev stars : Held Spoke
-  stars = inside.stars
-
-  abbrev grid : Grid
-  grid = inside.grid
-
   abbrev old : Map
   old = map_of v
 
   abbrev made : Map
   made = after old (split_by string h)
 
-  fits : FitMap old rows table.rows held stars
-  fits = draft-fits rows table held stars grid v view fit (whole_valid old tried.valid)
+  fits : FitMap old inside.rows inside.table.rows inside.kept inside.stars
+  fits = draft-fits inside.rows inside.table inside.kept inside.stars inside.grid v view fit (whole_valid old tried.valid)
 
-  all : (g : Half) → has table.rows g ≡ has_string old g.string
-  all = draft-all rows table held stars grid v view rest
+  all : (g : Half) → has inside.table.rows g ≡ has_string old g.string
+  all = draft-all inside.rows inside.table inside.kept inside.stars inside.grid v view rest
 
-  pub there-some : IsSome (string_of (map_in rows) string)
+  pub there-some : IsSome (string_of (map_in inside.rows) string)
   there-some =
       subst (λ (q : Parts). IsSome (string_of (map_of q) string)) (sym view)
       (subst IsSome (sym (split-there old h string tried).1) refl)
 
   -- what the rows that come are
-  pub rows-come : (k : SplitRows) → ((r : StringRow) → string_of (map_in rows) string ≡ Some r → k ≡ split_rows r h)
+  pub rows-come : (k : SplitRows) → ((r : StringRow) → string_of (map_in inside.rows) string ≡ Some r → k ≡ split_rows r h)
       → (r : StringRow) → string_of old string ≡ Some r → k ≡ split_rows r h
   rows-come k are r is = are r (ap (λ (q : Parts). string_of (map_of q) string) view ∙ is)
 
   module _ (k : SplitRows) (are : (r : StringRow) → string_of old string ≡ Some r → k ≡ split_rows r h) where
-    pub begins : CanBeginSplit string k.point k.first k.second rows table.rows held stars
-    begins = split-begins old h string tried rows table.rows held stars fits all k are
+    pub begins : CanBeginSplit string k.point k.first k.second inside.rows inside.table.rows inside.kept inside.stars
+    begins = split-begins old h string tried inside.rows inside.table.rows inside.kept inside.stars fits all k are
 
-    pub left-work : (t : Table) → table.work ≤ greatest → (count : ℕ) × (count ≤ 2) × (t.work ≡ ticked count table.work)
+    pub left-work : (t : Table) → inside.table.work ≤ greatest → (count : ℕ) × (count ≤ 2) × (t.work ≡ ticked count inside.table.work)
         → TakesWork v.table t (work_bound old made)
     left-work t within it =
         let most = split-work old h string tried in
-        draft-work rows table held stars grid v view t 2 (work_bound old made) within (omega (arith, most))
+        draft-work inside.rows inside.table inside.kept inside.stars inside.grid v view t 2 (work_bound old made) within (omega (arith, most))
         (record { ticks = it.0; few = it.1; counted = it.2 })
 
     module _ {new : MapRows} (t : Table) {put : Held Half} {wide : Held Spoke} where
       -- where memory ran out
-      module _ (each : (c : CanBeginSplit string k.point k.first k.second rows table.rows held stars) → FitMap c.map new t.rows put wide) where
+      module _ (each : (c : CanBeginSplit string k.point k.first k.second inside.rows inside.table.rows inside.kept inside.stars) → FitMap c.map new t.rows put wide) where
         pub left : GoWith old new t put wide
         left = record {
           whole = whole_valid old tried.valid;
-          fits = split-unbegun old h string tried rows table.rows held stars fits all k are new t.rows put wide each;
+          fits = split-unbegun old h string tried inside.rows inside.table.rows inside.kept inside.stars fits all k are new t.rows put wide each;
         }
 
-        pub left-rest : t.rows ≡ table.rows → IsProper (map_of (parts new t put wide grid)) t.rows (kept_at (parts new t put wide grid))
-        left-rest same = at-rest grid left (λ g. ap (λ (l : HalfRows). has l g) same ∙ all g)
+        pub left-rest : t.rows ≡ inside.table.rows → IsProper (map_of (parts new t put wide inside.grid)) t.rows (kept_at (parts new t put wide inside.grid))
+        left-rest same = at-rest inside.grid left (λ g. ap (λ (l : HalfRows). has l g) same ∙ all g)
 
       -- where it is made
-      module _ (each : (c : CanBeginSplit string k.point k.first k.second rows table.rows held stars)
+      module _ (each : (c : CanBeginSplit string k.point k.first k.second inside.rows inside.table.rows inside.kept inside.stars)
           → FitMap (after c.map (Split string k.point.number k.point.position.x k.point.position.y k.first.number k.second.number)) new t.rows put wide) where
         pub gone-through : GoWith made new t put wide
         gone-through = record {
           whole = split-whole_after old h string tried;
-          fits = split-begun old h string tried rows table.rows held stars fits all k are new t.rows put wide each;
+          fits = split-begun old h string tried inside.rows inside.table.rows inside.kept inside.stars fits all k are new t.rows put wide each;
         }
 
-        module _ (some : (g : Half) → has t.rows g ≡ (if is_of (k.first.number ∷ k.second.number ∷ []) g then true else has table.rows g)) where
+        module _ (some : (g : Half) → has t.rows g ≡ (if is_of (k.first.number ∷ k.second.number ∷ []) g then true else has inside.table.rows g)) where
           more : (g : Half) → has t.rows g ≡ (if is_of (h.first ∷ h.second ∷ []) g then true else has_string old g.string)
-          more = split-has old h string tried rows table.rows held stars fits all k are t.rows some
+          more = split-has old h string tried inside.rows inside.table.rows inside.kept inside.stars fits all k are t.rows some
 
           module _ (q : Half) (q_is : q ≡ forward_of string) where
             pub gone-different : AreDifferent (q ∷ [])
             gone-different = subst (λ (q : Half). AreDifferent (q ∷ [])) (sym q_is) (split-one old h string tried t.rows more)
 
-            pub gone-hidden : (g : Half) → IsShown (map_of (parts new t put wide grid)) g → is_of (strings_of (q ∷ [])) g ≡ false
+            pub gone-hidden : (g : Half) → IsShown (map_of (parts new t put wide inside.grid)) g → is_of (strings_of (q ∷ [])) g ≡ false
             gone-hidden g shown =
                 subst (λ (q : Half). is_of (strings_of (q ∷ [])) g ≡ false) (sym q_is)
-                (split-hidden old h string tried t.rows more g (subst (λ (m : Map). IsShown m g) (stand-for grid gone-through) shown))
+                (split-hidden old h string tried t.rows more g (subst (λ (m : Map). IsShown m g) (stand-for inside.grid gone-through) shown))
 
-            pub gone-proper : (d : Parts) → FitTogether d → map_of d ≡ map_of (parts new t put wide grid)
+            pub gone-proper : (d : Parts) → FitTogether d → map_of d ≡ map_of (parts new t put wide inside.grid)
                 → DropsStrings (q ∷ []) t.rows d.table.rows → IsProper (map_of d) d.table.rows (kept_at d)
             gone-proper d d_fit same drops =
-                settled d made d_fit (same ∙ (stand-for grid gone-through)) (split-whole_after old h string tried)
+                settled d made d_fit (same ∙ (stand-for inside.grid gone-through)) (split-whole_after old h string tried)
                 (split-alone old h string tried t.rows more d.table.rows (subst (λ (q : Half). DropsStrings (q ∷ []) t.rows d.table.rows) q_is drops))
 
-          module _ (within : table.work ≤ greatest)
-              (work : t.work ≡ ticked (2 + (length (cycle t.rows (forward_of k.first.number)) + length (cycle t.rows (backward_of k.second.number)) + 5)) table.work) where
+          module _ (within : inside.table.work ≤ greatest)
+              (work : t.work ≡ ticked (2 + (length (cycle t.rows (forward_of k.first.number)) + length (cycle t.rows (backward_of k.second.number)) + 5)) inside.table.work) where
             -- the ticks until it is made
             abbrev path : ℕ
             path = 2 + (length (cycle t.rows (forward_of h.first)) + length (cycle t.rows (backward_of h.second)) + 5)
 
-            made-ticks : TicksUpTo path table t
-            made-ticks = ticks-just table t path (split-ticks old h string tried rows table.rows held stars fits all k are t.rows t.work table.work work)
+            made-ticks : TicksUpTo path inside.table t
+            made-ticks = ticks-just inside.table t path (split-ticks old h string tried inside.rows inside.table.rows inside.kept inside.stars fits all k are t.rows t.work inside.table.work work)
 
             pub gone-work : (u : Table) → u.work ≡ ticked 1 t.work → TakesWork v.table u (work_bound old made)
             gone-work u one =
                 let most = split-work old h string tried in
                 let few = path-few old h string tried t.rows new put wide gone-through.fits in
-                draft-work rows table held stars grid v view u (path + 1) (work_bound old made) within (omega (arith, most, few))
-                (ticks-then table t u path 1 made-ticks (ticks-just t u 1 one))
+                draft-work inside.rows inside.table inside.kept inside.stars inside.grid v view u (path + 1) (work_bound old made) within (omega (arith, most, few))
+                (ticks-then inside.table t u path 1 made-ticks (ticks-just t u 1 one))
 
           -- ---- And taken back
 
-          module _ {r : StringRow} (place : ℕ) (found_in : string_of (map_in rows) string ≡ Some r)
-              (at_in : slice_get (map_in rows).strings place ≡ Some r) (whole_there : HasHalves t.rows r)
+          module _ {r : StringRow} (place : ℕ) (found_in : string_of (map_in inside.rows) string ≡ Some r)
+              (at_in : slice_get (map_in inside.rows).strings place ≡ Some r) (whole_there : HasHalves t.rows r)
               (loose : AreLoose (next t.rows) (forward_of string ∷ [])) (slot : HasSlot new.strings r.number) where
             found : string_of old string ≡ Some r
             found = subst (λ (q : Parts). string_of (map_of q) string ≡ Some r) view found_in
@@ -393,20 +377,20 @@ module _ {T : Type 0} (inside : Inside T) {v : Parts} (view : parts-in inside �
                 pub back-two_differ : AreDifferent (x ∷ y ∷ [])
                 back-two_differ = two (λ l. AreDifferent l) (back-different old h string tried)
 
-                pub back-two_hidden : (g : Half) → IsShown (map_of (parts back u kept star grid)) g → is_of (strings_of (x ∷ y ∷ [])) g ≡ false
+                pub back-two_hidden : (g : Half) → IsShown (map_of (parts back u kept star inside.grid)) g → is_of (strings_of (x ∷ y ∷ [])) g ≡ false
                 back-two_hidden g shown =
                     two (λ l. is_of (strings_of l) g ≡ false)
-                    (back-hidden old h string tried g (subst (λ (m : Map). IsShown m g) (stand-for grid gone-back) shown))
+                    (back-hidden old h string tried g (subst (λ (m : Map). IsShown m g) (stand-for inside.grid gone-back) shown))
 
-                pub back-proper : (d : Parts) → FitTogether d → map_of d ≡ map_of (parts back u kept star grid)
+                pub back-proper : (d : Parts) → FitTogether d → map_of d ≡ map_of (parts back u kept star inside.grid)
                     → DropsStrings (x ∷ y ∷ []) u.rows d.table.rows → IsProper (map_of d) d.table.rows (kept_at d)
                 back-proper d d_fit same drops =
-                    settled d old d_fit (same ∙ (stand-for grid gone-back)) (whole_valid old tried.valid)
+                    settled d old d_fit (same ∙ (stand-for inside.grid gone-back)) (whole_valid old tried.valid)
                     (back-alone old h string tried t.rows more u.rows d.table.rows has_same
                     (subst (λ (l : List Half). DropsStrings l u.rows d.table.rows) (λ i. are_two.0 i ∷ are_two.1 i ∷ []) drops))
 
-              module _ (within : table.work ≤ greatest)
-                  (work : t.work ≡ ticked (2 + (length (cycle t.rows (forward_of k.first.number)) + length (cycle t.rows (backward_of k.second.number)) + 5)) table.work)
+              module _ (within : inside.table.work ≤ greatest)
+                  (work : t.work ≡ ticked (2 + (length (cycle t.rows (forward_of k.first.number)) + length (cycle t.rows (backward_of k.second.number)) + 5)) inside.table.work)
                   (again : u.work ≡ ticked (length (cycle u.rows (forward_of r.number)) + length (cycle u.rows (backward_of r.number)) + 5) t.work) where
                 abbrev ring : ℕ
                 ring = length (cycle u.rows (forward_of string)) + length (cycle u.rows (backward_of string)) + 5
@@ -421,6 +405,6 @@ module _ {T : Type 0} (inside : Inside T) {v : Parts} (view : parts-in inside �
                     let low = whole-few old h string tried u.rows back kept star gone-back.fits in
                     let is : u.work ≡ ticked ring t.work =
                     again ∙ ap (λ (s : ℕ). ticked (length (cycle u.rows (forward_of s)) + length (cycle u.rows (backward_of s)) + 5) t.work) number in
-                    draft-work rows table held stars grid v view w (path within work + ring + 2) (work_bound old made) within (omega (arith, most, few, low))
-                    (ticks-then table u w (path within work + ring) 2
-                    (ticks-then table t u (path within work) ring (made-ticks within work) (ticks-just t u ring is)) (ticks-just u w 2 one))
+                    draft-work inside.rows inside.table inside.kept inside.stars inside.grid v view w (path within work + ring + 2) (work_bound old made) within (omega (arith, most, few, low))
+                    (ticks-then inside.table u w (path within work + ring) 2
+                    (ticks-then inside.table t u (path within work) ring (made-ticks within work) (ticks-just t u ring is)) (ticks-just u w 2 one))

@@ -31,7 +31,7 @@ use Rattle.cad_laws.specs.Counts.{shared_strings, sides_of_face}
 use Rattle.cad_laws.specs.Tried.{IsTried}
 use Rattle.edit_records.specs.declared.record.ChainString.{ChainString}
 use Rattle.edit_records.specs.HeldChains.{rows_along}
-use Rattle.cad_surgery.specs.Mergers.{halves_of}
+use Rattle.cad_surgery.specs.ToldMergers.{halves_of}
 use Rattle.cad_surgery.specs.Proper.{IsProper}
 use Rattle.cad_surgery.specs.Work.{TakesWork}
 use Rattle.map_parts.specs.declared.edits.placed_strings.PlacedString.{PlacedString}

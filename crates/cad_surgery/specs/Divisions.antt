@@ -1,5 +1,5 @@
--- What a division names and gives, and what its record tells.
-use Rattle.std.specs.Prelude.{◌≡◌, ⊤, List, [], ◌∷◌, map, filter, IsPermutation}
+-- What a division names and gives.
+use Rattle.std.specs.Prelude.{◌≡◌, List, [], ◌∷◌, map, filter, IsPermutation}
 use Rattle.cad_rows.specs.declared.edits.Edit.{Edit}
 use Rattle.cad_rows.specs.declared.edits.Edit.TheVariants.{Divide}
 use Rattle.cad_rows.specs.declared.names.Face.TheVariants.{Parcel}
@@ -7,7 +7,7 @@ use Rattle.cad_rows.specs.declared.rows.ParcelRow.{ParcelRow}
 use Rattle.cad_rows.specs.declared.rows.StringRow.{StringRow}
 use Rattle.cad_rings.specs.Cycle.{Corner}
 use Rattle.cad_map.specs.Boundaries.{is_face}
-use Rattle.cad_map.specs.Chain.{leaving, start_of, next_of, strings_along}
+use Rattle.cad_map.specs.Chain.{leaving, strings_along}
 use Rattle.cad_map.specs.Division.{hole_placed}
 use Rattle.cad_map.specs.Effects.{after}
 use Rattle.cad_map.specs.Map.{Map}
@@ -16,17 +16,12 @@ use Rattle.half_table.specs.Half.{forward_of}
 use Rattle.half_table.specs.Rows.{HalfRows}
 use Rattle.half_paths.specs.Path.{AreIn}
 use Rattle.cad_laws.specs.Faces.{IsDividedIn, left_of_chain, uncut}
-use Rattle.cad_laws.specs.Tried.{IsTried, AreChosen}
+use Rattle.cad_laws.specs.Tried.{AreChosen}
 use Rattle.cad_surgery.specs.declared.edits.given.NewParcel.{NewParcel}
 use Rattle.cad_surgery.specs.Enclosures.{parcel_by}
-use Rattle.edit_records.specs.declared.record.SmallRecord.{SmallRecord}
-use Rattle.edit_records.specs.declared.record.SmallRecord.TheVariants as change
 use Rattle.map_parts.specs.Handing.{home_of}
-use Rattle.edit_records.specs.HeldChains.{NamesRings, rings_beside as rings_but}
 use Rattle.map_parts.specs.Labels.{IsAlong}
 use Rattle.map_parts.specs.Islands.{AreOfRings}
-
--- ---- What a division names and gives
 
 -- the edit
 abbrev pub divided_by : NewParcel → Edit
@@ -59,17 +54,3 @@ pub record ComesAcross (m : Map) (rows : HalfRows) (d : NewParcel) (start end : 
   pub parcel_is : parcel ≡ parcel_by d
   pub path_is : path ≡ map forward_of d.strings.now
   pub crossing : HasCrossing m rows d start end moved
-
--- ---- A division that was made
-
--- The second map is that after the division, which was tried, and the halves name the rings of its
--- parcel but the one along the chain.
-pub record IsDividedBy (m now : Map) (d : NewParcel) (moved : List Half) : Type 0 where
-  pub tried : IsTried m (divided_by d)
-  pub is : now ≡ after m (divided_by d)
-  pub named : NamesRings now moved (rings_but now (Parcel d.parcel) (start_of d.points.now, next_of d.points.now))
-
--- the record is of a division
-abbrev pub IsOfDivide : SmallRecord → Type 0
-IsOfDivide (change.Divide face chain strings parcel label source start end moved) = ⊤
-IsOfDivide _ = ⊥

@@ -1,20 +1,15 @@
--- What an enclosure names and gives, and what its record tells.
+-- What an enclosure names and gives.
 use Rattle.std.specs.Prelude.{◌≡◌, List, [], ◌∷◌, ◌++◌, map}
 use Rattle.cad_rows.specs.declared.edits.Edit.{Edit}
 use Rattle.cad_rows.specs.declared.edits.Edit.TheVariants.{Enclose}
-use Rattle.cad_rows.specs.declared.names.Face.TheVariants.{Parcel}
 use Rattle.cad_rows.specs.declared.rows.ParcelRow.{ParcelRow}
 use Rattle.cad_rows.specs.declared.rows.StringRow.{StringRow}
 use Rattle.cad_map.specs.Chain.{start_of, strings_along}
-use Rattle.cad_map.specs.Effects.{after}
 use Rattle.cad_map.specs.Map.{Map}
-use Rattle.cad_map.specs.Outcome.{LeadsTo}
-use Rattle.cad_map.specs.Valid.{IsValid}
 use Rattle.half_table.specs.declared.half.Half.{Half}
 use Rattle.half_table.specs.Half.{forward_of}
 use Rattle.half_table.specs.Rows.{HalfRows}
 use Rattle.cad_surgery.specs.declared.edits.given.NewParcel.{NewParcel}
-use Rattle.edit_records.specs.HeldChains.{HeldIsland}
 use Rattle.map_parts.specs.Placed.{AreOfHoles}
 
 -- the edit
@@ -36,9 +31,3 @@ pub record ComesRound (m : Map) (rows : HalfRows) (e : NewParcel) (strings : Lis
   pub parcel_is : parcel ≡ parcel_by e
   pub path_is : path ≡ map forward_of e.strings.now
   pub holes : AreOfHoles m rows e.face e.points.now moved
-
--- one map leads to the other by it, and these halves name the rings that pass over
-pub record LeadsBy (e : NewParcel) (moved : List Half) (before now : Map) : Type 0 where
-  pub valid : IsValid before
-  pub leads : LeadsTo before (enclosed_by e) now
-  pub held : HeldIsland (after before (enclosed_by e)) (Parcel e.parcel) e.points.now moved

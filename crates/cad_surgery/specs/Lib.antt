@@ -11,4 +11,6 @@ pub mod IslandMergers
 pub mod ChainStrings
 pub mod Mergers
 pub mod Merging
+pub mod ToldMergers
 pub mod NewParcels
+pub mod AddedParcels

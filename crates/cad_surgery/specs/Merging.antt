@@ -17,8 +17,8 @@ use Rattle.cad_laws.specs.Counts.{sides_of_face}
 use Rattle.cad_surgery.specs.declared.edits.merging.Merger.{Merger}
 use Rattle.cad_surgery.specs.declared.edits.merging.Way.{Way}
 use Rattle.cad_surgery.specs.declared.edits.merging.Way.TheVariants as way
-use Rattle.cad_surgery.specs.IslandMergers.{HasSharedRing}
-use Rattle.cad_surgery.specs.Mergers.{HasSharedPath}
+use Rattle.cad_surgery.specs.IslandMergers.{HasSharedRing, HasFoundRing}
+use Rattle.cad_surgery.specs.Mergers.{HasSharedPath, HasFoundPath}
 use Rattle.cad_surgery.specs.Work.{TakesWork, TicksUpTo}
 use Rattle.map_parts.specs.declared.edits.merging_tried.EndedParcel.{EndedParcel}
 use Rattle.map_parts.specs.declared.map_rows.MapRows.{MapRows}
@@ -36,6 +36,11 @@ merged_by g = Merge g.kept (Parcel g.ended)
 abbrev pub HasShared : Way → Map → HalfRows → Face → ℕ → List Half → List Half → Type 0
 HasShared (way.Along start end) m rows kept ended path moved = HasSharedPath m rows kept ended path start end moved
 HasShared way.Round m rows kept ended path moved = HasSharedRing m rows kept ended path moved
+
+-- the same found, with the points along it
+abbrev pub HasFound : Way → Map → HalfRows → Face → ℕ → List Half → List ℕ → List Half → Type 0
+HasFound (way.Along start end) m rows kept ended path points moved = HasFoundPath m rows kept ended path points start end moved
+HasFound way.Round m rows kept ended path points moved = HasFoundRing m rows kept ended path points moved
 
 -- These are the parts of the map, at rest, and the merger's halves are in its table.
 pub record IsMergerOn (m : Map) (g : Merger) (rows : MapRows) (table : Table) (held : Held Half) (stars : Held Spoke) : Type 0 where

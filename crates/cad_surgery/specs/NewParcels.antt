@@ -1,6 +1,8 @@
 -- A parcel that comes by a division or an enclosure: how it begins to come, and goes out again.
-use Rattle.std.specs.Prelude.{◌≡◌, ◌<◌, ◌≤◌, ◌+◌, ◌*◌, ℕ, true, false, if◌then◌else◌, List, [], ◌∷◌, length, Result, OnOk, OnErr}
+use Rattle.std.specs.Prelude.{◌≡◌, ◌<◌, ◌≤◌, ◌+◌, ◌*◌, ℕ, true, false, if◌then◌else◌, List, [], ◌∷◌, map, length, Result, OnOk, OnErr}
 use Rattle.cad_rows.specs.declared.edits.Edit.{Edit}
+use Rattle.cad_rows.specs.declared.edits.Edit.TheVariants.{Divide, Enclose}
+use Rattle.cad_rows.specs.declared.names.Face.{Face}
 use Rattle.cad_rows.specs.declared.names.Face.TheVariants.{Parcel}
 use Rattle.cad_rows.specs.declared.rows.ParcelRow.{ParcelRow}
 use Rattle.cad_rows.specs.declared.rows.StringRow.{StringRow}
@@ -9,7 +11,7 @@ use Rattle.cad_map.specs.Map.{Map, has_string}
 use Rattle.cad_map.specs.Rings.{HasWholeRings}
 use Rattle.half_table.specs.declared.half.Half.{Half}
 use Rattle.half_table.specs.Count.{greatest}
-use Rattle.half_table.specs.Half.{twin}
+use Rattle.half_table.specs.Half.{forward_of, twin}
 use Rattle.half_table.specs.Rows.{HalfRows, Table, has, next, cycle}
 use Rattle.half_paths.specs.Path.{AreDifferent, strings_of}
 use Rattle.half_paths.specs.Loose.{is_of, AreLoose}
@@ -17,11 +19,14 @@ use Rattle.key_lists.specs.Held.{Held}
 use Rattle.cad_laws.specs.Counts.{sides_of_face}
 use Rattle.cad_laws.specs.Local.{IsShown}
 use Rattle.cad_laws.specs.Tried.{IsTried}
+use Rattle.cad_surgery.specs.declared.edits.coming.Coming.{Coming}
+use Rattle.cad_surgery.specs.declared.edits.given.Kind.{Kind}
+use Rattle.cad_surgery.specs.declared.edits.given.Kind.TheVariants as kind
 use Rattle.cad_surgery.specs.declared.edits.given.NewParcel.{NewParcel}
 use Rattle.cad_surgery.specs.declared.edits.merging.Way.{Way}
 use Rattle.cad_surgery.specs.declared.edits.merging.Way.TheVariants as way
 use Rattle.cad_surgery.specs.Divisions.{ComesAcross, divided_by}
-use Rattle.cad_surgery.specs.Enclosures.{ComesRound, enclosed_by}
+use Rattle.cad_surgery.specs.Enclosures.{ComesRound, enclosed_by, parcel_by}
 use Rattle.cad_surgery.specs.Work.{TicksUpTo}
 use Rattle.map_parts.specs.declared.map_rows.MapRows.{MapRows}
 use Rattle.map_parts.specs.declared.stars.Spoke.{Spoke}
@@ -35,10 +40,28 @@ abbrev pub edit_by : Way → NewParcel → Edit
 edit_by (way.Along start end) d = divided_by d
 edit_by way.Round d = enclosed_by d
 
+-- whether it comes by a division or by an enclosure
+abbrev pub edit_as : Kind → NewParcel → Edit
+edit_as kind.Divide d = divided_by d
+edit_as kind.Enclose d = enclosed_by d
+
+-- the edit as it is asked for
+abbrev pub edit_asked : Kind → (face : Face) → (points strings : List ℕ) → (parcel : ℕ) → (label : List ℕ) → (source : ℕ) → Edit
+edit_asked kind.Divide face points strings parcel label source = Divide face points strings parcel label source
+edit_asked kind.Enclose face points strings parcel label source = Enclose face points strings parcel label source
+
 -- what comes with it: its rows, and the halves
 abbrev pub Comes : Way → Map → HalfRows → NewParcel → List StringRow → ParcelRow → List Half → List Half → Type 0
 Comes (way.Along start end) m rows d added row path moved = ComesAcross m rows d start end moved added row path
 Comes way.Round m rows d added row path moved = ComesRound m rows d added row path moved
+
+-- these are the rows and the halves of a parcel whose strings have such rows and lead so
+pub record IsComing (d : NewParcel) (added : List StringRow) (w : Way) (moved : List Half) (c : Coming) : Type 0 where
+  pub strings_are : c.strings.items ≡ added
+  pub parcel_is : c.parcel ≡ parcel_by d
+  pub way_is : c.lead.way ≡ w
+  pub path_is : c.lead.path.items ≡ map forward_of d.strings.now
+  pub moved_are : c.lead.moved.items ≡ moved
 
 -- These are the parts of the map, at rest, on which it is tried.
 pub record IsNewOn (m : Map) (w : Way) (d : NewParcel) (path moved : List Half) (added : List StringRow) (row : ParcelRow)

@@ -19,13 +19,12 @@ ghost use Rattle.cad_surgery.specs.Trials.{IsReadyFor, IsTakenBack, IsTrialOf, I
 ghost use Rattle.cad_surgery.specs.Work.{TakesWork};
 
 use crate::draft::Draft;
-use crate::edits::given::NewParcel;
-use crate::edits::try_divide::{back_divide, forward_divide, try_divide};
-use crate::edits::try_enclose::{back_enclose, forward_enclose, try_enclose};
+use crate::edits::added::{back_added, forward_added};
+use crate::edits::given::Kind;
+use crate::edits::merged::{back_merge, forward_merge};
+use crate::edits::try_adding::try_adding;
 use crate::edits::try_join::{back_join, forward_join, try_join};
 use crate::edits::try_merge::try_merge;
-use crate::edits::try_merge_along::{back_merge_along, forward_merge_along};
-use crate::edits::try_merge_island::{back_merge_island, forward_merge_island};
 use crate::edits::try_split::{Halving, back_split, forward_split, try_split};
 use cad_rows::{Edit, Memory, Refusal};
 use cad_valid::{Touched, first_broken_near};
@@ -113,8 +112,16 @@ fn try_edit<T: Tally>(
             parcel,
             label,
             source,
-        } => try_enclose(
-            draft, *face, points, strings, *parcel, label, *source, touched,
+        } => try_adding(
+            draft,
+            Kind::Enclose,
+            *face,
+            points,
+            strings,
+            *parcel,
+            label,
+            *source,
+            touched,
         ),
         Edit::Divide {
             face,
@@ -123,8 +130,16 @@ fn try_edit<T: Tally>(
             parcel,
             label,
             source,
-        } => try_divide(
-            draft, *face, chain, strings, *parcel, label, *source, touched,
+        } => try_adding(
+            draft,
+            Kind::Divide,
+            *face,
+            chain,
+            strings,
+            *parcel,
+            label,
+            *source,
+            touched,
         ),
         Edit::Merge { kept, ended } => try_merge(draft, *kept, *ended, touched),
         _ => try_rows(draft, edit, touched),
@@ -228,28 +243,10 @@ fn back_edit<T: Tally>(draft: &mut Draft<T>, change: &SmallRecord) -> Result<(),
             back_split(draft, row, *place, &halving)
         }
         SmallRecord::Join { .. } => back_join(draft, change),
-        SmallRecord::Enclose {
-            face,
-            points,
-            strings,
-            parcel,
-            label,
-            source,
-            moved,
-        } => {
-            let enclosure = NewParcel {
-                face: *face,
-                points: points.as_slice(),
-                strings: strings.as_slice(),
-                parcel: *parcel,
-                label,
-                source: *source,
-            };
-            back_enclose(draft, &enclosure, moved.as_slice())
+        SmallRecord::Divide { .. } | SmallRecord::Enclose { .. } => back_added(draft, change),
+        SmallRecord::MergeAlong { .. } | SmallRecord::MergeIsland { .. } => {
+            back_merge(draft, change)
         }
-        SmallRecord::Divide { .. } => back_divide(draft, change),
-        SmallRecord::MergeAlong { .. } => back_merge_along(draft, change),
-        SmallRecord::MergeIsland { .. } => back_merge_island(draft, change),
         _ => draft.unmake_rows(change),
     }
 }
@@ -278,28 +275,10 @@ fn forward_edit<T: Tally>(draft: &mut Draft<T>, change: &SmallRecord) -> Result<
             forward_split(draft, row.number, &halving)
         }
         SmallRecord::Join { row, string, .. } => forward_join(draft, row.number, *string),
-        SmallRecord::Enclose {
-            face,
-            points,
-            strings,
-            parcel,
-            label,
-            source,
-            ..
-        } => {
-            let enclosure = NewParcel {
-                face: *face,
-                points: points.as_slice(),
-                strings: strings.as_slice(),
-                parcel: *parcel,
-                label,
-                source: *source,
-            };
-            forward_enclose(draft, &enclosure)
+        SmallRecord::Divide { .. } | SmallRecord::Enclose { .. } => forward_added(draft, change),
+        SmallRecord::MergeAlong { .. } | SmallRecord::MergeIsland { .. } => {
+            forward_merge(draft, change)
         }
-        SmallRecord::Divide { .. } => forward_divide(draft, change),
-        SmallRecord::MergeAlong { .. } => forward_merge_along(draft, change),
-        SmallRecord::MergeIsland { .. } => forward_merge_island(draft, change),
         _ => draft.remake_rows(change),
     }
 }

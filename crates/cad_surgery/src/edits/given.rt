@@ -1,14 +1,22 @@
 //! What a division or an enclosure gives: the halves along its strings, and what its record keeps.
-ghost use Rattle.std.specs.Prelude.{◌≡◌, ◌<◌, ◌∷◌, length, map as map_by, IfOk};
+ghost use Rattle.std.specs.Prelude.{◌≡◌, ◌<◌, ◌≤◌, ◌∷◌, ◌++◌, [], length, map as map_by, IfOk};
+ghost use Rattle.cad_map.specs.Chain.{start_of};
 ghost use Rattle.half_table.specs.Half.{forward_of};
-ghost use Rattle.cad_rows.specs.declared.edits.Edit.TheVariants.{Divide, Enclose};
-ghost use Rattle.cad_surgery.specs.Divisions.{divided_by};
-ghost use Rattle.cad_surgery.specs.Enclosures.{enclosed_by, parcel_by};
+ghost use Rattle.cad_surgery.specs.declared.edits.given.Kind.{Kind as KindOf};
+ghost use Rattle.cad_surgery.specs.Enclosures.{parcel_by};
+ghost use Rattle.cad_surgery.specs.NewParcels.{edit_as, edit_asked};
 
 use cad_rows::{Face, Label, Memory, Numbers, ParcelNo, ParcelRow, PointNo, SourceNo, StringNo};
 use half_table::Half;
 use map_parts::forward;
 use std::alloc::Global;
+
+/// Whether a parcel comes by a division or by an enclosure.
+#[derive(Clone, Copy)]
+pub(crate) enum Kind {
+    Divide,
+    Enclose,
+}
 
 /// What a division or an enclosure names and gives.
 #[derive(Clone, Copy)]
@@ -41,6 +49,16 @@ pub(crate) fn first_and_rest(path: &[Half]) -> (&Half, &[Half])
     ensures { path.now ≡ result.0.now ∷ result.1.now }
 {
     (&path[0], &path[1..])
+}
+
+/// The points of a ring, and the first of them once more.
+pub(crate) fn closed(alloc: Global, points: &[PointNo]) -> Result<Vec<PointNo>, Memory>
+    requires { 1 ≤ length points.now }
+    ensures { IfOk result (λ closed. closed.items ≡ points.now ++ start_of points.now ∷ []) }
+{
+    let mut closed = Vec::from_slice(alloc, points)?;
+    closed.push(points[0])?;
+    Ok(closed)
 }
 
 /// The halves of strings, each from its string's first point to its second.
@@ -95,10 +113,8 @@ pub(crate) fn given_by<'a>(
     label: &'a Label,
     source: SourceNo,
 ) -> Result<Given<'a>, Memory>
-    ensures divides { IfOk result (λ g. divided_by g.new
-        ≡ Divide face points.now strings.now parcel label.now source) }
-    ensures encloses { IfOk result (λ g. enclosed_by g.new
-        ≡ Enclose face points.now strings.now parcel label.now source) }
+    ensures edit { IfOk result (λ g. (kind : KindOf) → edit_as kind g.new
+        ≡ edit_asked kind face points.now strings.now parcel label.now source) }
     ensures kept { IfOk result (λ g. g.kept ≡ record {
       points = g.new.points.now;
       strings = g.new.strings.now;

@@ -6,31 +6,17 @@ ghost use Rattle.cad_rows.specs.declared.edits.Edit.TheVariants.{Merge};
 ghost use Rattle.cad_rows.specs.declared.names.Face.TheVariants.{Parcel};
 ghost use Rattle.half_paths.specs.Path.{strings_of};
 ghost use Rattle.cad_laws.specs.Tried.{IsTried};
-ghost use Rattle.cad_surgery.specs.Mergers.{HasFoundPath};
+ghost use Rattle.cad_surgery.specs.Merging.{HasFound};
 ghost use Rattle.map_parts.specs.Parts.{map_of};
 
 use crate::draft::Draft;
 use crate::edits::crossing::half_along;
-use crate::edits::shared_ring::{halves_beside, halves_round};
-use crate::edits::try_merge_along::numbers_of;
-use crate::edits::try_merge_island::points_round;
-use cad_rows::{Face, Memory, Numbers, ParcelNo, PointNo, StringNo};
+use crate::edits::merging::Way;
+use crate::edits::shared::{Shared, halves_beside, halves_round, numbers_of, points_round};
+use cad_rows::{Face, Memory, ParcelNo, PointNo};
 use half_table::{Half, Tally};
 use map_parts::face_place;
 use std::alloc::Global;
-
-/// What a merger along a chain goes by: the halves along the chain as the ended parcel has it, their
-/// strings and the chain's points, the halves that follow its two ends, and one half of each other
-/// ring of the ended parcel.
-#[derive(Drop)]
-pub(crate) struct SharedPath {
-    pub(crate) path: Vec<Half>,
-    pub(crate) strings: Vec<StringNo>,
-    pub(crate) chain: Numbers<PointNo>,
-    pub(crate) start: Half,
-    pub(crate) end: Half,
-    pub(crate) moved: Vec<Half>,
-}
 
 // The same halves in a list of their own.
 fn copied(alloc: Global, halves: &[Half]) -> Result<Vec<Half>, Memory>
@@ -51,12 +37,12 @@ pub(crate) fn shared_path<T: Tally>(
     first: (PointNo, PointNo),
     last: (PointNo, PointNo),
     sides: usize,
-) -> Result<SharedPath, Memory>
+) -> Result<Shared, Memory>
     requires tried { IsTried (map_of draft.now) (Merge kept.now (Parcel ended)) }
     requires shared { IsSharedChain (map_of draft.now) kept.now (Parcel ended)
         (Along first last sides) }
-    ensures path { IfOk result (λ p. HasFoundPath (map_of draft.now) draft.now.table.rows kept.now
-        ended p.path.items p.chain p.start p.end p.moved.items) }
+    ensures path { IfOk result (λ p. HasFound p.way (map_of draft.now) draft.now.table.rows kept.now
+        ended p.path.items p.points p.moved.items) }
     ensures strings { IfOk result (λ p. p.strings.items ≡ strings_of p.path.items) }
 {
     let alloc = draft.rows.points.allocator();
@@ -65,18 +51,17 @@ pub(crate) fn shared_path<T: Tally>(
     let ring = halves_round(alloc, &draft.table, &begin)?;
     let path = copied(alloc, &ring[..sides])?;
     let strings = numbers_of(alloc, path.as_slice())?;
-    let chain = points_round(alloc, &draft.table, &ring[..sides + 1])?;
+    let points = points_round(alloc, &draft.table, &ring[..sides + 1])?;
     let own = draft.kept.at(face_place(Face::Parcel(ended)));
     let moved = halves_beside(alloc, own, ring.as_slice())?;
     let back = draft.table.twin(begin);
     let start = draft.table.next(back);
     let end = draft.table.next(finish);
-    Ok(SharedPath {
+    Ok(Shared {
+        way: Way::Along { start, end },
         path,
         strings,
-        chain,
-        start,
-        end,
+        points,
         moved,
     })
 }

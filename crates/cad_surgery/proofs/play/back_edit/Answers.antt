@@ -1,9 +1,7 @@
+use Rattle.std.proofs.Common.{inl, inr}
 use Rattle.std.proofs.lemmas.Result.{on_ok_weaker}
-use Rattle.std.proofs.Common.{sym, subst}
-use Rattle.cad_map.specs.Asked.{GivesInRange}
 use Rattle.map_parts.specs.Parts.{map_of}
 use Rattle.cad_surgery.proofs.GridSteps.{idle, made-by}
-use Rattle.cad_surgery.proofs.LeadsBy.{leads-by, same-lists}
 use Rattle.cad_surgery.proofs.Trials.{rows-of, taken-so}
 use Rattle.cad_surgery.proofs.play.back_edit.Goals as goal
 
@@ -20,30 +18,11 @@ pub back_join-requires-clause-join : goal.back_join-requires-clause-join
 back_join-requires-clause-join g c =
     rw c.in-Join.is tt
 
-pub back_divide-requires-clause-division : goal.back_divide-requires-clause-division
-back_divide-requires-clause-division g c =
-    rw c.in-Divide.is tt
+pub back_added-requires-clause-parcel : goal.back_added-requires-clause-parcel
+back_added-requires-clause-parcel g c = elim c.in-Divide.is [ inl it ↦ rw it.9 tt | inr it ↦ rw it.7 tt ]
 
-pub back_merge_along-requires-clause-merger : goal.back_merge_along-requires-clause-merger
-back_merge_along-requires-clause-merger g c =
-    rw c.in-MergeAlong.is tt
-
-pub back_merge_island-requires-clause-merger : goal.back_merge_island-requires-clause-merger
-back_merge_island-requires-clause-merger g c =
-    rw c.in-MergeIsland.is tt
-
-pub back_enclose-requires-clause-given : goal.back_enclose-requires-clause-given
-back_enclose-requires-clause-given g c =
-    let same = same-lists c.in-Enclose.face c.in-Enclose.parcel c.in-Enclose.label c.in-Enclose.source _ _ _ _ c.as_slice.ensures c.as_slice-in-Enclose.ensures in
-    subst GivesInRange (sym same) (rw c.in-Enclose.is at c.requires.given)
-
-pub back_enclose-requires-clause-beside : goal.back_enclose-requires-clause-beside
-back_enclose-requires-clause-beside g c =
-    let b = rw c.in-Enclose.is at c.requires.beside.made in
-    record {
-      made = (b.0, leads-by _ _ _ _ _ b.0 _ c.as_slice.ensures c.as_slice-in-Enclose.ensures c.as_slice-in-Enclose-2.ensures.value b.1);
-      proper = c.requires.beside.proper;
-    }
+pub back_merge-requires-clause-merger : goal.back_merge-requires-clause-merger
+back_merge-requires-clause-merger g c = elim c.in-MergeAlong.is [ inl it ↦ rw it.8 tt | inr it ↦ rw it.6 tt ]
 
 pub unmake_rows-requires-clause-alone : goal.unmake_rows-requires-clause-alone
 unmake_rows-requires-clause-alone g c =
@@ -57,11 +36,6 @@ unmake_rows-requires-clause-made g c =
 
 pub returns-in-Split : goal.returns-in-Split
 returns-in-Split g c = rw c.in-Split.is (taken-so (λ m belongs. (made-by _ m _ belongs, belongs.leads.is)) c.back_split.ensures)
-
-pub returns-in-Enclose : goal.returns-in-Enclose
-returns-in-Enclose g c =
-    rw c.in-Enclose.is (taken-so
-    (λ m belongs. leads-by _ _ _ _ _ m _ c.as_slice.ensures c.as_slice-in-Enclose.ensures c.as_slice-in-Enclose-2.ensures.value belongs) c.back_enclose.ensures)
 
 pub returns-in_default : goal.returns-in_default
 returns-in_default g c = record {

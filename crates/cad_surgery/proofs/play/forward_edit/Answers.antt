@@ -1,9 +1,7 @@
-use Rattle.std.proofs.Common.{sym, subst}
-use Rattle.cad_laws.specs.Tried.{IsTried}
+use Rattle.std.proofs.Common.{inl, inr, subst}
 use Rattle.cad_map.specs.Valid.{IsValid}
 use Rattle.map_parts.specs.Parts.{map_of}
 use Rattle.cad_surgery.proofs.GridSteps.{idle, made-by, tried-of}
-use Rattle.cad_surgery.proofs.LeadsBy.{same-lists}
 use Rattle.cad_surgery.proofs.Trials.{rows-of}
 use Rattle.cad_surgery.proofs.play.forward_edit.Goals as goal
 
@@ -25,24 +23,11 @@ forward_join-requires-clause-leads g c =
     let valid = subst IsValid belongs.leads.is belongs.leads.valid in
     rw c.in-Join.is at valid
 
-pub forward_divide-requires-clause-division : goal.forward_divide-requires-clause-division
-forward_divide-requires-clause-division g c =
-    rw c.in-Divide.is tt
+pub forward_added-requires-clause-parcel : goal.forward_added-requires-clause-parcel
+forward_added-requires-clause-parcel g c = elim c.in-Divide.is [ inl it ↦ rw it.9 tt | inr it ↦ rw it.7 tt ]
 
-pub forward_merge_along-requires-clause-merger : goal.forward_merge_along-requires-clause-merger
-forward_merge_along-requires-clause-merger g c =
-    rw c.in-MergeAlong.is tt
-
-pub forward_merge_island-requires-clause-merger : goal.forward_merge_island-requires-clause-merger
-forward_merge_island-requires-clause-merger g c =
-    rw c.in-MergeIsland.is tt
-
-pub forward_enclose-requires-clause-tried : goal.forward_enclose-requires-clause-tried
-forward_enclose-requires-clause-tried g c =
-    let m = map_of c.args.draft.now in
-    let tried = tried-of c.args.change.now m (made-by c.args.change.now m c.requires.beside.made.0 c.requires.beside.made.1) c.requires.given in
-    let same = same-lists c.in-Enclose.face c.in-Enclose.parcel c.in-Enclose.label c.in-Enclose.source _ _ _ _ c.as_slice.ensures c.as_slice-in-Enclose.ensures in
-    subst (IsTried m) (sym same) (rw c.in-Enclose.is at tried)
+pub forward_merge-requires-clause-merger : goal.forward_merge-requires-clause-merger
+forward_merge-requires-clause-merger g c = elim c.in-MergeAlong.is [ inl it ↦ rw it.8 tt | inr it ↦ rw it.6 tt ]
 
 pub remake_rows-requires-clause-alone : goal.remake_rows-requires-clause-alone
 remake_rows-requires-clause-alone g c =
@@ -58,9 +43,6 @@ returns-in-Split g c = rw c.in-Split.is c.forward_split.ensures
 
 pub returns-in-Join : goal.returns-in-Join
 returns-in-Join g c = rw c.in-Join.is c.forward_join.ensures
-
-pub returns-in-Enclose : goal.returns-in-Enclose
-returns-in-Enclose g c = rw c.in-Enclose.is (rw (c.as_slice.ensures, c.as_slice-in-Enclose.ensures) at c.forward_enclose.ensures)
 
 pub returns-in_default : goal.returns-in_default
 returns-in_default g c = record {

@@ -1,8 +1,7 @@
 use Rattle.std.proofs.Common.{◌∙◌, ap, subst, sym, refl}
 use Rattle.cad_map.specs.Effects.{after}
-use Rattle.edit_records.specs.Exchanged.{IsGridOfBoth}
 use Rattle.map_parts.specs.Parts.{map_of}
-use Rattle.edit_records.proofs.Exchanges.{exchange-back, both-back, both-holds}
+use Rattle.edit_records.proofs.Exchanges.{both-holds}
 use Rattle.cad_map.specs.Outcome.{out_of_memory}
 use Rattle.cad_map.specs.Valid.{IsValid}
 use Rattle.cad_map.specs.Touched.{IsTouched}
@@ -10,6 +9,7 @@ use Rattle.cad_laws.specs.Tried.{IsTried}
 use Rattle.cad_valid.specs.Near.{HoldsMap, touched_of}
 use Rattle.cad_surgery.proofs.Played.{listed}
 use Rattle.cad_map.specs.Costs.{work_bound}
+use Rattle.cad_surgery.proofs.Entered as grid
 use Rattle.cad_surgery.proofs.GridSteps.{same-map, same-proper, same-table, rests, idle, worked}
 use Rattle.cad_surgery.proofs.play.play.Goals as goal
 
@@ -17,11 +17,7 @@ pub returns-in_default-clause-refused : goal.returns-in_default-clause-refused
 returns-in_default-clause-refused g c = out_of_memory c.requires.tried.allowed
 
 pub enter-requires : goal.enter-requires
-enter-requires g c =
-    let m = map_of c.args.draft.now in
-    let e = c.args.edit.now in
-    let lists = c.in-Ok.plan.exchange in
-    (m, lists.gone, after m e, c.requires.rest.grid, listed m e c.requires.tried lists.gone lists.come c.in-Ok.ensures.gone c.in-Ok.ensures.come)
+enter-requires g c = grid.can-enter (listed _ _ c.requires.tried c.in-Ok.plan.exchange.gone c.in-Ok.plan.exchange.come c.in-Ok.ensures.gone c.in-Ok.ensures.come) c.requires.rest
 
 pub returns-in_default-enter-clause-refused : goal.returns-in_default-enter-clause-refused
 returns-in_default-enter-clause-refused g c = out_of_memory c.requires.tried.allowed
@@ -49,12 +45,13 @@ try_edit-requires g c =
 
 pub withdraw-requires : goal.withdraw-requires
 withdraw-requires g c =
-    let m = map_of c.args.draft.now in
-    let e = c.args.edit.now in
-    let lists = c.in-Ok.plan.exchange in
-    let x = listed m e c.requires.tried lists.gone lists.come c.in-Ok.ensures.gone c.in-Ok.ensures.come in
-    let both = c.in-Ok-enter.ensures.both m (after m e) lists.gone c.requires.rest.grid x in
-    (m, lists.come, after m e, subst (λ grid. IsGridOfBoth grid m (after m e)) (sym c.try_edit.ensures.played.made.grid) both, x)
+    let x = listed _ _ c.requires.tried c.in-Ok.plan.exchange.gone c.in-Ok.plan.exchange.come c.in-Ok.ensures.gone c.in-Ok.ensures.come in
+    grid.leaves x c.requires.rest c.enter.new.self c.try_edit.new.draft c.in-Ok-enter.ensures.both c.try_edit.ensures.played.made.grid
+
+pub withdraw-requires-in-Err : goal.withdraw-requires-in-Err
+withdraw-requires-in-Err g c =
+    let x = listed _ _ c.requires.tried c.in-Ok.plan.exchange.gone c.in-Ok.plan.exchange.come c.in-Ok.ensures.gone c.in-Ok.ensures.come in
+    grid.returns x c.requires.rest c.enter.new.self c.try_edit.new.draft c.in-Ok-enter.ensures.both c.try_edit.ensures.played.made.grid
 
 pub returns-in-Ok-try_edit-clause-made : goal.returns-in-Ok-try_edit-clause-made
 returns-in-Ok-try_edit-clause-made g c =
@@ -67,48 +64,18 @@ returns-in-Ok-try_edit-clause-valid g c =
 
 pub returns-in-Ok-try_edit-clause-rest : goal.returns-in-Ok-try_edit-clause-rest
 returns-in-Ok-try_edit-clause-rest g c =
-    let m = map_of c.args.draft.now in
-    let e = c.args.edit.now in
-    let lists = c.in-Ok.plan.exchange in
-    let x = listed m e c.requires.tried lists.gone lists.come c.in-Ok.ensures.gone c.in-Ok.ensures.come in
-    let both = c.in-Ok-enter.ensures.both m (after m e) lists.gone c.requires.rest.grid x in
-    rests c.try_edit.new.draft c.withdraw.new.self c.withdraw.ensures.beside
-    c.try_edit.ensures.played.made.proper
-    (after m e) (c.in-Ok-try_edit.ensures.played.made.becomes ∙ ap (λ q. after q e) (same-map c.args.draft.now c.enter.new.self c.enter.ensures.beside))
-    (c.withdraw.ensures.left m (after m e) lists.come (subst (λ grid. IsGridOfBoth grid m (after m e)) (sym c.try_edit.ensures.played.made.grid) both) x)
-
-pub withdraw-requires-in-Err : goal.withdraw-requires-in-Err
-withdraw-requires-in-Err g c =
-    let m = map_of c.args.draft.now in
-    let e = c.args.edit.now in
-    let lists = c.in-Ok.plan.exchange in
-    let x = listed m e c.requires.tried lists.gone lists.come c.in-Ok.ensures.gone c.in-Ok.ensures.come in
-    let both = c.in-Ok-enter.ensures.both m (after m e) lists.gone c.requires.rest.grid x in (
-      after m e,
-      lists.gone,
-      m,
-      both-back c.try_edit.new.draft.grid m (after m e) (subst (λ grid. IsGridOfBoth grid m (after m e)) (sym c.try_edit.ensures.played.made.grid) both),
-      exchange-back m (after m e) lists.gone lists.come x,
-    )
+    let x = listed _ _ c.requires.tried c.in-Ok.plan.exchange.gone c.in-Ok.plan.exchange.come c.in-Ok.ensures.gone c.in-Ok.ensures.come in
+    grid.rests-there x c.requires.rest c.enter.new.self c.try_edit.new.draft c.in-Ok-enter.ensures.both c.try_edit.ensures.played.made.grid c.withdraw.ensures.beside c.try_edit.ensures.played.made.proper
+    (c.in-Ok-try_edit.ensures.played.made.becomes ∙ ap (λ m. after m c.args.edit.now) (same-map c.args.draft.now c.enter.new.self c.enter.ensures.beside)) c.withdraw.ensures.left
 
 pub returns-clause-err : goal.returns-clause-err
-returns-clause-err g c =
-    same-map c.try_edit.new.draft c.withdraw-in-Err.new.self c.withdraw-in-Err.ensures.beside ∙ c.in-Err.ensures.played.made.err
-    ∙ same-map c.args.draft.now c.enter.new.self c.enter.ensures.beside
+returns-clause-err g c = grid.stayed c.args.draft.now c.enter.new.self c.try_edit.new.draft c.withdraw-in-Err.new.self c.enter.ensures.beside c.in-Err.ensures.played.made.err c.withdraw-in-Err.ensures.beside
 
 pub returns-clause-rest : goal.returns-clause-rest
 returns-clause-rest g c =
-    let m = map_of c.args.draft.now in
-    let e = c.args.edit.now in
-    let lists = c.in-Ok.plan.exchange in
-    let x = listed m e c.requires.tried lists.gone lists.come c.in-Ok.ensures.gone c.in-Ok.ensures.come in
-    let both = c.in-Ok-enter.ensures.both m (after m e) lists.gone c.requires.rest.grid x in
-    rests c.try_edit.new.draft c.withdraw-in-Err.new.self c.withdraw-in-Err.ensures.beside
-    c.try_edit.ensures.played.made.proper
-    m (c.in-Err.ensures.played.made.err ∙ same-map c.args.draft.now c.enter.new.self c.enter.ensures.beside)
-    (c.withdraw-in-Err.ensures.left (after m e) m lists.gone
-    (both-back c.try_edit.new.draft.grid m (after m e) (subst (λ grid. IsGridOfBoth grid m (after m e)) (sym c.try_edit.ensures.played.made.grid) both))
-    (exchange-back m (after m e) lists.gone lists.come x))
+    let x = listed _ _ c.requires.tried c.in-Ok.plan.exchange.gone c.in-Ok.plan.exchange.come c.in-Ok.ensures.gone c.in-Ok.ensures.come in
+    grid.rests-here x c.requires.rest c.enter.new.self c.try_edit.new.draft c.in-Ok-enter.ensures.both c.try_edit.ensures.played.made.grid c.withdraw-in-Err.ensures.beside c.try_edit.ensures.played.made.proper
+    (c.in-Err.ensures.played.made.err ∙ same-map c.args.draft.now c.enter.new.self c.enter.ensures.beside) c.withdraw-in-Err.ensures.left
 
 pub returns-in_default-clause-work : goal.returns-in_default-clause-work
 returns-in_default-clause-work g c = idle c.args.draft.now c.args.draft.now _ refl
@@ -119,13 +86,9 @@ returns-in_default-enter-clause-work g c = idle c.args.draft.now c.enter.new.sel
 pub returns-in-Ok-try_edit-clause-work : goal.returns-in-Ok-try_edit-clause-work
 returns-in-Ok-try_edit-clause-work g c =
     let same = same-map c.args.draft.now c.enter.new.self c.enter.ensures.beside in
-    worked c.args.draft.now c.enter.new.self c.try_edit.new.draft c.withdraw.new.self _ _
-    (same-table c.args.draft.now c.enter.new.self c.enter.ensures.beside) (same-table c.try_edit.new.draft c.withdraw.new.self c.withdraw.ensures.beside)
-    (λ i. work_bound (same i) (after (same i) c.args.edit.now)) c.try_edit.ensures.played.made.work
+    worked c.args.draft.now c.enter.new.self c.try_edit.new.draft c.withdraw.new.self c.enter.ensures.beside c.withdraw.ensures.beside (λ i. work_bound (same i) (after (same i) c.args.edit.now)) c.try_edit.ensures.played.made.work
 
 pub returns-clause-work : goal.returns-clause-work
 returns-clause-work g c =
     let same = same-map c.args.draft.now c.enter.new.self c.enter.ensures.beside in
-    worked c.args.draft.now c.enter.new.self c.try_edit.new.draft c.withdraw-in-Err.new.self _ _
-    (same-table c.args.draft.now c.enter.new.self c.enter.ensures.beside) (same-table c.try_edit.new.draft c.withdraw-in-Err.new.self c.withdraw-in-Err.ensures.beside)
-    (λ i. work_bound (same i) (after (same i) c.args.edit.now)) c.try_edit.ensures.played.made.work
+    worked c.args.draft.now c.enter.new.self c.try_edit.new.draft c.withdraw-in-Err.new.self c.enter.ensures.beside c.withdraw-in-Err.ensures.beside (λ i. work_bound (same i) (after (same i) c.args.edit.now)) c.try_edit.ensures.played.made.work

@@ -31,17 +31,17 @@ try_join-requires g c = rw c.in-Join.is at c.requires
 pub returns-in-Join : goal.returns-in-Join
 returns-in-Join g c = rw c.in-Join.is c.try_join.ensures
 
-pub try_enclose-requires : goal.try_enclose-requires
-try_enclose-requires g c = rw c.in-Enclose.is at c.requires
+pub try_adding-requires : goal.try_adding-requires
+try_adding-requires g c = rw c.in-Enclose.is at c.requires
 
 pub returns-in-Enclose : goal.returns-in-Enclose
-returns-in-Enclose g c = rw c.in-Enclose.is c.try_enclose.ensures
+returns-in-Enclose g c = rw c.in-Enclose.is c.try_adding.ensures
 
-pub try_divide-requires : goal.try_divide-requires
-try_divide-requires g c = rw c.in-Divide.is at c.requires
+pub try_adding-requires-in-Divide : goal.try_adding-requires-in-Divide
+try_adding-requires-in-Divide g c = rw c.in-Divide.is at c.requires
 
 pub returns-in-Divide : goal.returns-in-Divide
-returns-in-Divide g c = rw c.in-Divide.is c.try_divide.ensures
+returns-in-Divide g c = rw c.in-Divide.is c.try_adding-in-Divide.ensures
 
 pub try_merge-requires : goal.try_merge-requires
 try_merge-requires g c = rw c.in-Merge.is at c.requires

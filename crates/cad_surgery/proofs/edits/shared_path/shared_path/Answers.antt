@@ -69,7 +69,7 @@ returns-clause-path g c =
     h c.half_along-begin.ensures f c.half_along-finish.ensures
     c.in_ok-ring.ring.items (c.in_ok-ring.ensures ∙ ap (λ (q : Parts). cycle q.table.rows h) c.draft.view_is)
     c.in_ok-path.path.items (c.in_ok-path.ensures ∙ ap (take c.args.sides) c.deref.ensures.value)
-    c.in_ok-chain.chain (c.in_ok-chain.ensures ∙ (λ i. map (origin_of (c.draft.view_is i).table.rows) (take (c.args.sides + 1) (c.deref-2.ensures.value i))))
+    c.in_ok-points.points (c.in_ok-points.ensures ∙ (λ i. map (origin_of (c.draft.view_is i).table.rows) (take (c.args.sides + 1) (c.deref-2.ensures.value i))))
     c.at-own.result.now own
     c.in_ok-moved.moved.items (c.in_ok-moved.ensures ∙ (λ i. filter (λ k. not (holds (c.as_slice-2.ensures.value i) k)) c.at-own.result.now))
     c.next-start.result c.next-end.result

@@ -27,18 +27,10 @@ unwrap-chain-requires g c =
     found-one c.find_shared_chain.result (shared_chains m c.args.kept (Parcel c.in-Parcel.parcel))
     (subst (λ (f : Face). (length (shared_chains m c.args.kept f) == 0) ≡ false) c.in-Parcel.is more) c.find_shared_chain.ensures.none
 
-pub try_merge_along-requires-clause-ready : goal.try_merge_along-requires-clause-ready
-try_merge_along-requires-clause-ready g c =
+pub merge_recording-requires-clause-ready : goal.merge_recording-requires-clause-ready
+merge_recording-requires-clause-ready g c =
     subst (λ (f : Face). IsReadyFor (Merge c.args.kept f) c.args.draft.now c.args.touched.now) c.in-Parcel.is c.requires
 
-pub returns-in-Along : goal.returns-in-Along
-returns-in-Along g c =
-    subst (λ (f : Face). IsTrialOf (Merge c.args.kept f) c.args.draft.now c.try_merge_along.new.draft c.try_merge_along.result) (sym c.in-Parcel.is) c.try_merge_along.ensures
-
-pub try_merge_island-requires-clause-ready : goal.try_merge_island-requires-clause-ready
-try_merge_island-requires-clause-ready g c =
-    subst (λ (f : Face). IsReadyFor (Merge c.args.kept f) c.args.draft.now c.args.touched.now) c.in-Parcel.is c.requires
-
-pub returns-in-Around : goal.returns-in-Around
-returns-in-Around g c =
-    subst (λ (f : Face). IsTrialOf (Merge c.args.kept f) c.args.draft.now c.try_merge_island.new.draft c.try_merge_island.result) (sym c.in-Parcel.is) c.try_merge_island.ensures
+pub returns : goal.returns
+returns g c =
+    subst (λ (f : Face). IsTrialOf (Merge c.args.kept f) c.args.draft.now c.merge_recording.new.draft c.merge_recording.result) (sym c.in-Parcel.is) c.merge_recording.ensures

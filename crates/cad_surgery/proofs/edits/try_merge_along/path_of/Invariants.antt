@@ -1,7 +1,0 @@
-use Rattle.std.proofs.Common.{◌≡◌, ◌++◌, drop}
-use Rattle.cad_surgery.specs.Mergers.{halves_of}
-use Rattle.cad_surgery.proofs.edits.try_merge_along.path_of.Given as goal
-
--- the halves so far, and those of the others
-abbrev pub invariant-loop-place : goal.invariant-loop-place
-invariant-loop-place l = l.path.items ++ halves_of (drop l.place l.fn.strings) ≡ halves_of l.fn.strings

@@ -1,0 +1,114 @@
+//! A division or an enclosure on a map on half-edges: tried, and taken back where it breaks a rule.
+ghost use Rattle.std.specs.Prelude.{◌≡◌};
+ghost use Rattle.cad_map.specs.Effects.{after};
+ghost use Rattle.cad_map.specs.Map.{Map};
+ghost use Rattle.cad_rows.specs.declared.names.Face.TheVariants.{Parcel};
+ghost use Rattle.cad_surgery.specs.AddedParcels.{HeldParcel};
+ghost use Rattle.cad_surgery.specs.NewParcels.{Comes, edit_asked, edit_by};
+ghost use Rattle.cad_surgery.specs.Trials.{IsReadyFor, IsTrialOf};
+ghost use Rattle.edit_records.specs.Record.{edit_of, Holds};
+ghost use Rattle.map_parts.specs.Parts.{map_of};
+
+use crate::draft::Draft;
+use crate::edits::adding::add_within_rules;
+use crate::edits::coming::{Coming, Lead, coming_by, course_of};
+use crate::edits::counted::is_work_in_range;
+use crate::edits::given::{Given, Kept, Kind, NewParcel, given_by};
+use crate::edits::merging::Way;
+use cad_rows::{Face, Label, Numbers, ParcelNo, PointNo, Refusal, SourceNo, StringNo};
+use cad_valid::Touched;
+use edit_records::SmallRecord;
+use half_table::Tally;
+
+// The record of a parcel that came so, with what it keeps of the edit.
+fn record_of_parcel(new: &NewParcel<'_>, kept: Kept, lead: Lead) -> SmallRecord
+    requires { kept ≡ record {
+      points = new.now.points.now;
+      strings = new.now.strings.now;
+      label = new.now.label.now;
+    } }
+    ensures edit { edit_of result ≡ edit_by lead.way new.now }
+    ensures holds { (m : Map) → HeldParcel lead.way (after m (edit_by lead.way new.now))
+        (Parcel new.now.parcel) new.now.points.now lead.moved.items → Holds result m }
+{
+    let Lead { way, moved, .. } = lead;
+    match way {
+        Way::Along { start, end } => SmallRecord::Divide {
+            face: new.face,
+            chain: kept.points,
+            strings: kept.strings,
+            parcel: new.parcel,
+            label: kept.label,
+            source: new.source,
+            start,
+            end,
+            moved,
+        },
+        Way::Round => SmallRecord::Enclose {
+            face: new.face,
+            points: kept.points,
+            strings: kept.strings,
+            parcel: new.parcel,
+            label: kept.label,
+            source: new.source,
+            moved,
+        },
+    }
+}
+
+// Puts a parcel in with what comes, and takes it back where it breaks a rule. Gives its record.
+fn add_recording<T: Tally>(
+    draft: &mut Draft<T>,
+    new: &NewParcel<'_>,
+    kept: Kept,
+    coming: Coming,
+    touched: &Touched,
+) -> Result<SmallRecord, Refusal>
+    requires ready { IsReadyFor (edit_by coming.lead.way new.now) draft.old touched.now }
+    requires comes { Comes coming.lead.way (map_of draft.old) draft.old.table.rows new.now
+        coming.strings.items coming.parcel coming.lead.path.items coming.lead.moved.items }
+    requires kept { kept ≡ record {
+      points = new.now.points.now;
+      strings = new.now.strings.now;
+      label = new.now.label.now;
+    } }
+    ensures { IsTrialOf (edit_by coming.lead.way new.now) draft.old draft.new result }
+{
+    is_work_in_range(&draft.table);
+    let Coming {
+        strings,
+        parcel,
+        lead,
+    } = coming;
+    let course = course_of(&lead);
+    add_within_rules(draft, new, &course, strings, parcel, touched)?;
+    Ok(record_of_parcel(new, kept, lead))
+}
+
+/// Divides a face, or encloses a part of it, and takes it back where it breaks a rule. The grid holds
+/// the strings and points of the map after it.
+pub(crate) fn try_adding<'a, T: Tally>(
+    draft: &mut Draft<T>,
+    kind: Kind,
+    face: Face,
+    points: &'a Numbers<PointNo>,
+    strings: &'a Numbers<StringNo>,
+    parcel: ParcelNo,
+    label: &'a Label,
+    source: SourceNo,
+    touched: &Touched,
+) -> Result<SmallRecord, Refusal>
+    requires { IsReadyFor (edit_asked kind face points.now strings.now parcel label.now source)
+        draft.old touched.now }
+    ensures { IsTrialOf (edit_asked kind face points.now strings.now parcel label.now source)
+        draft.old draft.new result }
+{
+    let Ok(given) = given_by(face, points, strings, parcel, label, source) else {
+        return Err(Refusal::Memory);
+    };
+    let Given { new, kept } = given;
+    let Ok(coming) = coming_by(draft, kind, &new) else {
+        return Err(Refusal::Memory);
+    };
+    add_recording(draft, &new, kept, coming, touched)
+}
