@@ -88,9 +88,6 @@ module _ (rows : HalfRows) (linked : IsLinked rows) (a : Half) (rest : List Half
         (agree (seams_of a rest) (enters-outside f a rest before a tied enters (twin-first a rest different)) (twin-first a rest different) (last-apart a rest different)
         (enters-outside f a rest beyond (twin z) tied returns (ap (holds (seams_of a rest)) (twin-twin z) ∙ last-apart a rest different))) tied
 
-    not_before : (g : Half) → f g ≢ a → is_half g before ≡ false
-    not_before g far_off = is_half-other g before (λ e. far_off (ap f e ∙ enters))
-
     mid-before : (g : Half) → g ≡ before → mid g ≡ f (twin a)
     mid-before g is = value g true (is_half g (twin a)) (is_half g z) (is_half g beyond) (ap (is_half g) (sym is) ∙ is_half-self g) refl refl refl
 

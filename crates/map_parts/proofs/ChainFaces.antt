@@ -31,7 +31,7 @@ use Rattle.map_parts.proofs.Labels.{any-there}
 use Rattle.map_parts.proofs.RingCycles.{one-on, face-on, ring-held, held-ring, each-held, held-each}
 use Rattle.map_parts.proofs.IslandTable.{more-rest}
 use Rattle.map_parts.proofs.IslandFaces.{handed-stays}
-use Rattle.map_parts.proofs.ChainRings.{left-in, right-in, other-in, one-in, handed-in, parted-cases, first-on, one-ring, path-rings as on-rings}
+use Rattle.map_parts.proofs.ChainRings.{HasRings, has-rings, one-in, handed-in, parted-cases, first-on, one-ring, path-rings as on-rings}
 
 -- ---- The cycles of loose strings
 
@@ -89,14 +89,8 @@ module _ (whole parted : Map) (outer inner : Face) (chain : List ℕ) (fc lc : C
   abbrev path : List Half
   path = first ∷ rest
 
-  left_in : Contains parted.boundaries left
-  left_in = left-in whole parted outer inner chain fc lc one left right others it
-
-  right_in : Contains parted.boundaries right
-  right_in = right-in whole parted outer inner chain fc lc one left right others it
-
-  other_in : (b : Boundary) → Contains others b → Contains parted.boundaries b
-  other_in = other-in whole parted outer inner chain fc lc one left right others it
+  ins : HasRings parted left right others
+  ins = has-rings it.were
 
   old-side : (g : Half) → side_by old g ≡ side_by mid g
   old-side g = λ i. (sym (same_origin g) i, sym (same_origin (twin g)) i)
@@ -127,18 +121,18 @@ module _ (whole parted : Map) (outer inner : Face) (chain : List ℕ) (fc lc : C
     by_cycles : (b : Boundary) → Contains parted.boundaries b → (g : Half) → IsOnRing parted mid b g → (s t u : Bool)
         → on_cycles mid moved g ≡ s → holds (cycle mid first) g ≡ t → is_of (strings_of path) g ≡ u → (if s then inner else if t then inner else if u then outer else face old g) ≡ b.face
     by_cycles b there g on true t u is_s is_t is_u =
-        let c = held-each parted parts mid local two others other_in inner moved of.each g is_s in
-        sym c.3 ∙ ap (λ (x : Boundary). x.face) (one-on parted parts mid c.0 b (other_in c.0 c.1) there g c.2 on)
+        let c = held-each parted parts mid local two others ins.has_other inner moved of.each g is_s in
+        sym c.3 ∙ ap (λ (x : Boundary). x.face) (one-on parted parts mid c.0 b (ins.has_other c.0 c.1) there g c.2 on)
     by_cycles b there g on false true u is_s is_t is_u =
-        sym it.left_face ∙ ap (λ (x : Boundary). x.face) (one-on parted parts mid left b left_in there g (held-ring parted parts mid local two left left_in first g first-left is_t) on)
+        sym it.left_face ∙ ap (λ (x : Boundary). x.face) (one-on parted parts mid left b ins.has_left there g (held-ring parted parts mid local two left ins.has_left first g first-left is_t) on)
     by_cycles b there g on false false true is_s is_t is_u = elim (path-rings g on.shown is_u) [
-      | inl a ↦ absurd (true≢false (sym (ring-held parted parts mid local two left left_in first g first-left a) ∙ is_t))
-      | inr r ↦ sym it.right_face ∙ ap (λ (x : Boundary). x.face) (one-on parted parts mid right b right_in there g r on)
+      | inl a ↦ absurd (true≢false (sym (ring-held parted parts mid local two left ins.has_left first g first-left a) ∙ is_t))
+      | inr r ↦ sym it.right_face ∙ ap (λ (x : Boundary). x.face) (one-on parted parts mid right b ins.has_right there g r on)
     ]
     by_cycles b there g on false false false is_s is_t is_u =
         let shown = more-rest whole parted path more g on.shown is_u in
         elim (parted-cases whole parted outer inner chain fc lc one left right others it b there) [
-          | inl same ↦ absurd (true≢false (sym (ring-held parted parts mid local two left left_in first g first-left (subst (λ (x : Boundary). IsOnRing parted mid x g) (sym same) on)) ∙ is_t))
+          | inl same ↦ absurd (true≢false (sym (ring-held parted parts mid local two left ins.has_left first g first-left (subst (λ (x : Boundary). IsOnRing parted mid x g) (sym same) on)) ∙ is_t))
           | inr later ↦ elim later [
             | inl same ↦ cut-face g shown (subst (λ (x : Boundary). IsOnRing parted mid x g) (sym same) on) ∙ sym it.right_face ∙ ap (λ (x : Boundary). x.face) same
             | inr among ↦ other_face among shown (is_face inner b.face) refl

@@ -46,7 +46,7 @@ use Rattle.map_parts.proofs.KeptEach.{is_boundary, boundary-same, boundary-self,
 use Rattle.map_parts.proofs.Handed.{placed-yes, placed-is}
 use Rattle.map_parts.proofs.HomesHanded.{handed-face, inner-never, homes-handed}
 use Rattle.map_parts.proofs.KeptIsland.{other_faces, under, halves-whole, halves-parted, other-differs, others-same}
-use Rattle.map_parts.proofs.ChainRings.{left-in, right-in, other-in, one-in, handed-in, parted-cases, hands-differ, not-left, not-right, first-on, back-on, one-ring, other-shown}
+use Rattle.map_parts.proofs.ChainRings.{HasRings, has-rings, one-in, handed-in, parted-cases, hands-differ, not-left, not-right, first-on, back-on, one-ring, other-shown}
 
 module _ (whole parted : Map) (outer inner : Face) (chain : List ℕ) (fc lc : Corner) (one left right : Boundary) (others : List Boundary)
     (it : IsChainOf whole parted outer inner chain fc lc one left right others) (rings : HasWholeRings whole) (parts : HasWholeRings parted) (long : 2 ≤ length chain)
@@ -64,14 +64,8 @@ module _ (whole parted : Map) (outer inner : Face) (chain : List ℕ) (fc lc : C
   pub two-old : (h : Half) → IsShown parted h → origin_of old h ≢ origin_of old (twin h)
   two-old h shown = half-two (bare parted old) fits.ends (two-ends parted parts) h shown
 
-  left_there : Contains parted.boundaries left
-  left_there = left-in whole parted outer inner chain fc lc one left right others it
-
-  right_there : Contains parted.boundaries right
-  right_there = right-in whole parted outer inner chain fc lc one left right others it
-
-  other_there : (c : Boundary) → Contains others c → Contains parted.boundaries c
-  other_there = other-in whole parted outer inner chain fc lc one left right others it
+  ins : HasRings parted left right others
+  ins = has-rings it.were
 
   on_left : IsOnRing parted old left first
   on_left = first-on whole parted outer inner chain fc lc one left right others it parts long first rest more old along
@@ -80,19 +74,19 @@ module _ (whole parted : Map) (outer inner : Face) (chain : List ℕ) (fc lc : C
   on_right = back-on whole parted outer inner chain fc lc one left right others it parts long first rest more old along
 
   never-both : (h : Half) → IsOnRing parted old left h → IsOnRing parted old right h → ⊥
-  never-both h a b = hands-differ whole parted outer inner chain fc lc one left right others it (one-on parted parts old left right left_there right_there h a b)
+  never-both h a b = hands-differ whole parted outer inner chain fc lc one left right others it (one-on parted parts old left right ins.has_left ins.has_right h a b)
 
   left-other : (h : Half) (c : Boundary) → Contains others c → IsOnRing parted old left h → IsOnRing parted old c h → ⊥
-  left-other h c among a b = not-left whole parted outer inner chain fc lc one left right others it parts c among (one-on parted parts old left c left_there (other_there c among) h a b)
+  left-other h c among a b = not-left whole parted outer inner chain fc lc one left right others it parts c among (one-on parted parts old left c ins.has_left (ins.has_other c among) h a b)
 
   right-other : (h : Half) (c : Boundary) → Contains others c → IsOnRing parted old right h → IsOnRing parted old c h → ⊥
-  right-other h c among a b = not-right whole parted outer inner chain fc lc one left right others it parts c among (one-on parted parts old right c right_there (other_there c among) h a b)
+  right-other h c among a b = not-right whole parted outer inner chain fc lc one left right others it parts c among (one-on parted parts old right c ins.has_right (ins.has_other c among) h a b)
 
   held-left : (h : Half) → holds (cycle old first) h ≡ true → IsOnRing parted old left h
-  held-left h held = held-ring parted parts old fits.local two-old left left_there first h on_left held
+  held-left h held = held-ring parted parts old fits.local two-old left ins.has_left first h on_left held
 
   moved-other : (h : Half) → on_cycles old moved h ≡ true → (c : Boundary) × Contains others c × IsOnRing parted old c h × (c.face ≡ inner)
-  moved-other h held = held-each parted parts old fits.local two-old others other_there inner moved of.each h held
+  moved-other h held = held-each parted parts old fits.local two-old others ins.has_other inner moved of.each h held
 
   told-old : (b : Boundary) → Contains parted.boundaries b → (h : Half) → IsOnRing parted old b h → face old h ≡ b.face
   told-old b there h on = face-on parted parts old b there h on (face old h) (fits.faces h on.shown)
@@ -107,14 +101,14 @@ module _ (whole parted : Map) (outer inner : Face) (chain : List ℕ) (fc lc : C
     where
       by : (t : Bool) → on_cycles old moved h ≡ t → (if t then outer else face old h) ≡ inner
       by true held = let c = moved-other h held in absurd (left-other h c.0 c.1 on c.2)
-      by false free = told-old left left_there h on ∙ it.left_face
+      by false free = told-old left ins.has_left h on ∙ it.left_face
 
   back-right : (h : Half) → IsOnRing parted old right h → (if on_cycles old moved h then outer else face old h) ≡ outer
   back-right h on = by (on_cycles old moved h) refl
     where
       by : (t : Bool) → on_cycles old moved h ≡ t → (if t then outer else face old h) ≡ outer
       by true held = refl
-      by false free = told-old right right_there h on ∙ it.right_face
+      by false free = told-old right ins.has_right h on ∙ it.right_face
 
   pub back-other : (h : Half) (c : Boundary) → Contains others c → IsOnRing parted old c h → (if on_cycles old moved h then outer else face old h) ≡ (handed c).face
   back-other h c among on = by (on_cycles old moved h) refl (cases_face c.face inner)
@@ -123,11 +117,11 @@ module _ (whole parted : Map) (outer inner : Face) (chain : List ℕ) (fc lc : C
       by true held (inl same) = sym ((handed-face outer inner c).0 same)
       by true held (inr away) =
           let d = moved-other h held in
-          absurd (away (ap (λ (b : Boundary). b.face) (one-on parted parts old c d.0 (other_there c among) (other_there d.0 d.1) h on d.2) ∙ d.3))
+          absurd (away (ap (λ (b : Boundary). b.face) (one-on parted parts old c d.0 (ins.has_other c among) (ins.has_other d.0 d.1) h on d.2) ∙ d.3))
       by false free (inl same) =
           let h' = of.all c among same in
-          absurd (true≢false (sym (each-held parted parts old fits.local two-old c (other_there c among) moved h'.0 h h'.1 h'.2 on) ∙ free))
-      by false free (inr away) = told-old c (other_there c among) h on ∙ ap (λ (b : Boundary). b.face) (sym ((handed-face outer inner c).1 away))
+          absurd (true≢false (sym (each-held parted parts old fits.local two-old c (ins.has_other c among) moved h'.0 h h'.1 h'.2 on) ∙ free))
+      by false free (inr away) = told-old c (ins.has_other c among) h on ∙ ap (λ (b : Boundary). b.face) (sym ((handed-face outer inner c).1 away))
 
   -- ---- Where the halves of the first map are now
 
@@ -161,7 +155,7 @@ module _ (whole parted : Map) (outer inner : Face) (chain : List ℕ) (fc lc : C
         | inl same ↦
             let on = subst (λ (b : Boundary). IsOnRing parted old b h) (sym same) at.2 in
             cut (inl on) (on-one h shown (inl on))
-            (new-face h shown ∙ ap (λ (t : Bool). if t then outer else if on_cycles old moved h then outer else face old h) (ring-held parted parts old fits.local two-old left left_there first h on_left on))
+            (new-face h shown ∙ ap (λ (t : Bool). if t then outer else if on_cycles old moved h then outer else face old h) (ring-held parted parts old fits.local two-old left ins.has_left first h on_left on))
         | inr later ↦ elim later [
           | inl same ↦
               let on = subst (λ (b : Boundary). IsOnRing parted old b h) (sym same) at.2 in
@@ -196,7 +190,7 @@ module _ (whole parted : Map) (outer inner : Face) (chain : List ℕ) (fc lc : C
   start-on away =
       let h = next old (twin first) in
       let there = fits.local.there (twin first) on_right.shown in
-      let on = held-ring parted parts old fits.local two-old right right_there (twin first) h on_right (holds-next there) in
+      let on = held-ring parted parts old fits.local two-old right ins.has_right (twin first) h on_right (holds-next there) in
       let shown = more-rest whole parted path more h on.shown (of-elsewhere path h away) in
       (shown, on-one h shown (inr on))
     where
@@ -257,13 +251,13 @@ module _ (whole parted : Map) (outer inner : Face) (chain : List ℕ) (fc lc : C
         ]
 
     home-left : (h : Half) → IsOnRing parted old left h → hp h ≡ left
-    home-left h on = home-is parted parts old left left_there h on
+    home-left h on = home-is parted parts old left ins.has_left h on
 
     home-right : (h : Half) → IsOnRing parted old right h → hp h ≡ right
-    home-right h on = home-is parted parts old right right_there h on
+    home-right h on = home-is parted parts old right ins.has_right h on
 
     home-other : (h : Half) (c : Boundary) → Contains others c → IsOnRing parted old c h → hp h ≡ c
-    home-other h c among on = home-is parted parts old c (other_there c among) h on
+    home-other h c among on = home-is parted parts old c (ins.has_other c among) h on
 
     from-inner : (h : Half) → Contains (gives.gone ++ I) h → Contains (items_at held (face_place inner)) h
     from-inner h among = Contains-permutation (gives.gone ++ I) (items_at held (face_place inner)) h (IsPermutation-sym (items_at held (face_place inner)) (gives.gone ++ I) gives.split) among
@@ -431,7 +425,7 @@ module _ (whole parted : Map) (outer inner : Face) (chain : List ℕ) (fc lc : C
     -- halves with the other rings in the one map have them in the other
     others-handed : (halves : List Half) → ((h : Half) → Contains halves h → Contains (P ++ R) h) → IsPermutation (map hp halves) others → IsPermutation (map hw halves) (map handed others)
     others-handed halves sub homes =
-        homes-handed parted parts outer inner others other_there whole old new halves (λ h among.
+        homes-handed parted parts outer inner others ins.has_other whole old new halves (λ h among.
         elim (both-homes h (sub h among)) [
           | inl e ↦ absurd (right-apart (Contains-permutation (map hp halves) others right homes (subst (Contains (map hp halves)) e.0 (Contains-map hp halves h among))))
           | inr c ↦ c

@@ -1,5 +1,5 @@
 -- The rings that a chain parts, and which halves are on them.
-use Rattle.std.proofs.Common.{◌≡◌, ◌≢◌, ◌⊎◌, ℕ, ◌≤◌, Bool, true, false, List, [], ◌∷◌, ◌++◌, map, length, refl, sym, ap, ◌∙◌, subst, inl, inr}
+use Rattle.std.proofs.Common.{IsPermutation, ◌≡◌, ◌≢◌, ◌⊎◌, ℕ, ◌≤◌, Bool, true, false, List, [], ◌∷◌, ◌++◌, map, length, refl, sym, ap, ◌∙◌, subst, inl, inr}
 use Rattle.std.specs.List.{Contains}
 use Rattle.std.proofs.lemmas.List.Elements.{Contains-append_left, Contains-append_right, Contains-append_cases}
 use Rattle.std.proofs.lemmas.List.Sorted.{Contains-permutation, IsPermutation-sym, IsPermutation-trans, IsPermutation-middle}
@@ -28,22 +28,29 @@ use Rattle.map_parts.proofs.IslandTable.{more-old, more-new, more-rest}
 use Rattle.map_parts.proofs.RingsOnce.{stands-once}
 use Rattle.map_parts.proofs.ChainTable.{off-chain}
 
+-- a map has these rings, and the others
+pub record HasRings (m : Map) (left right : Boundary) (others : List Boundary) : Type 0 where
+  pub has_left : Contains m.boundaries left
+  pub has_right : Contains m.boundaries right
+  pub has_other : (b : Boundary) → Contains others b → Contains m.boundaries b
+
+pub has-rings : {m : Map} {left right : Boundary} {others : List Boundary} → IsPermutation m.boundaries (left ∷ right ∷ others) → HasRings m left right others
+has-rings {m} {left} {right} {others} were = record {
+  has_left = back left (Contains-first left (right ∷ others));
+  has_right = back right (Contains-later left (right ∷ others) right (Contains-first right others));
+  has_other = λ b among. back b (Contains-later left (right ∷ others) b (Contains-later right others b among));
+}
+  where
+    back : (b : Boundary) → Contains (left ∷ right ∷ others) b → Contains m.boundaries b
+    back b = Contains-permutation (left ∷ right ∷ others) m.boundaries b (IsPermutation-sym m.boundaries (left ∷ right ∷ others) were)
+
 module _ (whole parted : Map) (outer inner : Face) (chain : List ℕ) (fc lc : Corner) (one left right : Boundary) (others : List Boundary)
     (it : IsChainOf whole parted outer inner chain fc lc one left right others) where
   abbrev handed : Boundary → Boundary
   handed = handed_over outer inner
 
-  back_were : (b : Boundary) → Contains (left ∷ right ∷ others) b → Contains parted.boundaries b
-  back_were b = Contains-permutation (left ∷ right ∷ others) parted.boundaries b (IsPermutation-sym parted.boundaries (left ∷ right ∷ others) it.were)
-
-  pub left-in : Contains parted.boundaries left
-  left-in = back_were left (Contains-first left (right ∷ others))
-
-  pub right-in : Contains parted.boundaries right
-  right-in = back_were right (Contains-later left (right ∷ others) right (Contains-first right others))
-
-  pub other-in : (b : Boundary) → Contains others b → Contains parted.boundaries b
-  other-in b among = back_were b (Contains-later left (right ∷ others) b (Contains-later right others b among))
+  ins : HasRings parted left right others
+  ins = has-rings it.were
 
   pub one-in : Contains whole.boundaries one
   one-in = Contains-permutation (one ∷ map handed others) whole.boundaries one it.are (Contains-first one (map handed others))
@@ -145,6 +152,6 @@ module _ (whole parted : Map) (outer inner : Face) (chain : List ℕ) (fc lc : C
           by : (t : Bool) → is_of (strings_of (first ∷ rest)) h ≡ t → IsShown whole h
           by false away = more-rest whole parted (first ∷ rest) more h on.shown away
           by true of = elim (path-rings h on.shown of) [
-            | inl a ↦ absurd (not-left c among (one-on parted parts rows left c left-in (other-in c among) h a on))
-            | inr b ↦ absurd (not-right c among (one-on parted parts rows right c right-in (other-in c among) h b on))
+            | inl a ↦ absurd (not-left c among (one-on parted parts rows left c ins.has_left (ins.has_other c among) h a on))
+            | inr b ↦ absurd (not-right c among (one-on parted parts rows right c ins.has_right (ins.has_other c among) h b on))
           ]

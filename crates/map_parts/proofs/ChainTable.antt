@@ -7,7 +7,7 @@ use Rattle.cad_map.specs.Chain.{start_of, next_of, end_of, last_but_one, leaving
 use Rattle.cad_map.specs.Map.{Map, all_corners}
 use Rattle.cad_map.specs.Rings.{HasWholeRings}
 use Rattle.cad_map.specs.Views.{ComesAfter}
-use Rattle.cad_map.proofs.CallerLemmas.{Contains-first, Contains-later, Contains-cases, Contains-map, map-Contains, All-at_each, of_both_ways, in_both_ways}
+use Rattle.cad_map.proofs.CallerLemmas.{Contains-first, Contains-later, Contains-cases, Contains-map, All-at_each, in_both_ways}
 use Rattle.half_table.specs.declared.half.Half.{Half}
 use Rattle.half_table.specs.Half.{twin}
 use Rattle.half_table.specs.Rows.{HalfRows, IsLinked, has, next, origin_of}
@@ -25,7 +25,7 @@ use Rattle.map_parts.proofs.WholeStrings.{two-ends}
 use Rattle.map_parts.proofs.PartsRings.{half-there}
 use Rattle.map_parts.proofs.KeptShown.{bare}
 use Rattle.map_parts.proofs.AlongPaths.{is-on_path, strung-before, last-there, first-of, tail-of}
-use Rattle.map_parts.proofs.IslandTable.{more-old, more-new, more-cases}
+use Rattle.map_parts.proofs.IslandTable.{on-path_side, more-old, more-new, more-cases}
 
 -- ---- Corners along a path
 
@@ -249,17 +249,8 @@ module _ (whole parted : Map) (chain : List ℕ) (long : 2 ≤ length chain) (fc
   in-parted : (h : Half) → IsShown whole h → IsShown parted h
   in-parted = more-old whole parted gone more
 
-  -- a side of the chain is that of a half of the path, there or back
   on-chain : (s : Side) → LeadsAlong (sides_of_chain chain) s → (g : Half) × IsShown parted g × (is_of (strings_of gone) g ≡ true) × (side_by old g ≡ s)
-  on-chain s on = elim (of_both_ways (sides_of_chain chain) s on) [
-    | inl forth ↦
-        let it = map-Contains (side_by old) gone s (subst (λ (l : List Side). Contains l s) (sym along) forth) in
-        (it.0, more-new whole parted gone more it.0 it.1, is-on_path gone it.0 it.1, it.2)
-    | inr back ↦
-        let it = map-Contains (side_by old) gone (opposite s) (subst (λ (l : List Side). Contains l (opposite s)) (sym along) back) in
-        let turned : side_by old (twin it.0) ≡ opposite (side_by old it.0) = λ i. (q (twin it.0), q (twin-twin it.0 i)) in
-        (twin it.0, more-new whole parted gone more it.0 it.1, is-on_path gone it.0 it.1, turned ∙ ap opposite it.2)
-  ]
+  on-chain = on-path_side whole parted (sides_of_chain chain) old gone more along
 
   pub off-chain : (h : Half) → IsShown whole h → LeadsAlong (sides_of_chain chain) (side_by old h) → ⊥
   off-chain h shown on =

@@ -160,19 +160,23 @@ module _ (whole parted : Map) (ring : Ring) (law : HasIsland whole parted ring) 
 
 -- ---- It goes
 
+-- a side along which a path leads is that of a half of the path, there or back
+pub on-path_side : (whole parted : Map) (sides : List Side) (old : HalfRows) (path : List Half) → HasStringsMore whole parted path → AreAlong old path sides
+    → (s : Side) → LeadsAlong sides s → (g : Half) × IsShown parted g × (is_of (strings_of path) g ≡ true) × (side_by old g ≡ s)
+on-path_side whole parted sides old path more along s on = elim (of_both_ways sides s on) [
+  | inl forth ↦
+      let it = map-Contains (side_by old) path s (subst (λ (l : List Side). Contains l s) (sym along) forth) in
+      (it.0, more-new whole parted path more it.0 it.1, is-on_path path it.0 it.1, it.2)
+  | inr back ↦
+      let it = map-Contains (side_by old) path (opposite s) (subst (λ (l : List Side). Contains l (opposite s)) (sym along) back) in
+      let turned : side_by old (twin it.0) ≡ opposite (side_by old it.0) = λ i. (origin_of old (twin it.0), origin_of old (twin-twin it.0 i)) in
+      (twin it.0, more-new whole parted path more it.0 it.1, is-on_path path it.0 it.1, turned ∙ ap opposite it.2)
+]
+
 module _ (whole parted : Map) (ring : Ring) (long : 2 ≤ length ring) (law : HasIsland whole parted ring) (rings : HasWholeRings parted) (old : HalfRows) (path : List Half)
     (more : HasStringsMore whole parted path) (local : IsLocal parted old) (along : AreAlong old path (sides_of ring)) where
-  -- a side of the island is that of a half of the path, there or back
   on-island : (s : Side) → LeadsAlong (sides_of ring) s → (g : Half) × IsShown parted g × (is_of (strings_of path) g ≡ true) × (side_by old g ≡ s)
-  on-island s on = elim (of_both_ways (sides_of ring) s on) [
-    | inl forth ↦
-        let it = map-Contains (side_by old) path s (subst (λ (l : List Side). Contains l s) (sym along) forth) in
-        (it.0, more-new whole parted path more it.0 it.1, is-on_path path it.0 it.1, it.2)
-    | inr back ↦
-        let it = map-Contains (side_by old) path (opposite s) (subst (λ (l : List Side). Contains l (opposite s)) (sym along) back) in
-        let turned : side_by old (twin it.0) ≡ opposite (side_by old it.0) = λ i. (origin_of old (twin it.0), origin_of old (twin-twin it.0 i)) in
-        (twin it.0, more-new whole parted path more it.0 it.1, is-on_path path it.0 it.1, turned ∙ ap opposite it.2)
-  ]
+  on-island = on-path_side whole parted (sides_of ring) old path more along
 
   pub off-island : (h : Half) → IsShown whole h → LeadsAlong (sides_of ring) (side_by old h) → ⊥
   off-island h shown on =

@@ -36,7 +36,7 @@ use Rattle.map_parts.proofs.KeptEach.{is_boundary, boundary-same, boundary-self,
 use Rattle.map_parts.proofs.Handed.{placed-yes, placed-no, placed-is}
 use Rattle.map_parts.proofs.HomesHanded.{handed-face, homes-back}
 use Rattle.map_parts.proofs.KeptIsland.{other_faces, under, halves-whole, halves-parted, others-same}
-use Rattle.map_parts.proofs.ChainRings.{left-in, right-in, other-in, one-in, whole-cases, hands-differ, not-one, not-left, first-on, back-on, two-rings}
+use Rattle.map_parts.proofs.ChainRings.{HasRings, has-rings, one-in, whole-cases, hands-differ, not-one, not-left, first-on, back-on, two-rings}
 
 module _ (whole parted : Map) (outer inner : Face) (chain : List ℕ) (fc lc : Corner) (one left right : Boundary) (others : List Boundary)
     (it : IsChainOf whole parted outer inner chain fc lc one left right others) (rings : HasWholeRings whole) (parts : HasWholeRings parted) (long : 2 ≤ length chain)
@@ -72,26 +72,20 @@ module _ (whole parted : Map) (outer inner : Face) (chain : List ℕ) (fc lc : C
   on_right : IsOnRing parted mid right (twin first)
   on_right = back-on whole parted outer inner chain fc lc one left right others it parts long first rest more mid along
 
-  left_there : Contains parted.boundaries left
-  left_there = left-in whole parted outer inner chain fc lc one left right others it
-
-  right_there : Contains parted.boundaries right
-  right_there = right-in whole parted outer inner chain fc lc one left right others it
-
-  other_there : (c : Boundary) → Contains others c → Contains parted.boundaries c
-  other_there = other-in whole parted outer inner chain fc lc one left right others it
+  ins : HasRings parted left right others
+  ins = has-rings it.were
 
   -- ---- The faces that the halves have between
 
   left-face : (h : Half) → IsOnRing parted mid left h → face mid h ≡ inner
-  left-face h on = faces_mid h ∙ ap (λ (t : Bool). if t then inner else if is_of (strings_of (first ∷ rest)) h then outer else face old h) (ring-held parted parts mid local apart left left_there first h on_left on)
+  left-face h on = faces_mid h ∙ ap (λ (t : Bool). if t then inner else if is_of (strings_of (first ∷ rest)) h then outer else face old h) (ring-held parted parts mid local apart left ins.has_left first h on_left on)
 
   -- off the left ring a half of the first map has kept its face
   same-face : (h : Half) → IsShown whole h → (IsOnRing parted mid left h → ⊥) → face mid h ≡ face old h
   same-face h shown off = faces_mid h ∙ by (holds (cycle mid first) h) refl
     where
       by : (t : Bool) → holds (cycle mid first) h ≡ t → (if t then inner else if is_of (strings_of (first ∷ rest)) h then outer else face old h) ≡ face old h
-      by true held_so = absurd (off (held-ring parted parts mid local apart left left_there first h on_left held_so))
+      by true held_so = absurd (off (held-ring parted parts mid local apart left ins.has_left first h on_left held_so))
       by false free = ap (λ (t : Bool). if t then outer else face old h) (more.new h shown)
 
   -- ---- Where the kept halves of the first map are in the second
@@ -140,9 +134,9 @@ module _ (whole parted : Map) (outer inner : Face) (chain : List ℕ) (fc lc : C
 
       by : IsPlaced f h → IsOnRing parted mid left h
       by (cut home at (inl on)) = on
-      by (cut home at (inr on)) = away (λ also. hands-differ whole parted outer inner chain fc lc one left right others it (one-on parted parts mid left right left_there right_there h also on))
+      by (cut home at (inr on)) = away (λ also. hands-differ whole parted outer inner chain fc lc one left right others it (one-on parted parts mid left right ins.has_left ins.has_right h also on))
       by (other c there on home at) =
-          away (λ also. not-left whole parted outer inner chain fc lc one left right others it parts c there (one-on parted parts mid left c left_there (other_there c there) h also on))
+          away (λ also. not-left whole parted outer inner chain fc lc one left right others it parts c there (one-on parted parts mid left c ins.has_left (ins.has_other c there) h also on))
 
   -- ---- Which halves went first
 
@@ -160,7 +154,7 @@ module _ (whole parted : Map) (outer inner : Face) (chain : List ℕ) (fc lc : C
     where
       by : IsOnRing parted mid left h → IsPlaced outer h → home_of whole old h ≡ one
       by on (cut home at which) = home
-      by on (other c there also home at) = absurd (not-left whole parted outer inner chain fc lc one left right others it parts c there (one-on parted parts mid left c left_there (other_there c there) h on also))
+      by on (other c there also home at) = absurd (not-left whole parted outer inner chain fc lc one left right others it parts c there (one-on parted parts mid left c ins.has_left (ins.has_other c there) h on also))
 
   first_inner : items_at one_held (face_place inner) ≡ gives.gone
   first_inner = gives.got ∙ ap (λ (l : List Half). l ++ gives.gone) nothing
@@ -222,10 +216,10 @@ module _ (whole parted : Map) (outer inner : Face) (chain : List ℕ) (fc lc : C
     pub outer_off : (h : Half) → Contains (items_at two_held (face_place outer)) h → IsOnRing parted mid left h → ⊥
 
   home-left : (h : Half) → IsOnRing parted mid left h → hp h ≡ left
-  home-left h on = home-is parted parts new left left_there h (on-new left h on)
+  home-left h on = home-is parted parts new left ins.has_left h (on-new left h on)
 
   home-right : (h : Half) → IsOnRing parted mid right h → hp h ≡ right
-  home-right h on = home-is parted parts new right right_there h (on-new right h on)
+  home-right h on = home-is parted parts new right ins.has_right h (on-new right h on)
 
   stay-off : (h : Half) → Contains (items_at one_held (face_place outer)) h → IsOnRing parted mid left h → ⊥
   stay-off h among on =
@@ -304,7 +298,7 @@ module _ (whole parted : Map) (outer inner : Face) (chain : List ℕ) (fc lc : C
               | inr came ↦ elim (Contains-cases (twin first) [] h came) [
                 | inl e ↦
                     hands-differ whole parted outer inner chain fc lc one left right others it
-                    (one-on parted parts mid left right left_there right_there h on (subst (IsOnRing parted mid right) e on_right))
+                    (one-on parted parts mid left right ins.has_left ins.has_right h on (subst (IsOnRing parted mid right) e on_right))
                 | inr low ↦ let no = low.1 in absurd (omega (arith, no))
               ]
             ];
@@ -330,7 +324,7 @@ module _ (whole parted : Map) (outer inner : Face) (chain : List ℕ) (fc lc : C
   on-now f h among = elim (cases_face f inner) [
     | inl same ↦
         elim (Contains-append_cases (items_at two_held (face_place inner)) hands.gone h (subst (λ (l : List Half). Contains l h) hands.got (subst (λ (g : Face). Contains (items_at now (face_place g)) h) same among))) [
-          | inl was ↦ (left, left_there, on-new left h (done.inner_on h was), it.left_face ∙ sym same)
+          | inl was ↦ (left, ins.has_left, on-new left h (done.inner_on h was), it.left_face ∙ sym same)
           | inr came ↦
               let b = outer_ring h (two-outer h (Contains-append_left hands.gone (items_at now (face_place outer)) h came)) in
               let placed = All-at_each (λ g. is_placed new (face_place inner) g ≡ true) hands.gone h hands.goes came in
@@ -364,17 +358,17 @@ module _ (whole parted : Map) (outer inner : Face) (chain : List ℕ) (fc lc : C
       outer_ring : (g : Half) → Contains (items_at two_held (face_place outer)) g → (b : Boundary) × Contains parted.boundaries b × IsOnRing parted mid b g × ((b.face ≡ outer) ⊎ (b.face ≡ inner))
       outer_ring g there = elim (done.outer_on g there) [
         | inl was ↦ by (place-kept outer g was)
-        | inr came ↦ (right, right_there, came, inl it.right_face)
+        | inr came ↦ (right, ins.has_right, came, inl it.right_face)
       ]
         where
           by : IsPlaced outer g → (b : Boundary) × Contains parted.boundaries b × IsOnRing parted mid b g × ((b.face ≡ outer) ⊎ (b.face ≡ inner))
-          by (cut home at (inl on)) = (left, left_there, on, inr it.left_face)
-          by (cut home at (inr on)) = (right, right_there, on, inl it.right_face)
-          by (other c inside on home at) = (c, other_there c inside, on, elim (face-now c outer at) [ inl is ↦ inl is | inr is ↦ inr is.0 ])
+          by (cut home at (inl on)) = (left, ins.has_left, on, inr it.left_face)
+          by (cut home at (inr on)) = (right, ins.has_right, on, inl it.right_face)
+          by (other c inside on home at) = (c, ins.has_other c inside, on, elim (face-now c outer at) [ inl is ↦ inl is | inr is ↦ inr is.0 ])
 
       still : (g : Face) (k : Half) → g ≢ inner → g ≢ outer → IsPlaced g k → (b : Boundary) × Contains parted.boundaries b × IsOnRing parted new b k × (b.face ≡ g)
       still g k away far (cut home at on) = absurd (far at)
-      still g k away far (other c inside on home at) = (c, other_there c inside, on-new c k on, elim (face-now c g at) [ inl is ↦ is | inr is ↦ absurd (far is.1) ])
+      still g k away far (other c inside on home at) = (c, ins.has_other c inside, on-new c k on, elim (face-now c g at) [ inl is ↦ is | inr is ↦ absurd (far is.1) ])
 
   pub chain-kept : KeepsEach parted new now
   chain-kept = record { on = on-now; all = all_homes; none = none_now }
@@ -403,7 +397,7 @@ module _ (whole parted : Map) (outer inner : Face) (chain : List ℕ) (fc lc : C
       -- the others have the other rings
       other_homes : IsPermutation (map hp done.left_over) others
       other_homes =
-          homes-back parted parts outer inner others other_there whole old new done.left_over (λ h among.
+          homes-back parted parts outer inner others ins.has_other whole old new done.left_over (λ h among.
           let found = map-Contains handed others (home_of whole old h)
           (Contains-permutation (map (home_of whole old) done.left_over) (map handed others) (home_of whole old h) done.cut.homes (Contains-map_of h among)) in
           let at = kept-in h (Contains-permutation (done.kept ∷ done.left_over) K h (IsPermutation-sym K (done.kept ∷ done.left_over) done.cut.split) (Contains-later done.kept done.left_over h among)) in
@@ -414,7 +408,7 @@ module _ (whole parted : Map) (outer inner : Face) (chain : List ℕ) (fc lc : C
 
           by : (h : Half) (c : Boundary) → Contains others c → handed c ≡ home_of whole old h → {f : Face} → IsPlaced f h → (c : Boundary) × Contains others c × (hp h ≡ c) × (home_of whole old h ≡ handed c)
           by h c there is (cut home at on) = absurd (not-one whole parted outer inner chain fc lc one left right others it rings c there (sym home ∙ sym is))
-          by h c there is (other d inside on home at) = (d, inside, home-is parted parts new d (other_there d inside) h (on-new d h on), home)
+          by h c there is (other d inside on home at) = (d, inside, home-is parted parts new d (ins.has_other d inside) h (on-new d h on), home)
 
       all_homes : IsPermutation (map hp (halves_kept parted now)) parted.boundaries
       all_homes =

@@ -1,8 +1,8 @@
 //! The parts of a map on half-edges, made from a map and changed in place: its rows, the table of
 //! half-edges, one half kept for each ring of a face, and the halves that leave each point.
 //!
-//! Each edit has a call that does it and one that undoes it, both without memory, and a call that
-//! begins it, which makes all growths first. The table is the doubly connected edge list of de Berg,
+//! Each edit has a call that begins it, which makes all growths first, so that it can be taken back
+//! without memory, and one that does that. The table is the doubly connected edge list of de Berg,
 //! Cheong, van Kreveld and Overmars, Computational Geometry, chapter 2.
 #![tactic(auto)]
 

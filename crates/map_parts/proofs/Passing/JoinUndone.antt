@@ -97,8 +97,8 @@ module _ {R : Type 0} (number : R → ℕ) where
       let long = length_permutation rows (row ∷ without_row number n rows) (row-first number n row rows pairs found) in
       omega (arith, low, long)
 
-module _ (joined : JoinedRows) (new : ℕ) (rows : MapRows) (table : HalfRows) (held : Held Half)
-    (stars : Held Spoke) (can : CanUnjoin joined new rows table held stars) where
+module _ {joined : JoinedRows} {new : ℕ} {rows : MapRows} {table : HalfRows} {held : Held Half}
+    {stars : Held Spoke} (can : CanUnjoin joined new rows table held stars) where
   abbrev m : Map
   m = can.map
 

@@ -94,8 +94,8 @@ module _ {R : Type 0} (number : R → ℕ) where
       All-at_each (λ k. number r ≢ k) (map number rows) (number row) each.0 among (eqb-true (number r) n h ∙ sym same)) in
       rw other (ap (λ (l : List R). r ∷ l) (insert-back n rows place row each.1 same later))
 
-module _ (row : StringRow) (place p first second : ℕ) (rows : MapRows) (table : HalfRows)
-    (held : Held Half) (stars : Held Spoke) (can : CanUnsplit row place p first second rows table held stars) where
+module _ {row : StringRow} {place p first second : ℕ} {rows : MapRows} {table : HalfRows}
+    {held : Held Half} {stars : Held Spoke} (can : CanUnsplit row place p first second rows table held stars) where
   abbrev m : Map
   m = can.map
 

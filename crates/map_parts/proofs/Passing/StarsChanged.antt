@@ -151,6 +151,17 @@ stars-permuted rows others stars moved are p =
     let d = sum_by-IsPermutation by rows others moved in
     omega (arith, a, b, c, d))
 
+-- how often a spoke stands in the stars of a string and of others
+times-with : (s : Spoke) (p : ℕ) (rows left : List StringRow) (row : StringRow) → IsPermutation rows (row ∷ left)
+    → count_by (is_spoke s) (spokes_at p rows) ≡ count_by (is_spoke s) (spokes_of p row) + count_by (is_spoke s) (spokes_at p left)
+times-with s p rows left row parts =
+    let by : StringRow → ℕ = λ r. count_by (is_spoke s) (spokes_of p r) in
+    let a = times-at s p rows in
+    let b = times-at s p left in
+    let c = sum_by-IsPermutation by rows (row ∷ left) parts in
+    let d = sum_by-cons by row left in
+    omega (arith, a, b, c, d)
+
 -- ---- One string less
 
 -- each star has less what the string added to it
@@ -162,15 +173,11 @@ pub stars-without : (rows left : List StringRow) (row : StringRow) (old new : He
 stars-without rows left row old new are parts takes p =
     permuted-from_counts is_spoke is_spoke-self is_spoke-is (spokes_at p left) (items_at new p) (λ s.
     let one : Spoke → ℕ = λ (t : Spoke). cond (is_spoke s t) 1 0 in
-    let by : StringRow → ℕ = λ r. count_by (is_spoke s) (spokes_of p r) in
     let a = sum_by-IsPermutation one (spokes_at p rows) (items_at old p) (are p) in
     let b = sum_by-IsPermutation one (items_at old p) (spokes_of p row ++ items_at new p) (takes p) in
     let c = sum_by-append one (spokes_of p row) (items_at new p) in
-    let d = times-at s p rows in
-    let e = times-at s p left in
-    let f = sum_by-IsPermutation by rows (row ∷ left) parts in
-    let g = sum_by-cons by row left in
-    omega (arith, a, b, c, d, e, f, g))
+    let d = times-with s p rows left row parts in
+    omega (arith, a, b, c, d))
 
 -- ---- One string more
 
@@ -179,15 +186,11 @@ pub stars-with : (rows left : List StringRow) (row : StringRow) (old new : Held 
 stars-with rows left row old new are parts adds p =
     permuted-from_counts is_spoke is_spoke-self is_spoke-is (spokes_at p rows) (items_at new p) (λ s.
     let one : Spoke → ℕ = λ (t : Spoke). cond (is_spoke s t) 1 0 in
-    let by : StringRow → ℕ = λ r. count_by (is_spoke s) (spokes_of p r) in
     let a = sum_by-IsPermutation one (spokes_at p left) (items_at old p) (are p) in
     let b = ap (λ (l : List Spoke). sum_by one l) (adds p) in
     let c = sum_by-append one (items_at old p) (spokes_of p row) in
-    let d = times-at s p rows in
-    let e = times-at s p left in
-    let f = sum_by-IsPermutation by rows (row ∷ left) parts in
-    let g = sum_by-cons by row left in
-    omega (arith, a, b, c, d, e, f, g))
+    let d = times-with s p rows left row parts in
+    omega (arith, a, b, c, d))
 
 -- ---- Taken from both ends
 

@@ -34,26 +34,18 @@ loop-boundary-preserved g c =
           c.in_ok-keep_half.ensures.here c.in_ok-keep_half.ensures.others);
     }
 
-pub returns-clause-linked : goal.returns-clause-linked
-returns-clause-linked g c =
-    let past : length c.args.map.now.boundaries ≤ c.loop-boundary.boundary-index = search rules in
-    all-linked c.args.map.now c.requires.whole c.loop-boundary.table.rows c.args.stars.now c.loop-boundary.invariant.strings
-    (rings-all c.args.map.now c.loop-boundary.table.rows c.loop-boundary.boundary-index past c.loop-boundary.invariant.linked)
-
-pub returns-clause-local : goal.returns-clause-local
-returns-clause-local g c =
-    let past : length c.args.map.now.boundaries ≤ c.loop-boundary.boundary-index = search rules in
-    all-local c.args.map.now c.requires.whole c.loop-boundary.table.rows c.args.stars.now c.loop-boundary.invariant.strings
-    (rings-all c.args.map.now c.loop-boundary.table.rows c.loop-boundary.boundary-index past c.loop-boundary.invariant.linked)
-
-pub returns-clause-labelled : goal.returns-clause-labelled
-returns-clause-labelled g c =
-    let past : length c.args.map.now.boundaries ≤ c.loop-boundary.boundary-index = search rules in
-    all-labelled c.args.map.now c.requires.whole c.loop-boundary.table.rows c.args.stars.now c.loop-boundary.invariant.strings
-    (rings-all c.args.map.now c.loop-boundary.table.rows c.loop-boundary.boundary-index past c.loop-boundary.invariant.linked)
-
-pub returns-clause-kept : goal.returns-clause-kept
-returns-clause-kept g c rows strings =
-    let past : length c.args.map.now.boundaries ≤ c.loop-boundary.boundary-index = search rules in
-    subst (HoldsRings c.args.map.now rows c.loop-boundary.kept) (take_all c.loop-boundary.boundary-index c.args.map.now.boundaries past)
-    (c.loop-boundary.invariant.kept rows strings)
+pub returns : goal.returns
+returns g c =
+    let m = c.args.map.now in
+    let table = c.loop-boundary.table.rows in
+    let strings = c.loop-boundary.invariant.strings in
+    let past : length m.boundaries ≤ c.loop-boundary.boundary-index = search rules in
+    let linked = rings-all m table c.loop-boundary.boundary-index past c.loop-boundary.invariant.linked in
+    record {
+      strings = strings;
+      linked = all-linked m c.requires.whole table c.args.stars.now strings linked;
+      local = all-local m c.requires.whole table c.args.stars.now strings linked;
+      labelled = all-labelled m c.requires.whole table c.args.stars.now strings linked;
+      kept = λ rows strings.
+          subst (HoldsRings m rows c.loop-boundary.kept) (take_all c.loop-boundary.boundary-index m.boundaries past) (c.loop-boundary.invariant.kept rows strings);
+    }

@@ -1,4 +1,4 @@
-use Rattle.std.proofs.Common.{◌≡◌, [], List, refl, ap, subst, ◌∙◌, arith, insert}
+use Rattle.std.proofs.Common.{◌≡◌, [], ◌∷◌, ◌++◌, List, refl, ap, subst, ◌∙◌, arith, insert}
 use Rattle.cad_rows.specs.declared.rows.StringRow.{StringRow}
 use Rattle.cad_map.specs.Map.{Map}
 use Rattle.map_parts.specs.declared.edits.placed_strings.PlacedString.{PlacedString}
@@ -8,6 +8,7 @@ use Rattle.map_parts.specs.Rows.{map_in, rows_in}
 use Rattle.map_parts.specs.StringRows.{without_rows}
 use Rattle.map_parts.proofs.Handed.{nothing-left}
 use Rattle.map_parts.proofs.StringsPlaced as placed
+use Rattle.map_parts.proofs.edits.placed_strings.put_placed.Goals.{After-take_last-last}
 use Rattle.map_parts.proofs.edits.placed_strings.put_placed.Goals as goal
 
 pub loop-step-init : goal.loop-step-init
@@ -28,11 +29,14 @@ take_last-last-requires c =
     let test = c.loop-step-test.true in
     omega (arith, left, test)
 
+can : (c : goal.After-take_last-last) → CanPutPlaced (c.take_last-last.new.self.items ++ c.take_last-last.result ∷ []) c.loop-step.rows c.loop-step.stars
+can c = subst (λ (l : List PlacedString). CanPutPlaced l c.loop-step.rows c.loop-step.stars) c.take_last-last.ensures.items c.loop-step.invariant.can
+
 pub put_spokes-requires : goal.put_spokes-requires
 put_spokes-requires c =
     let g : PlacedString = c.take_last-last.result in
     let gone = c.take_last-last.new.self.items in
-    let can = subst (λ (l : List PlacedString). CanPutPlaced l c.loop-step.rows c.loop-step.stars) c.take_last-last.ensures.items c.loop-step.invariant.can in
+    let can = can (goal.at.put_spokes-requires c).After-take_last-last in
     record {
       two = placed.put-two gone g c.loop-step.rows c.loop-step.stars can;
       from = placed.put-from gone g c.loop-step.rows c.loop-step.stars can;
@@ -41,9 +45,9 @@ put_spokes-requires c =
 
 pub put_at-requires : goal.put_at-requires
 put_at-requires c =
-    let g : PlacedString = c.take_last-last.result in
     let gone = c.take_last-last.new.self.items in
-    let can = subst (λ (l : List PlacedString). CanPutPlaced l c.loop-step.rows c.loop-step.stars) c.take_last-last.ensures.items c.loop-step.invariant.can in
+    let g : PlacedString = c.take_last-last.result in
+    let can = can (goal.at.put_at-requires c).After-take_last-last in
     record {
       slot = placed.put-slot gone g c.loop-step.rows c.loop-step.stars can;
       absent = placed.last-absent gone g can.before (rows_in c.loop-step.rows.strings) can.differ can.stood can.left;
@@ -59,7 +63,7 @@ loop-step-preserved c =
     let g : PlacedString = c.take_last-last.result in
     let gone = c.take_last-last.new.self.items in
     let items = c.take_last-last.ensures.items in
-    let can = subst (λ (l : List PlacedString). CanPutPlaced l old c.loop-step.stars) items was.can in
+    let can = can (goal.at.loop-step-preserved c).After-take_last-last in
     let is : rows_in new.strings ≡ insert (rows_in old.strings) g.place g.row = c.put_at.ensures.rows in
     record {
       can = placed.put-rest gone g old c.loop-step.stars can new wide is c.put_at.ensures.slots c.put_spokes.ensures.adds c.put_spokes.ensures.capacity;
