@@ -26,7 +26,7 @@ use Rattle.cad_surgery.specs.Divisions.{divided_by, strings_across, HasCrossing}
 use Rattle.edit_records.specs.HeldChains.{side_along, LeadsAlong, IsOfRing, HeldChain, rings_beside as rings_but}
 use Rattle.map_parts.specs.Labels.{IsAlong, IsOnRing}
 use Rattle.map_parts.specs.Parts.{HasHalves}
-use Rattle.cad_surgery.proofs.DividedBack.{first_side}
+use Rattle.cad_surgery.proofs.DividedBack as made
 use Rattle.map_parts.proofs.Dividing as divides
 use Rattle.map_parts.proofs.KeptShown.{bare}
 use Rattle.cad_surgery.proofs.NamedRings.{row-side, named-among, named-rings, named-once}
@@ -61,35 +61,22 @@ module _ (m : Map) (d : NewParcel) (tried : IsTried m (divided_by d)) (rows : Ha
   whole_old = whole_valid m tried.valid
 
   whole_now : HasWholeRings now
-  whole_now = whole-after m (divided_by d) tried.valid tried.given tried.allowed tt
+  whole_now = made.whole_now d tried {path = path} refl
 
-  can : IsAllowed m d.face d.points.now d.strings.now d.parcel d.label.now d.source
-  can = can-divide m d.face d.points.now d.strings.now d.parcel d.label.now d.source tried.given (allowed m (divided_by d) tried.allowed)
+  abbrev can : IsAllowed m d.face d.points.now d.strings.now d.parcel d.label.now d.source
+  can = made.can d tried {path = path} refl
 
   abbrev is_it : IsDividing m d.face d.strings.now (strings_across d) d.parcel path
-  is_it = record {
-    chain = d.points.now;
-    label = d.label.now;
-    source = d.source;
-    first = can.first;
-    last = can.last;
-    tried = tried;
-    chosen = record { first_is = can.at_first; last_is = can.at_last };
-    divided =
-        divided-faces m d.face d.points.now d.strings.now d.parcel d.label.now d.source can.first can.last
-        tried.valid tried.given tried.allowed can.at_first can.at_last;
-    added_are = refl;
-    path_is = refl;
-  }
+  is_it = made.is_it d tried refl
 
   abbrev left : Boundary
-  left = divides.left_ring m d.face d.strings.now (strings_across d) d.parcel path is_it
+  left = made.left d tried {path = path} refl
 
   abbrev right : Boundary
-  right = divides.right_ring m d.face d.strings.now (strings_across d) d.parcel path is_it
+  right = made.right d tried {path = path} refl
 
   law : IsChainOf m now d.face (Parcel d.parcel) d.points.now can.first can.last is_it.divided.cut left right (rings_beside is_it)
-  law = divides.chain-of m d.face d.strings.now (strings_across d) d.parcel path is_it
+  law = made.law d tried {path = path} refl
 
   strings-are : now.strings ≡ m.strings ++ strings_across d
   strings-are = divides.strings-are m d.face d.strings.now (strings_across d) d.parcel path is_it
@@ -173,7 +160,7 @@ module _ (m : Map) (d : NewParcel) (tried : IsTried m (divided_by d)) (rows : Ha
   s = (start_of d.points.now, next_of d.points.now)
 
   on_left : Contains (sides_of left.ring) s
-  on_left = law.along s (first_side d.points.now can.long)
+  on_left = made.on_left d tried {path = path} refl
 
   -- what the record tells is at hand
   pub crossing : HasCrossing m rows d start end moved

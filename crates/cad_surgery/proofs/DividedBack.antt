@@ -80,16 +80,16 @@ module _ {m : Map} (d : NewParcel) (tried : IsTried m (divided_by d)) {path : Li
     path_is = path_is;
   }
 
-  abbrev left : Boundary
+  abbrev pub left : Boundary
   left = divides.left_ring m d.face d.strings.now (strings_across d) d.parcel path is_it
 
-  abbrev right : Boundary
+  abbrev pub right : Boundary
   right = divides.right_ring m d.face d.strings.now (strings_across d) d.parcel path is_it
 
-  law : IsChainOf m now d.face (Parcel d.parcel) d.points.now can.first can.last is_it.divided.cut left right (rings_beside is_it)
+  pub law : IsChainOf m now d.face (Parcel d.parcel) d.points.now can.first can.last is_it.divided.cut left right (rings_beside is_it)
   law = divides.chain-of m d.face d.strings.now (strings_across d) d.parcel path is_it
 
-  on_left : Contains (sides_of left.ring) (start_of d.points.now, next_of d.points.now)
+  pub on_left : Contains (sides_of left.ring) (start_of d.points.now, next_of d.points.now)
   on_left = law.along (start_of d.points.now, next_of d.points.now) (first_side d.points.now can.long)
 
   pub more : HasStringsMore m now path

@@ -35,6 +35,7 @@ use Rattle.cad_surgery.proofs.EnclosedWork.{on-ring}
 use Rattle.map_parts.proofs.Enclosing as encloses
 use Rattle.map_parts.proofs.KeptEach.{home-is, pick}
 use Rattle.cad_surgery.proofs.MovedHalves.{filter-permuted}
+use Rattle.cad_surgery.proofs.NamedRings.{named-on, on-named}
 use Rattle.cad_surgery.proofs.RingLengths.{face-lengths}
 use Rattle.map_parts.proofs.RingsOnce.{stands-once}
 use Rattle.map_parts.proofs.StringRowsPut.{found-there}
@@ -44,47 +45,8 @@ both true true h = (refl, refl)
 both true false h = cc
 both false b h = cc
 
--- ---- Halves, by the rows of a map
-
-module _ (m : Map) (rows : HalfRows) (ends : AllByRecursion (HasHalves rows) m.strings) where
-  -- a half leads along the side of its string's row
-  row-side : (row : StringRow) (h : Half) → row.number ≡ h.string → HasHalves rows row → side_by rows h ≡ side_along row h
-  row-side row h number halves =
-      subst (λ (g : Half). side_by rows g ≡ side_along row g) (λ i. half_of (number i) h.forward) (by h.forward)
-    where
-      by : (f : Bool) → side_by rows (half_of row.number f) ≡ side_along row (half_of row.number f)
-      by true = λ i. (halves.from i, halves.to i)
-      by false = λ i. (halves.to i, halves.from i)
-
-  pub named-on : (b : Boundary) (h : Half) → IsOfRing m b h → IsOnRing m rows b h
-  named-on b h it =
-      let row = it.along.row in
-      let among = found-there (λ (r : StringRow). r.number) h.string m.strings row it.along.there in
-      let number = found-number (λ (r : StringRow). r.number) h.string m.strings row it.along.there in
-      record {
-        shown = ap (λ (o : Option StringRow). is_some o) it.along.there;
-        side =
-            subst (Contains (sides_of b.ring))
-            (sym (row-side row h number (All-at_each (HasHalves rows) m.strings row ends among) ∙ it.along.is)) it.on;
-      }
-
-  pub on-named : (b : Boundary) (h : Half) → IsOnRing m rows b h → IsOfRing m b h
-  on-named b h on = by (string_of m h.string) refl on.shown
-    where
-      by : (o : Option StringRow) → string_of m h.string ≡ o → is_some o ≡ true → IsOfRing m b h
-      by None is none = absurd (true≢false (sym none))
-      by (Some row) is some =
-          let among = found-there (λ (r : StringRow). r.number) h.string m.strings row is in
-          let number = found-number (λ (r : StringRow). r.number) h.string m.strings row is in
-          let same = row-side row h number (All-at_each (HasHalves rows) m.strings row ends among) in
-          record {
-            side = side_by rows h;
-            along = record { row = row; there = is; is = sym same };
-            on = on.side;
-          }
-
 -- the first side of a ring
-first-of_ring : (points : List ℕ) → 2 ≤ length points → Contains (sides_of points) (start_of points, next_of points)
+pub first-of_ring : (points : List ℕ) → 2 ≤ length points → Contains (sides_of points) (start_of points, next_of points)
 first-of_ring [] long = absurd (omega (arith, long))
 first-of_ring (a ∷ []) long = absurd (omega (arith, long))
 first-of_ring (a ∷ b ∷ points) long = Contains-first (a, b) (sides_along b points a)

@@ -35,6 +35,7 @@ use Rattle.map_parts.specs.Paths.{AreAlong}
 use Rattle.map_parts.proofs.MergedIsland.{merged-island}
 use Rattle.map_parts.proofs.MergedRows as rows_of
 use Rattle.map_parts.proofs.MergingIsland as merging
+use Rattle.cad_surgery.proofs.HeldEnclosures.{first-of_ring}
 use Rattle.cad_surgery.proofs.HeldMergers.{along-rows, rows-led, rows-there, shared-names}
 use Rattle.cad_surgery.proofs.HeldPaths.{HasRowsBoth, left-there, off-past, off-rows, stays-along}
 use Rattle.cad_surgery.proofs.NamedRings.{named-among, named-on, named-once, named-rings}
@@ -43,12 +44,6 @@ use Rattle.cad_surgery.proofs.NamedRings.{named-among, named-on, named-once, nam
 pub closed-sides : (points : List ℕ) → 2 ≤ length points → sides_of_chain (closed points) ≡ sides_of points
 closed-sides [] long = absurd (omega (arith, long))
 closed-sides (a ∷ points) long = sides_of_chain-is a points a
-
--- and the first of them
-first-side : (points : List ℕ) → 2 ≤ length points → Contains (sides_of points) (start_of points, next_of points)
-first-side [] long = absurd (omega (arith, long))
-first-side (a ∷ []) long = absurd (omega (arith, long))
-first-side (a ∷ b ∷ points) long = Contains-first (a, b) _
 
 module _ (m : Map) (kept : Face) (row : ParcelRow) (place : ℕ) (points : List ℕ) (strings : List ChainString) (moved : List Half)
     (tried : IsTried m (Merge kept (Parcel row.number))) (it : HeldMergedIsland m kept row place points strings moved) where
@@ -94,7 +89,7 @@ module _ (m : Map) (kept : Face) (row : ParcelRow) (place : ℕ) (points : List 
   s = (start_of points, next_of points)
 
   on_left : Contains (sides_of left.ring) s
-  on_left = Contains-permutation (sides_of points) (sides_of left.ring) s law.left_sides (first-side points long)
+  on_left = Contains-permutation (sides_of points) (sides_of left.ring) s law.left_sides (first-of_ring points long)
 
   -- ---- In a table of the map before it
 

@@ -35,6 +35,7 @@ use Rattle.cad_surgery.specs.Work.{TakesWork}
 use Rattle.cad_surgery.proofs.DraftFits.{draft-fits, draft-all, draft-work, settled}
 use Rattle.cad_surgery.proofs.FitParts.{parts, parts-in, GoWith, at-rest, stand-for}
 use Rattle.cad_surgery.proofs.JoinDraft as draft
+use Rattle.cad_surgery.proofs.LooseBeside.{AreUnseen, no-strings}
 use Rattle.cad_surgery.proofs.WorkTaken.{ticks-just, ticks-then}
 
 module _ {T : Type 0} (inside : Inside T) {v : Parts} (view : parts-in inside ≡ v) (fit : FitTogether (parts-in inside)) (p : ℕ) (k : Joining)
@@ -120,17 +121,10 @@ module _ {T : Type 0} (inside : Inside T) {v : Parts} (view : parts-in inside �
 
         module _ (x y : Half) (x_is : x ≡ half_of joined.first.number (not (joined.first.from == p)))
             (y_is : y ≡ half_of joined.second.number (joined.second.from == p)) where
-          pub two-different : AreDifferent (x ∷ y ∷ [])
-          two-different =
-              subst (λ (w : Half × Half). AreDifferent (w.0 ∷ w.1 ∷ [])) (λ i. (sym x_is i, sym y_is i))
-              (draft.join-different m p new joined.first joined.second tried are-now apart)
-
-          pub two-hidden : (g : Half) → IsShown (map_of (parts rows1 table1 held1 stars1 inside.grid)) g
-              → is_of (strings_of (x ∷ y ∷ [])) g ≡ false
-          two-hidden g shown =
-              subst (λ (w : Half × Half). is_of (strings_of (w.0 ∷ w.1 ∷ [])) g ≡ false) (λ i. (sym x_is i, sym y_is i))
-              (draft.join-hidden m p new joined.first joined.second tried are-now apart g
-              (subst (λ (q : Map). IsShown q g) (stand-for inside.grid gone-through) shown))
+          pub two-unseen : AreUnseen (x ∷ y ∷ []) (parts rows1 table1 held1 stars1 inside.grid)
+          two-unseen =
+              no-strings inside.grid gone-through (λ i. x_is i ∷ y_is i ∷ []) (draft.join-different m p new joined.first joined.second tried are-now apart)
+              (draft.join-hidden m p new joined.first joined.second tried are-now apart)
 
           module _ (d : Parts) (fit_now : FitTogether d) (same : map_of d ≡ map_of (parts rows1 table1 held1 stars1 inside.grid))
               (drops : DropsStrings (x ∷ y ∷ []) table1.rows d.table.rows) where
@@ -174,16 +168,10 @@ module _ {T : Type 0} (inside : Inside T) {v : Parts} (view : parts-in inside �
             gone-back = record { whole = whole; fits = each undoes }
 
             module _ (kept : (g : Half) → has table2.rows g ≡ has table1.rows g) (z : Half) (z_is : z ≡ forward_of new) where
-              pub one-different : AreDifferent (z ∷ [])
-              one-different =
-                  subst (λ (w : Half). AreDifferent (w ∷ [])) (sym z_is) (draft.undo-different m p new joined.first joined.second tried are-now apart)
-
-              pub one-hidden : (g : Half) → IsShown (map_of (parts rows2 table2 held2 stars2 inside.grid)) g
-                  → is_of (strings_of (z ∷ [])) g ≡ false
-              one-hidden g shown =
-                  subst (λ (w : Half). is_of (strings_of (w ∷ [])) g ≡ false) (sym z_is)
-                  (draft.undo-hidden m p new joined.first joined.second tried are-now apart g
-                  (subst (λ (q : Map). IsShown q g) (stand-for inside.grid gone-back) shown))
+              pub one-unseen : AreUnseen (z ∷ []) (parts rows2 table2 held2 stars2 inside.grid)
+              one-unseen =
+                  no-strings inside.grid gone-back (λ i. z_is i ∷ []) (draft.undo-different m p new joined.first joined.second tried are-now apart)
+                  (draft.undo-hidden m p new joined.first joined.second tried are-now apart)
 
               module _ (d : Parts) (fit_now : FitTogether d) (same : map_of d ≡ map_of (parts rows2 table2 held2 stars2 inside.grid))
                   (drops : DropsStrings (z ∷ []) table2.rows d.table.rows) where

@@ -66,3 +66,19 @@ module _ (path : List Half) {m : Map} {rows : MapRows} {table : Table} {held : H
         settled p m fit (same ∙ stand-for grid it) it.whole (λ g.
         drops.has g ∙ ap (λ (b : Bool). if is_of (strings_of path) g then false else b) (halves g)
         ∙ come-and-gone (is_of (strings_of path) g) (has_string m g.string) (new g))
+
+-- what is asked of strings that are to go, beside that the table has them, loose
+pub record AreUnseen (path : List Half) (d : Parts) : Type 0 where
+  pub whole : HasWholeRings (map_of d)
+  pub different : AreDifferent path
+  pub hidden : (g : Half) → IsShown (map_of d) g → is_of (strings_of path) g ≡ false
+
+-- they are no strings of the map that the parts stand for
+pub no-strings : (grid : Grid) {m : Map} {rows : MapRows} {table : Table} {held : Held Half} {stars : Held Spoke} → GoWith m rows table held stars → {path own : List Half} → path ≡ own
+    → AreDifferent own → ((g : Half) → IsShown m g → is_of (strings_of own) g ≡ false) → AreUnseen path (parts rows table held stars grid)
+no-strings grid {m} {rows} {table} {held} {stars} it {own = own} is different hidden =
+    subst (λ (l : List Half). AreUnseen l (parts rows table held stars grid)) (sym is) (record {
+      whole = still-whole grid it;
+      different = different;
+      hidden = λ g shown. hidden g (subst (λ (q : Map). IsShown q g) (stand-for grid it) shown);
+    })

@@ -28,6 +28,7 @@ use Rattle.map_parts.specs.Splitting.{FitMap, CanBeginUnsplit}
 use Rattle.cad_surgery.specs.Halvings.{IsSplitFrom, split_by, split_record}
 use Rattle.cad_surgery.specs.Work.{TakesWork}
 use Rattle.cad_surgery.proofs.DraftFits.{draft-fits, draft-all, draft-work, settled}
+use Rattle.cad_surgery.proofs.LooseBeside.{AreUnseen, no-strings}
 use Rattle.cad_surgery.proofs.FitParts.{parts, parts-in, GoWith, at-rest, stand-for}
 use Rattle.cad_surgery.proofs.WorkTaken.{ticks-just, ticks-then}
 use Rattle.cad_surgery.proofs.SplitDraft.{split-whole_after, whole-free, unsplit-in, unsplit-alone, back-hidden, back-different, split-work, whole-few}
@@ -89,19 +90,8 @@ module _ {T : Type 0} (inside : Inside T) {v : Parts} (view : parts-in inside �
       gone-back = record { whole = whole_valid m it.valid; fits = each begun }
 
       module _ (x y : Half) (are_two : (x ≡ forward_of h.first) × (y ≡ forward_of h.second)) where
-        pair : (P : List Half → Type 0) → P (forward_of h.first ∷ forward_of h.second ∷ []) → P (x ∷ y ∷ [])
-        pair P p = subst P (λ i. sym are_two.0 i ∷ sym are_two.1 i ∷ []) p
-
-        pub in-two : AreIn t.rows (x ∷ y ∷ [])
-        in-two = pair (λ l. AreIn t.rows l) (unsplit-in m h row.number of inside.table.rows behind-all t.rows some)
-
-        pub in-two_differ : AreDifferent (x ∷ y ∷ [])
-        in-two_differ = pair (λ l. AreDifferent l) (back-different m h row.number of)
-
-        pub in-two_hidden : (g : Half) → IsShown (map_of (parts new t put wide inside.grid)) g → is_of (strings_of (x ∷ y ∷ [])) g ≡ false
-        in-two_hidden g shown =
-            pair (λ l. is_of (strings_of l) g ≡ false)
-            (back-hidden m h row.number of g (subst (λ (q : Map). IsShown q g) (stand-for inside.grid gone-back) shown))
+        pub in-unseen : AreUnseen (x ∷ y ∷ []) (parts new t put wide inside.grid)
+        in-unseen = no-strings inside.grid gone-back (λ i. are_two.0 i ∷ are_two.1 i ∷ []) (back-different m h row.number of) (back-hidden m h row.number of)
 
         pub in-proper : (d : Parts) → FitTogether d → map_of d ≡ map_of (parts new t put wide inside.grid)
             → DropsStrings (x ∷ y ∷ []) t.rows d.table.rows → IsProper (map_of d) d.table.rows (kept_at d)

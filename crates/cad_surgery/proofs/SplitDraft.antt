@@ -38,6 +38,7 @@ use Rattle.cad_surgery.specs.Halvings.{split_by, split_rows}
 use Rattle.cad_surgery.specs.Work.{TakesWork, TicksUpTo}
 use Rattle.edit_records.proofs.EditExchanges.{some-from}
 use Rattle.cad_surgery.proofs.DraftFits.{draft-fits, draft-all, draft-work, settled}
+use Rattle.cad_surgery.proofs.LooseBeside.{AreUnseen, no-strings}
 use Rattle.cad_surgery.proofs.FitParts.{parts, parts-in, GoWith, at-rest, stand-for}
 use Rattle.cad_surgery.proofs.LooseBeside.{come-and-gone}
 use Rattle.map_parts.proofs.Passing.BothMaps as both
@@ -311,13 +312,8 @@ module _ {T : Type 0} (inside : Inside T) {v : Parts} (view : parts-in inside �
           more = split-has old h string tried inside.rows inside.table.rows inside.kept inside.stars fits all k are t.rows some
 
           module _ (q : Half) (q_is : q ≡ forward_of string) where
-            pub gone-different : AreDifferent (q ∷ [])
-            gone-different = subst (λ (q : Half). AreDifferent (q ∷ [])) (sym q_is) (split-one old h string tried t.rows more)
-
-            pub gone-hidden : (g : Half) → IsShown (map_of (parts new t put wide inside.grid)) g → is_of (strings_of (q ∷ [])) g ≡ false
-            gone-hidden g shown =
-                subst (λ (q : Half). is_of (strings_of (q ∷ [])) g ≡ false) (sym q_is)
-                (split-hidden old h string tried t.rows more g (subst (λ (m : Map). IsShown m g) (stand-for inside.grid gone-through) shown))
+            pub gone-unseen : AreUnseen (q ∷ []) (parts new t put wide inside.grid)
+            gone-unseen = no-strings inside.grid gone-through (λ i. q_is i ∷ []) (split-one old h string tried t.rows more) (split-hidden old h string tried t.rows more)
 
             pub gone-proper : (d : Parts) → FitTogether d → map_of d ≡ map_of (parts new t put wide inside.grid)
                 → DropsStrings (q ∷ []) t.rows d.table.rows → IsProper (map_of d) d.table.rows (kept_at d)
@@ -368,19 +364,8 @@ module _ {T : Type 0} (inside : Inside T) {v : Parts} (view : parts-in inside �
               }
 
               module _ (x y : Half) (are_two : (x ≡ forward_of h.first) × (y ≡ forward_of h.second)) where
-                two : (P : List Half → Type 0) → P (forward_of h.first ∷ forward_of h.second ∷ []) → P (x ∷ y ∷ [])
-                two P p = subst P (λ i. sym are_two.0 i ∷ sym are_two.1 i ∷ []) p
-
-                pub back-two_in : AreIn u.rows (x ∷ y ∷ [])
-                back-two_in = two (λ l. AreIn u.rows l) (halves-in old h string tried t.rows more u.rows has_same)
-
-                pub back-two_differ : AreDifferent (x ∷ y ∷ [])
-                back-two_differ = two (λ l. AreDifferent l) (back-different old h string tried)
-
-                pub back-two_hidden : (g : Half) → IsShown (map_of (parts back u kept star inside.grid)) g → is_of (strings_of (x ∷ y ∷ [])) g ≡ false
-                back-two_hidden g shown =
-                    two (λ l. is_of (strings_of l) g ≡ false)
-                    (back-hidden old h string tried g (subst (λ (m : Map). IsShown m g) (stand-for inside.grid gone-back) shown))
+                pub back-unseen : AreUnseen (x ∷ y ∷ []) (parts back u kept star inside.grid)
+                back-unseen = no-strings inside.grid gone-back (λ i. are_two.0 i ∷ are_two.1 i ∷ []) (back-different old h string tried) (back-hidden old h string tried)
 
                 pub back-proper : (d : Parts) → FitTogether d → map_of d ≡ map_of (parts back u kept star inside.grid)
                     → DropsStrings (x ∷ y ∷ []) u.rows d.table.rows → IsProper (map_of d) d.table.rows (kept_at d)

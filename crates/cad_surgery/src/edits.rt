@@ -14,8 +14,6 @@ pub(crate) mod merging;
 pub(crate) mod moved;
 pub(crate) mod rows;
 pub(crate) mod shared;
-pub(crate) mod shared_path;
-pub(crate) mod shared_ring;
 pub(crate) mod try_adding;
 pub(crate) mod try_join;
 pub(crate) mod try_merge;

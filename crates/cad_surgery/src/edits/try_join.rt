@@ -140,17 +140,18 @@ fn rows_of_join(change: &SmallRecord) -> Result<(JoinedRows, StringNo), Memory>
     Ok((joined, *string))
 }
 
-/// Takes a join back: puts the point and the two strings in at their places again. Where memory runs
-/// out the map stays.
-pub(crate) fn back_join<T: Tally>(draft: &mut Draft<T>, change: &SmallRecord) -> Result<(), Memory>
-    requires join { IsOfJoin change.now }
-    requires given { GivesInRange (edit_of change.now) }
-    requires beside { StandsBeside (λ m. Belongs change.now m (map_of draft.old)) draft.old }
-    ensures { IsTakenBack (λ m. Belongs change.now m (map_of draft.old))
+// Takes a join back, with the rows that it took and the string that it brought.
+fn unjoin_with<T: Tally>(
+    draft: &mut Draft<T>,
+    joined: JoinedRows,
+    string: StringNo,
+) -> Result<(), Memory>
+    requires given { GivesInRange (Join joined.point.number string) }
+    requires beside { StandsBeside (λ m. Belongs (join_record joined string) m (map_of draft.old)) draft.old }
+    ensures { IsTakenBack (λ m. Belongs (join_record joined string) m (map_of draft.old))
         draft.old draft.new result }
 {
     is_work_in_range(&draft.table);
-    let (joined, string) = rows_of_join(change)?;
     begin_unjoin(
         &mut draft.rows,
         &mut draft.table,
@@ -161,6 +162,19 @@ pub(crate) fn back_join<T: Tally>(draft: &mut Draft<T>, change: &SmallRecord) ->
     )?;
     drop_hidden(draft, &[forward(&string)]);
     Ok(())
+}
+
+/// Takes a join back: puts the point and the two strings in at their places again. Where memory runs
+/// out the map stays.
+pub(crate) fn back_join<T: Tally>(draft: &mut Draft<T>, change: &SmallRecord) -> Result<(), Memory>
+    requires join { IsOfJoin change.now }
+    requires given { GivesInRange (edit_of change.now) }
+    requires beside { StandsBeside (λ m. Belongs change.now m (map_of draft.old)) draft.old }
+    ensures { IsTakenBack (λ m. Belongs change.now m (map_of draft.old))
+        draft.old draft.new result }
+{
+    let (joined, string) = rows_of_join(change)?;
+    unjoin_with(draft, joined, string)
 }
 
 // Joins two strings whose far ends aren't joined, where the map after it keeps the rules.

@@ -1,14 +1,10 @@
 //! A merger on a map on half-edges, along a chain or round an island: tried, and taken back where it
 //! breaks a rule.
-ghost use Rattle.std.specs.Prelude.{◌≡◌, ◌+◌, ◌≤◌, [], length, IfOk};
-ghost use Rattle.std.specs.Vec.{vec_len, vec_capacity};
+ghost use Rattle.std.specs.Prelude.{◌≡◌};
 ghost use Rattle.cad_rows.specs.declared.edits.Edit.TheVariants.{Merge};
 ghost use Rattle.cad_rows.specs.declared.names.Face.TheVariants.{Parcel};
 ghost use Rattle.cad_map.specs.Map.{Map};
 ghost use Rattle.cad_map.specs.SharedChains.{IsSharedChain};
-ghost use Rattle.half_paths.specs.Path.{strings_of};
-ghost use Rattle.cad_laws.specs.Tried.{IsTried};
-ghost use Rattle.cad_surgery.specs.Merging.{HasFound};
 ghost use Rattle.cad_surgery.specs.ToldMergers.{HeldMerger};
 ghost use Rattle.cad_surgery.specs.Trials.{IsReadyFor, IsTrialOf};
 ghost use Rattle.edit_records.specs.Record.{edit_of, Holds};
@@ -18,63 +14,13 @@ use crate::draft::Draft;
 use crate::edits::chain_strings::chain_strings;
 use crate::edits::counted::is_work_in_range;
 use crate::edits::merging::{Merger, Way, merge_within_rules};
-use crate::edits::shared::Shared;
-use crate::edits::shared_path::shared_path;
-use crate::edits::shared_ring::shared_ring;
+use crate::edits::shared::{Shared, shared_by};
 use cad_map::{SharedChain, find_shared_chain};
-use cad_rows::{Face, Memory, ParcelNo, ParcelRow, Refusal};
+use cad_rows::{Face, ParcelNo, ParcelRow, Refusal};
 use cad_valid::Touched;
 use edit_records::{ChainString, SmallRecord};
 use half_table::Tally;
 use map_parts::EndedParcel;
-
-// What two parcels share, by the chain or the ring that is found of it.
-fn shared_by<T: Tally>(
-    draft: &Draft<T>,
-    kept: &Face,
-    ended: ParcelNo,
-    chain: SharedChain,
-) -> Result<Shared, Memory>
-    requires tried { IsTried (map_of draft.now) (Merge kept.now (Parcel ended)) }
-    requires shared { IsSharedChain (map_of draft.now) kept.now (Parcel ended) chain }
-    ensures found { IfOk result (λ s. HasFound s.way (map_of draft.now) draft.now.table.rows kept.now
-        ended s.path.items s.points s.moved.items) }
-    ensures strings { IfOk result (λ s. s.strings.items ≡ strings_of s.path.items) }
-{
-    match chain {
-        SharedChain::Along { first, last, sides } => {
-            shared_path(draft, kept, ended, first, last, sides)
-        }
-        SharedChain::Around { side } => shared_ring(draft, kept, ended, side),
-    }
-}
-
-// What a merger goes by, and room for what its record tells of the strings.
-#[derive(Drop)]
-struct Found {
-    shared: Shared,
-    strings: Vec<ChainString>,
-}
-
-fn found_by<T: Tally>(
-    draft: &Draft<T>,
-    kept: &Face,
-    ended: ParcelNo,
-    chain: SharedChain,
-) -> Result<Found, Memory>
-    requires tried { IsTried (map_of draft.now) (Merge kept.now (Parcel ended)) }
-    requires shared { IsSharedChain (map_of draft.now) kept.now (Parcel ended) chain }
-    ensures found { IfOk result (λ f. HasFound f.shared.way (map_of draft.now) draft.now.table.rows
-        kept.now ended f.shared.path.items f.shared.points f.shared.moved.items) }
-    ensures along { IfOk result (λ f. f.shared.strings.items ≡ strings_of f.shared.path.items) }
-    ensures none { IfOk result (λ f. f.strings.items ≡ []) }
-    ensures room { IfOk result
-        (λ f. vec_len f.strings + length f.shared.path.items ≤ vec_capacity f.strings) }
-{
-    let shared = shared_by(draft, kept, ended, chain)?;
-    let strings = Vec::with_capacity(draft.rows.points.allocator(), shared.path.len())?;
-    Ok(Found { shared, strings })
-}
 
 // The record of a merger that went by what the two shared.
 fn record_of_merger(
@@ -129,13 +75,13 @@ fn merge_recording<T: Tally>(
     ensures { IsTrialOf (Merge kept (Parcel ended)) draft.old draft.new result }
 {
     is_work_in_range(&draft.table);
-    let Ok(found) = found_by(draft, &kept, ended, chain) else {
+    let Ok(shared) = shared_by(draft, &kept, ended, chain) else {
         return Err(Refusal::Memory);
     };
-    let Found {
-        shared,
-        mut strings,
-    } = found;
+    let alloc = draft.rows.points.allocator();
+    let Ok(mut strings) = Vec::with_capacity(alloc, shared.path.len()) else {
+        return Err(Refusal::Memory);
+    };
     let merger = Merger {
         kept,
         ended,

@@ -1,6 +1,6 @@
-use Rattle.std.proofs.Common.{◌∙◌, ap}
+use Rattle.std.proofs.Common.{◌∙◌, ap, rules}
 use Rattle.map_parts.specs.Parts.{Parts}
-use Rattle.cad_surgery.proofs.FitParts.{together, stand-for, still-whole}
+use Rattle.cad_surgery.proofs.FitParts.{together, stand-for}
 use Rattle.cad_surgery.proofs.GridSteps.{stood}
 use Rattle.cad_surgery.proofs.JoinTried as join
 use Rattle.cad_surgery.proofs.Trials.{is-left-too, is-made}
@@ -34,25 +34,13 @@ invariant_of-draft-2 g c =
     c.requires.tried c.requires.apart c.requires.rows c.requires.proper c.begin_join.new.table
     c.in_ok-joined.ensures.fits)
 
-pub drop_hidden-requires-clause-whole : goal.drop_hidden-requires-clause-whole
-drop_hidden-requires-clause-whole g c =
-    still-whole c.draft.inside.grid (join.gone-through c.draft.inside c.draft.view_is c.draft.invariant c.args.point c.args.joining
-    c.requires.tried c.requires.apart c.requires.rows c.requires.proper c.begin_join.new.table
-    c.in_ok-joined.ensures.fits)
-
-pub drop_hidden-requires-clause-different : goal.drop_hidden-requires-clause-different
-drop_hidden-requires-clause-different g c =
-    join.two-different c.draft.inside c.draft.view_is c.draft.invariant c.args.point c.args.joining
+pub drop_hidden-requires : goal.drop_hidden-requires
+drop_hidden-requires g c =
+    let gone = join.two-unseen c.draft.inside c.draft.view_is c.draft.invariant c.args.point c.args.joining
     c.requires.tried c.requires.apart c.requires.rows c.requires.proper c.begin_join.new.table
     c.in_ok-joined.ensures.fits c.in_ok-joined.joined c.in_ok-joined.ensures.taken c.in_ok-joined.ensures.has
-    c.half_to-first.result c.half_from-second.result c.half_to-first.ensures c.half_from-second.ensures
-
-pub drop_hidden-requires-clause-hidden : goal.drop_hidden-requires-clause-hidden
-drop_hidden-requires-clause-hidden g c =
-    join.two-hidden c.draft.inside c.draft.view_is c.draft.invariant c.args.point c.args.joining
-    c.requires.tried c.requires.apart c.requires.rows c.requires.proper c.begin_join.new.table
-    c.in_ok-joined.ensures.fits c.in_ok-joined.joined c.in_ok-joined.ensures.taken c.in_ok-joined.ensures.has
-    c.half_to-first.result c.half_from-second.result c.half_to-first.ensures c.half_from-second.ensures
+    c.half_to-first.result c.half_from-second.result c.half_to-first.ensures c.half_from-second.ensures in
+    record { whole = gone.whole; within = search rules; different = gone.different; loose = search rules; hidden = gone.hidden }
 
 pub returns : goal.returns
 returns g c =

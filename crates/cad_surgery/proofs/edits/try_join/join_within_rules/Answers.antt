@@ -1,7 +1,7 @@
-use Rattle.std.proofs.Common.{◌∙◌, ap}
+use Rattle.std.proofs.Common.{◌∙◌, ap, rules}
 use Rattle.cad_map.specs.Outcome.{out_of_memory}
 use Rattle.map_parts.specs.Parts.{Parts}
-use Rattle.cad_surgery.proofs.FitParts.{together, stand-for, still-whole}
+use Rattle.cad_surgery.proofs.FitParts.{together, stand-for}
 use Rattle.cad_surgery.proofs.GridSteps.{stood}
 use Rattle.cad_surgery.proofs.JoinTried as join
 use Rattle.cad_surgery.proofs.NearTried as near
@@ -86,31 +86,15 @@ invariant_of-draft-in-Some g c =
     c.in-Ok.ensures.first_there c.in-Ok.ensures.second_there c.in-Ok.ensures.loose
     c.in-Ok.ensures.slots c.in-Ok.ensures.room c.unjoin.new.table c.unjoin.ensures.fits)
 
-pub drop_hidden-requires-clause-whole : goal.drop_hidden-requires-clause-whole
-drop_hidden-requires-clause-whole g c =
-    still-whole c.draft.inside.grid (join.gone-back c.draft.inside c.draft.view_is c.draft.invariant c.args.point c.args.joining
-    c.requires.ready.tried c.requires.apart c.requires.rows c.requires.ready.proper c.begin_join.new.table
-    c.in-Ok.ensures.fits c.in-Ok.joined c.in-Ok.ensures.taken c.in-Ok.ensures.has
-    c.in-Ok.ensures.first_there c.in-Ok.ensures.second_there c.in-Ok.ensures.loose
-    c.in-Ok.ensures.slots c.in-Ok.ensures.room c.unjoin.new.table c.unjoin.ensures.fits)
-
-pub drop_hidden-requires-clause-different : goal.drop_hidden-requires-clause-different
-drop_hidden-requires-clause-different g c =
-    join.one-different c.draft.inside c.draft.view_is c.draft.invariant c.args.point c.args.joining
+pub drop_hidden-requires : goal.drop_hidden-requires
+drop_hidden-requires g c =
+    let gone = join.one-unseen c.draft.inside c.draft.view_is c.draft.invariant c.args.point c.args.joining
     c.requires.ready.tried c.requires.apart c.requires.rows c.requires.ready.proper c.begin_join.new.table
     c.in-Ok.ensures.fits c.in-Ok.joined c.in-Ok.ensures.taken c.in-Ok.ensures.has
     c.in-Ok.ensures.first_there c.in-Ok.ensures.second_there c.in-Ok.ensures.loose
     c.in-Ok.ensures.slots c.in-Ok.ensures.room c.unjoin.new.table c.unjoin.ensures.fits
-    c.unjoin.ensures.has c.forward.result c.forward.ensures
-
-pub drop_hidden-requires-clause-hidden : goal.drop_hidden-requires-clause-hidden
-drop_hidden-requires-clause-hidden g c =
-    join.one-hidden c.draft.inside c.draft.view_is c.draft.invariant c.args.point c.args.joining
-    c.requires.ready.tried c.requires.apart c.requires.rows c.requires.ready.proper c.begin_join.new.table
-    c.in-Ok.ensures.fits c.in-Ok.joined c.in-Ok.ensures.taken c.in-Ok.ensures.has
-    c.in-Ok.ensures.first_there c.in-Ok.ensures.second_there c.in-Ok.ensures.loose
-    c.in-Ok.ensures.slots c.in-Ok.ensures.room c.unjoin.new.table c.unjoin.ensures.fits
-    c.unjoin.ensures.has c.forward.result c.forward.ensures
+    c.unjoin.ensures.has c.forward.result c.forward.ensures in
+    record { whole = gone.whole; within = search rules; different = gone.different; loose = search rules; hidden = gone.hidden }
 
 pub returns-in-Some-clause-played : goal.returns-in-Some-clause-played
 returns-in-Some-clause-played g c = record {
@@ -141,25 +125,13 @@ returns-in-Some-clause-played g c = record {
       c.in-Ok.ensures.fits)) c.in-Some.ensures.broken;
 }
 
-pub drop_hidden-requires-2-clause-whole : goal.drop_hidden-requires-2-clause-whole
-drop_hidden-requires-2-clause-whole g c =
-    still-whole c.draft.inside.grid (join.gone-through c.draft.inside c.draft.view_is c.draft.invariant c.args.point c.args.joining
-    c.requires.ready.tried c.requires.apart c.requires.rows c.requires.ready.proper c.begin_join.new.table
-    c.in-Ok.ensures.fits)
-
-pub drop_hidden-requires-2-clause-different : goal.drop_hidden-requires-2-clause-different
-drop_hidden-requires-2-clause-different g c =
-    join.two-different c.draft.inside c.draft.view_is c.draft.invariant c.args.point c.args.joining
+pub drop_hidden-requires-2 : goal.drop_hidden-requires-2
+drop_hidden-requires-2 g c =
+    let gone = join.two-unseen c.draft.inside c.draft.view_is c.draft.invariant c.args.point c.args.joining
     c.requires.ready.tried c.requires.apart c.requires.rows c.requires.ready.proper c.begin_join.new.table
     c.in-Ok.ensures.fits c.in-Ok.joined c.in-Ok.ensures.taken c.in-Ok.ensures.has
-    c.half_to-before.result c.half_from-behind.result c.half_to-before.ensures c.half_from-behind.ensures
-
-pub drop_hidden-requires-2-clause-hidden : goal.drop_hidden-requires-2-clause-hidden
-drop_hidden-requires-2-clause-hidden g c =
-    join.two-hidden c.draft.inside c.draft.view_is c.draft.invariant c.args.point c.args.joining
-    c.requires.ready.tried c.requires.apart c.requires.rows c.requires.ready.proper c.begin_join.new.table
-    c.in-Ok.ensures.fits c.in-Ok.joined c.in-Ok.ensures.taken c.in-Ok.ensures.has
-    c.half_to-before.result c.half_from-behind.result c.half_to-before.ensures c.half_from-behind.ensures
+    c.half_to-before.result c.half_from-behind.result c.half_to-before.ensures c.half_from-behind.ensures in
+    record { whole = gone.whole; within = search rules; different = gone.different; loose = search rules; hidden = gone.hidden }
 
 pub returns-clause-played : goal.returns-clause-played
 returns-clause-played g c = record {

@@ -17,10 +17,13 @@ use Rattle.cad_surgery.proofs.edits.try_merge.merge_recording.Goals as goal
 pub returns-in_default : goal.returns-in_default
 returns-in_default g c = stays _ _ _ _ c.requires.ready (out_of_memory c.requires.ready.tried.allowed)
 
+pub returns-in_default-with_capacity : goal.returns-in_default-with_capacity
+returns-in_default-with_capacity g c = stays _ _ _ _ c.requires.ready (out_of_memory c.requires.ready.tried.allowed)
+
 pub merge_within_rules-requires-clause-shared : goal.merge_within_rules-requires-clause-shared
 merge_within_rules-requires-clause-shared g c =
     let d = c.args.draft.now in
-    let it = c.in-Ok.found.shared in
+    let it = c.in-Ok.shared in
     subst (λ (t : List Half × List Half). HasShared it.way (map_of d) d.table.rows c.args.kept c.args.ended t.0 t.1)
     (λ i. (sym c.as_slice.ensures.value i, sym c.as_slice-3.ensures.value i))
     (found-shared it.way (map_of d) d.table.rows c.args.kept c.args.ended it.path.items it.points it.moved.items c.in-Ok.ensures.found)
@@ -32,7 +35,7 @@ pub returns : goal.returns
 returns g c =
     let d = c.args.draft.now in
     let m = map_of d in
-    let it = c.in-Ok.found.shared in
+    let it = c.in-Ok.shared in
     let gone = c.in_ok-gone.gone in
     let number = found-number (λ (r : ParcelRow). r.number) c.args.ended m.parcels gone.row c.in_ok-gone.ensures.gone.found in
     record {
@@ -42,7 +45,7 @@ returns g c =
           let found = subst (λ (n : ℕ). HasFound it.way m d.table.rows c.args.kept n it.path.items it.points it.moved.items) (sym number) c.in-Ok.ensures.found in
           let told =
           held-by m d.table.rows fit.ends c.args.kept gone.row gone.place it.path.items it.points it.moved.items gone.strings.items
-          (c.in_ok-gone.ensures.gone.numbers ∙ c.as_slice-2.ensures.value ∙ c.in-Ok.ensures.along) c.in_ok-gone.ensures.gone.stood c.in_ok-gone.ensures.gone.row it.way found in
+          (c.in_ok-gone.ensures.gone.numbers ∙ c.as_slice-2.ensures.value ∙ c.in-Ok.ensures.strings) c.in_ok-gone.ensures.gone.stood c.in_ok-gone.ensures.gone.row it.way found in
           c.record_of_merger.ensures.holds m
           (subst (λ (l : List ChainString). HeldMerger it.way m c.args.kept gone.row gone.place it.points l it.moved.items)
           (sym (c.chain_strings.ensures ∙ (λ i. with_halves (c.as_slice-4.ensures.value i) gone.strings.items))) told);

@@ -1,9 +1,9 @@
-use Rattle.std.proofs.Common.{◌∙◌, ap, sym, subst}
+use Rattle.std.proofs.Common.{◌∙◌, ap, sym, subst, rules}
 use Rattle.cad_rows.specs.declared.rows.StringRow.{StringRow}
 use Rattle.cad_map.specs.Asked.{GivesInRange}
 use Rattle.map_parts.specs.Parts.{Parts, map_of}
 use Rattle.cad_surgery.specs.Halvings.{IsSplitFrom, split_by}
-use Rattle.cad_surgery.proofs.FitParts.{together, stand-for, still-whole}
+use Rattle.cad_surgery.proofs.FitParts.{together, stand-for}
 use Rattle.cad_surgery.proofs.GridSteps.{stood}
 use Rattle.cad_surgery.proofs.SplitBack as draft
 use Rattle.cad_surgery.proofs.Trials.{stays-made}
@@ -41,28 +41,14 @@ invariant_of-draft-2 g c =
     together c.draft.inside.grid (draft.gone-back c.draft.inside c.draft.view_is c.draft.invariant c.args.halving.now given from c.requires.beside.proper
     c.begin_unsplit.new.table c.in_ok-begin_unsplit.ensures.fits c.in_ok-begin_unsplit.ensures.has)
 
-pub drop_hidden-requires-clause-whole : goal.drop_hidden-requires-clause-whole
-drop_hidden-requires-clause-whole g c =
+pub drop_hidden-requires : goal.drop_hidden-requires
+drop_hidden-requires g c =
     let given = subst (λ (r : StringRow). GivesInRange (split_by r.number c.args.halving.now)) (sym c.in_ok-copy.ensures) c.requires.given in
     let from = subst (λ (r : StringRow). IsSplitFrom r c.args.place c.args.halving.now (map_of c.args.draft.now) c.requires.beside.made.0) (sym c.in_ok-copy.ensures) c.requires.beside.made.1 in
-    still-whole c.draft.inside.grid (draft.gone-back c.draft.inside c.draft.view_is c.draft.invariant c.args.halving.now given from c.requires.beside.proper
-    c.begin_unsplit.new.table c.in_ok-begin_unsplit.ensures.fits c.in_ok-begin_unsplit.ensures.has)
-
-pub drop_hidden-requires-clause-different : goal.drop_hidden-requires-clause-different
-drop_hidden-requires-clause-different g c =
-    let given = subst (λ (r : StringRow). GivesInRange (split_by r.number c.args.halving.now)) (sym c.in_ok-copy.ensures) c.requires.given in
-    let from = subst (λ (r : StringRow). IsSplitFrom r c.args.place c.args.halving.now (map_of c.args.draft.now) c.requires.beside.made.0) (sym c.in_ok-copy.ensures) c.requires.beside.made.1 in
-    draft.in-two_differ c.draft.inside c.draft.view_is c.draft.invariant c.args.halving.now given from c.requires.beside.proper
+    let gone = draft.in-unseen c.draft.inside c.draft.view_is c.draft.invariant c.args.halving.now given from c.requires.beside.proper
     c.begin_unsplit.new.table c.in_ok-begin_unsplit.ensures.fits c.in_ok-begin_unsplit.ensures.has
-    c.forward.result c.forward-2.result (c.forward.ensures, c.forward-2.ensures)
-
-pub drop_hidden-requires-clause-hidden : goal.drop_hidden-requires-clause-hidden
-drop_hidden-requires-clause-hidden g c =
-    let given = subst (λ (r : StringRow). GivesInRange (split_by r.number c.args.halving.now)) (sym c.in_ok-copy.ensures) c.requires.given in
-    let from = subst (λ (r : StringRow). IsSplitFrom r c.args.place c.args.halving.now (map_of c.args.draft.now) c.requires.beside.made.0) (sym c.in_ok-copy.ensures) c.requires.beside.made.1 in
-    draft.in-two_hidden c.draft.inside c.draft.view_is c.draft.invariant c.args.halving.now given from c.requires.beside.proper
-    c.begin_unsplit.new.table c.in_ok-begin_unsplit.ensures.fits c.in_ok-begin_unsplit.ensures.has
-    c.forward.result c.forward-2.result (c.forward.ensures, c.forward-2.ensures)
+    c.forward.result c.forward-2.result (c.forward.ensures, c.forward-2.ensures) in
+    record { whole = gone.whole; within = search rules; different = gone.different; loose = search rules; hidden = gone.hidden }
 
 pub returns : goal.returns
 returns g c = record {

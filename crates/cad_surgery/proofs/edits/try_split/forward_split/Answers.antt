@@ -1,6 +1,6 @@
-use Rattle.std.proofs.Common.{◌∙◌, ap}
+use Rattle.std.proofs.Common.{◌∙◌, ap, rules}
 use Rattle.map_parts.specs.Parts.{Parts}
-use Rattle.cad_surgery.proofs.FitParts.{together, stand-for, still-whole}
+use Rattle.cad_surgery.proofs.FitParts.{together, stand-for}
 use Rattle.cad_surgery.proofs.SplitDraft as draft
 use Rattle.cad_surgery.proofs.Trials.{is-left-too, is-made}
 use Rattle.cad_surgery.proofs.edits.try_split.forward_split.Goals as goal
@@ -51,32 +51,15 @@ invariant_of-draft-2 g c =
     c.requires.tried c.requires.proper c.in_ok-coming.coming are c.begin_split.new.table
     c.in_ok-begin_split.ensures.fits)
 
-pub drop_hidden-requires-clause-whole : goal.drop_hidden-requires-clause-whole
-drop_hidden-requires-clause-whole g c =
+pub drop_hidden-requires : goal.drop_hidden-requires
+drop_hidden-requires g c =
     let are = draft.rows-come c.draft.inside c.draft.view_is c.draft.invariant c.args.halving.now c.args.string
     c.requires.tried c.requires.proper
     c.in_ok-coming.coming c.in_ok-coming.ensures in
-    still-whole c.draft.inside.grid (draft.gone-through c.draft.inside c.draft.view_is c.draft.invariant c.args.halving.now c.args.string
+    let gone = draft.gone-unseen c.draft.inside c.draft.view_is c.draft.invariant c.args.halving.now c.args.string
     c.requires.tried c.requires.proper c.in_ok-coming.coming are c.begin_split.new.table
-    c.in_ok-begin_split.ensures.fits)
-
-pub drop_hidden-requires-clause-different : goal.drop_hidden-requires-clause-different
-drop_hidden-requires-clause-different g c =
-    let are = draft.rows-come c.draft.inside c.draft.view_is c.draft.invariant c.args.halving.now c.args.string
-    c.requires.tried c.requires.proper
-    c.in_ok-coming.coming c.in_ok-coming.ensures in
-    draft.gone-different c.draft.inside c.draft.view_is c.draft.invariant c.args.halving.now c.args.string
-    c.requires.tried c.requires.proper c.in_ok-coming.coming are c.begin_split.new.table
-    c.in_ok-begin_split.ensures.fits c.in_ok-begin_split.ensures.has c.forward.result c.forward.ensures
-
-pub drop_hidden-requires-clause-hidden : goal.drop_hidden-requires-clause-hidden
-drop_hidden-requires-clause-hidden g c =
-    let are = draft.rows-come c.draft.inside c.draft.view_is c.draft.invariant c.args.halving.now c.args.string
-    c.requires.tried c.requires.proper
-    c.in_ok-coming.coming c.in_ok-coming.ensures in
-    draft.gone-hidden c.draft.inside c.draft.view_is c.draft.invariant c.args.halving.now c.args.string
-    c.requires.tried c.requires.proper c.in_ok-coming.coming are c.begin_split.new.table
-    c.in_ok-begin_split.ensures.fits c.in_ok-begin_split.ensures.has c.forward.result c.forward.ensures
+    c.in_ok-begin_split.ensures.fits c.in_ok-begin_split.ensures.has c.forward.result c.forward.ensures in
+    record { whole = gone.whole; within = search rules; different = gone.different; loose = search rules; hidden = gone.hidden }
 
 pub returns : goal.returns
 returns g c =

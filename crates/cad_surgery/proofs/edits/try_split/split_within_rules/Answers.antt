@@ -1,7 +1,7 @@
-use Rattle.std.proofs.Common.{◌∙◌, ap}
+use Rattle.std.proofs.Common.{◌∙◌, ap, rules}
 use Rattle.cad_map.specs.Outcome.{out_of_memory}
 use Rattle.map_parts.specs.Parts.{Parts}
-use Rattle.cad_surgery.proofs.FitParts.{together, stand-for, still-whole}
+use Rattle.cad_surgery.proofs.FitParts.{together, stand-for}
 use Rattle.cad_surgery.proofs.NearTried as near
 use Rattle.cad_surgery.proofs.SplitDraft as draft
 use Rattle.cad_surgery.proofs.Trials.{is-left, is-made}
@@ -86,31 +86,15 @@ invariant_of-draft-in-Some g c =
     c.in-Ok.ensures.there c.in-Ok.ensures.loose c.in-Ok.ensures.slot c.unsplit.new.table
     c.unsplit.ensures.fits c.unsplit.ensures.has)
 
-pub drop_hidden-requires-clause-whole : goal.drop_hidden-requires-clause-whole
-drop_hidden-requires-clause-whole g c =
-    still-whole c.draft.inside.grid (draft.gone-back c.draft.inside c.draft.view_is c.draft.invariant c.args.halving.now c.args.string
-    c.requires.ready.tried c.requires.ready.proper c.args.coming c.requires.rows c.begin_split.new.table
-    c.in-Ok.ensures.fits c.in-Ok.ensures.has c.in-Ok.place c.in-Ok.ensures.found c.in-Ok.ensures.row
-    c.in-Ok.ensures.there c.in-Ok.ensures.loose c.in-Ok.ensures.slot c.unsplit.new.table
-    c.unsplit.ensures.fits c.unsplit.ensures.has)
-
-pub drop_hidden-requires-clause-different : goal.drop_hidden-requires-clause-different
-drop_hidden-requires-clause-different g c =
-    draft.back-two_differ c.draft.inside c.draft.view_is c.draft.invariant c.args.halving.now c.args.string
+pub drop_hidden-requires : goal.drop_hidden-requires
+drop_hidden-requires g c =
+    let gone = draft.back-unseen c.draft.inside c.draft.view_is c.draft.invariant c.args.halving.now c.args.string
     c.requires.ready.tried c.requires.ready.proper c.args.coming c.requires.rows c.begin_split.new.table
     c.in-Ok.ensures.fits c.in-Ok.ensures.has c.in-Ok.place c.in-Ok.ensures.found c.in-Ok.ensures.row
     c.in-Ok.ensures.there c.in-Ok.ensures.loose c.in-Ok.ensures.slot c.unsplit.new.table
     c.unsplit.ensures.fits c.unsplit.ensures.has c.forward.result c.forward-in-Some.result
-    (c.forward.ensures, c.forward-in-Some.ensures)
-
-pub drop_hidden-requires-clause-hidden : goal.drop_hidden-requires-clause-hidden
-drop_hidden-requires-clause-hidden g c =
-    draft.back-two_hidden c.draft.inside c.draft.view_is c.draft.invariant c.args.halving.now c.args.string
-    c.requires.ready.tried c.requires.ready.proper c.args.coming c.requires.rows c.begin_split.new.table
-    c.in-Ok.ensures.fits c.in-Ok.ensures.has c.in-Ok.place c.in-Ok.ensures.found c.in-Ok.ensures.row
-    c.in-Ok.ensures.there c.in-Ok.ensures.loose c.in-Ok.ensures.slot c.unsplit.new.table
-    c.unsplit.ensures.fits c.unsplit.ensures.has c.forward.result c.forward-in-Some.result
-    (c.forward.ensures, c.forward-in-Some.ensures)
+    (c.forward.ensures, c.forward-in-Some.ensures) in
+    record { whole = gone.whole; within = search rules; different = gone.different; loose = search rules; hidden = gone.hidden }
 
 pub returns-in-Some-clause-played : goal.returns-in-Some-clause-played
 returns-in-Some-clause-played g c = record {
@@ -139,23 +123,12 @@ returns-in-Some-clause-played g c = record {
       c.in-Ok.ensures.fits)) c.in-Some.ensures.broken;
 }
 
-pub drop_hidden-requires-2-clause-whole : goal.drop_hidden-requires-2-clause-whole
-drop_hidden-requires-2-clause-whole g c =
-    still-whole c.draft.inside.grid (draft.gone-through c.draft.inside c.draft.view_is c.draft.invariant c.args.halving.now c.args.string
+pub drop_hidden-requires-2 : goal.drop_hidden-requires-2
+drop_hidden-requires-2 g c =
+    let gone = draft.gone-unseen c.draft.inside c.draft.view_is c.draft.invariant c.args.halving.now c.args.string
     c.requires.ready.tried c.requires.ready.proper c.args.coming c.requires.rows c.begin_split.new.table
-    c.in-Ok.ensures.fits)
-
-pub drop_hidden-requires-2-clause-different : goal.drop_hidden-requires-2-clause-different
-drop_hidden-requires-2-clause-different g c =
-    draft.gone-different c.draft.inside c.draft.view_is c.draft.invariant c.args.halving.now c.args.string
-    c.requires.ready.tried c.requires.ready.proper c.args.coming c.requires.rows c.begin_split.new.table
-    c.in-Ok.ensures.fits c.in-Ok.ensures.has c.forward-2.result c.forward-2.ensures
-
-pub drop_hidden-requires-2-clause-hidden : goal.drop_hidden-requires-2-clause-hidden
-drop_hidden-requires-2-clause-hidden g c =
-    draft.gone-hidden c.draft.inside c.draft.view_is c.draft.invariant c.args.halving.now c.args.string
-    c.requires.ready.tried c.requires.ready.proper c.args.coming c.requires.rows c.begin_split.new.table
-    c.in-Ok.ensures.fits c.in-Ok.ensures.has c.forward-2.result c.forward-2.ensures
+    c.in-Ok.ensures.fits c.in-Ok.ensures.has c.forward-2.result c.forward-2.ensures in
+    record { whole = gone.whole; within = search rules; different = gone.different; loose = search rules; hidden = gone.hidden }
 
 pub returns-clause-played : goal.returns-clause-played
 returns-clause-played g c = record {

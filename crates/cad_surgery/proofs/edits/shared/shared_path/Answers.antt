@@ -8,7 +8,7 @@ use Rattle.cad_rows.specs.declared.names.Face.TheVariants.{Parcel}
 use Rattle.key_lists.specs.Held.{items_at}
 use Rattle.map_parts.specs.Parts.{Parts, FitTogether, kept_at}
 use Rattle.cad_surgery.proofs.FoundPaths.{begin-there, finish-there, fewer, found-path, round-in}
-use Rattle.cad_surgery.proofs.edits.shared_path.shared_path.Goals as goal
+use Rattle.cad_surgery.proofs.edits.shared.shared_path.Goals as goal
 
 pub half_along-begin-requires : goal.half_along-begin-requires
 half_along-begin-requires g c =

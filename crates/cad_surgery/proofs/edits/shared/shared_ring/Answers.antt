@@ -9,7 +9,7 @@ use Rattle.key_lists.specs.Held.{items_at}
 use Rattle.map_parts.specs.Labels.{IsAlong}
 use Rattle.map_parts.specs.Parts.{Parts, FitTogether, map_of, rows_of, kept_at}
 use Rattle.cad_surgery.proofs.SharedRings.{some-half, ring-in, ring-found}
-use Rattle.cad_surgery.proofs.edits.shared_ring.shared_ring.Goals as goal
+use Rattle.cad_surgery.proofs.edits.shared.shared_ring.Goals as goal
 
 pub unwrap-first-requires : goal.unwrap-first-requires
 unwrap-first-requires g c =
