@@ -79,9 +79,6 @@ module _ (whole parted : Map) (outer inner : Face) (chain : List ℕ) (fc lc : C
   left-other : (h : Half) (c : Boundary) → Contains others c → IsOnRing parted old left h → IsOnRing parted old c h → ⊥
   left-other h c among a b = not-left whole parted outer inner chain fc lc one left right others it parts c among (one-on parted parts old left c ins.has_left (ins.has_other c among) h a b)
 
-  right-other : (h : Half) (c : Boundary) → Contains others c → IsOnRing parted old right h → IsOnRing parted old c h → ⊥
-  right-other h c among a b = not-right whole parted outer inner chain fc lc one left right others it parts c among (one-on parted parts old right c ins.has_right (ins.has_other c among) h a b)
-
   held-left : (h : Half) → holds (cycle old first) h ≡ true → IsOnRing parted old left h
   held-left h held = held-ring parted parts old fits.local two-old left ins.has_left first h on_left held
 
@@ -92,9 +89,6 @@ module _ (whole parted : Map) (outer inner : Face) (chain : List ℕ) (fc lc : C
   told-old b there h on = face-on parted parts old b there h on (face old h) (fits.faces h on.shown)
 
   -- ---- The faces after the moved rings were handed back
-
-  face_back : Half → Face
-  face_back h = if on_cycles old moved h then outer else face old h
 
   pub back-left : (h : Half) → IsOnRing parted old left h → (if on_cycles old moved h then outer else face old h) ≡ inner
   back-left h on = by (on_cycles old moved h) refl

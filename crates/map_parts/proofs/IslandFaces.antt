@@ -191,9 +191,6 @@ module _ (whole parted : Map) (outer inner : Face) (ring : Ring) (left right : B
 
   module _ (path : List Half) (more : HasStringsMore whole parted path) (old : HalfRows) (fits : FitsTable parted old) (two : (h : Half) → IsShown parted h → origin_of old h ≢ origin_of old (twin h))
       (first : Half) (on_right : IsOnRing parted old right (twin first)) (moved : List Half) (of : AreOfRings parted old moved inner others) where
-    abbrev left_in : Contains parted.boundaries left
-    left_in = left-there whole parted outer inner ring left right others it
-
     abbrev right_in : Contains parted.boundaries right
     right_in = right-there whole parted outer inner ring left right others it
 

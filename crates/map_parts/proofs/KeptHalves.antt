@@ -46,9 +46,6 @@ split-tests p q apart (x ∷ xs) = by (p x) (q x) refl refl (split-tests p q apa
 
 -- elements by their keys, of which each is one of these
 module _ {X : Type 0} (key : X → ℕ) where
-  among_keys : List ℕ → X → Bool
-  among_keys ks x = list_any (λ k. key x == k) ks
-
   not_among : (k : ℕ) (ks : List ℕ) → AllByRecursion (λ j. k ≢ j) ks → (x : X) → (key x == k) ≡ true → list_any (λ j. key x == j) ks ≡ true → ⊥
   not_among k [] all x is any = true≢false (sym any)
   not_among k (j ∷ ks) all x is any = by (key x == j) refl any (λ rest. not_among k ks all.1 x is rest)

@@ -26,7 +26,7 @@ use Rattle.map_parts.specs.Building.{HoldsStrings}
 use Rattle.map_parts.specs.Labels.{IsOnRing, IsLabelled}
 use Rattle.map_parts.proofs.RingsOfHalves.{cycle-same_ring}
 use Rattle.map_parts.proofs.CycleRings.{cycle-each, cycle-sides}
-use Rattle.map_parts.proofs.PartsRings.{found-row, half-two, rings_at-there}
+use Rattle.map_parts.proofs.PartsRings.{found-row, rings_at-there}
 use Rattle.map_parts.proofs.ToHalves.{side-half_of}
 use Rattle.map_parts.proofs.Strings.{with_stars}
 
@@ -51,9 +51,6 @@ module _ (m : Map) (whole : HasWholeRings m) (rows : HalfRows) (held : Held Spok
       let on = subst (λ (g : Half). Contains (side_of row.0 ∷ opposite (side_of row.0) ∷ []) (side_by rows g)) (λ i. half_of (row.2 i) h.forward)
       (side-half_of d st.ends (two-ends m whole) (strings-once m whole) row.0 row.1 h.forward) in
       Contains-permutation (string_sides m) (all_sides m) (side_by rows h) whole.v5.once (Contains-flat_map (λ t. side_of t ∷ opposite (side_of t) ∷ []) m.strings row.0 (side_by rows h) row.1 on)
-
-  pub half-two_ends : (h : Half) → IsShown m h → origin_of rows h ≢ origin_of rows (twin h)
-  half-two_ends h shown = half-two (with_stars m rows held) st.ends (two-ends m whole) h shown
 
 -- ---- The cycle of a half, in a table that goes with the map
 

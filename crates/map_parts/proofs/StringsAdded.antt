@@ -1,11 +1,10 @@
 -- A table with one string more.
-use Rattle.std.proofs.Common.{◌≡◌, ◌≢◌, ℕ, ◌+◌, ◌≤◌, ◌==◌, Bool, true, false, List, [], ◌∷◌, ◌++◌, take, length, refl, sym, ap, ◌∙◌, subst, Some, None, true≢false, nat_eq, slice_get}
-use Rattle.std.specs.Prelude.{is_some, IsPermutation, if◌then◌else◌}
+use Rattle.std.proofs.Common.{◌≡◌, ◌≢◌, ℕ, ◌+◌, ◌==◌, Bool, true, false, List, [], ◌∷◌, ◌++◌, take, refl, sym, ap, ◌∙◌, subst, Some, None, true≢false, nat_eq, slice_get}
+use Rattle.std.specs.Prelude.{is_some, if◌then◌else◌}
 use Rattle.std.specs.List.{AllByRecursion}
 use Rattle.std.proofs.lemmas.Bool.{eqb-true}
 use Rattle.std.proofs.lemmas.Cmp.{nat_eq_equiv}
-use Rattle.std.proofs.lemmas.List.{take_more, take_all, append_assoc}
-use Rattle.std.proofs.lemmas.List.Sorted.{IsPermutation-refl}
+use Rattle.std.proofs.lemmas.List.{take_more, append_assoc}
 use Rattle.std.proofs.lemmas.Option.{get_or_from_slice_get, slice_get_within}
 use Rattle.cad_rows.specs.declared.rows.StringRow.{StringRow}
 use Rattle.cad_map.specs.Map.{Map}
@@ -21,7 +20,7 @@ use Rattle.key_lists.specs.Held.{Held}
 use Rattle.map_parts.specs.Stars.{spokes_of, spokes_at, AddsSpokes}
 use Rattle.map_parts.proofs.WholeStrings.{two-ends}
 use Rattle.map_parts.specs.Parts.{HasHalves}
-use Rattle.map_parts.specs.Building.{HoldsStrings, HoldsStringsUpTo}
+use Rattle.map_parts.specs.Building.{HoldsStringsUpTo}
 
 number : StringRow → ℕ
 number s = s.number
@@ -107,15 +106,4 @@ module _ (m : Map) (whole : HasWholeRings m) (n : ℕ) (old : HalfRows) (held : 
       has = λ h. adds.has h ∙ ap (λ (b : Bool). if nat_eq h.string row.number then true else b) (st.has h) ∙ sym (ap (λ (l : List StringRow). is_some (row_with (λ (s : StringRow). s.number) h.string l)) more ∙ row-snoc h.string (take n m.strings) row);
       ends = subst (AllByRecursion (HasHalves new)) (sym more) (All-snoc (HasHalves new) (take n m.strings) row (All-from_each (HasHalves new) (take n m.strings) (λ t there. old-ends t (All-at_each (HasHalves old) (take n m.strings) t st.ends there))) row-ends);
       stars = λ p. spokes p ∙ ap (λ (l : List Spoke). l ++ spokes_of p row) (st.stars p) ∙ sym (ap (spokes_at p) more ∙ spokes-snoc p (take n m.strings) row);
-    }
-
--- all strings
-pub strings-all : (m : Map) (n : ℕ) (rows : HalfRows) (held : Held Spoke) → length m.strings ≤ n → HoldsStringsUpTo m n rows held → HoldsStrings m rows held
-strings-all m n rows held past st =
-    let all = take_all n m.strings past in
-    record {
-      distinct = st.linked.distinct;
-      has = λ h. st.has h ∙ ap (λ (l : List StringRow). is_some (row_with (λ (s : StringRow). s.number) h.string l)) all;
-      ends = subst (AllByRecursion (HasHalves rows)) all st.ends;
-      stars = λ p. subst (λ (l : List Spoke). IsPermutation (spokes_at p m.strings) l) (sym (st.stars p ∙ ap (spokes_at p) all)) (IsPermutation-refl (spokes_at p m.strings));
     }

@@ -13,7 +13,6 @@ use Rattle.half_table.specs.declared.half.Half.{Half}
 use Rattle.half_table.specs.Half.{twin, is_half, half_of, forward_of, backward_of}
 use Rattle.half_table.specs.Rows.{HalfRows, has, origin_of}
 use Rattle.half_table.proofs.Halves.{twin-twin, is_half-other}
-use Rattle.half_table.proofs.Strings.{has-string}
 use Rattle.cad_laws.specs.Local.{IsShown, side_by}
 use Rattle.map_parts.specs.Parts.{HasHalves}
 use Rattle.map_parts.specs.Passing.{IsHalfAlong, HasBetween}
@@ -255,6 +254,3 @@ module _ (through past : Map) (p a b : ℕ) (passing : Passing)
 
     pub z-in : has rows passing.whole ≡ true
     z-in = (along-side rows it.whole_row passing.whole (a, b) whole_there it.whole_along).0
-
-pub twin-in : (rows : HalfRows) (h : Half) → has rows h ≡ true → has rows (twin h) ≡ true
-twin-in rows h there = has-string rows (twin h) ∙ sym (has-string rows h) ∙ there

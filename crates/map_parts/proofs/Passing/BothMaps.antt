@@ -151,10 +151,6 @@ module _ (through past : Map) (p a b : ℕ) (passing : Passing)
       else (if is_of (passing.whole.string ∷ []) h then true else has_string through h.string)) ≡ has_string through h.string
   through-again h = again-test (is_of (strings_of (passing.whole ∷ [])) h) (has_string through h.string) (through-hidden h)
 
-  pub past-again : (h : Half) → (if is_of (strings_of (passing.first ∷ passing.second ∷ [])) h then false
-      else (if is_of (passing.first.string ∷ passing.second.string ∷ []) h then true else has_string past h.string)) ≡ has_string past h.string
-  past-again h = again-test (is_of (strings_of (passing.first ∷ passing.second ∷ [])) h) (has_string past h.string) (past-hidden h)
-
   -- so the one map hasn't the other's strings
   pub first-gone : has_string past passing.first.string ≡ false
   first-gone =

@@ -1,5 +1,5 @@
 -- Stars of some strings, with one string less and one more.
-use Rattle.std.proofs.Common.{◌≡◌, ◌≢◌, ℕ, ◌+◌, ◌≤◌, inl, inr, ◌==◌, ◌&&◌, if◌then◌else◌, refl, sym, ap, subst, ◌∙◌, List, [], ◌∷◌, ◌++◌, length, Bool, true, false, true≢false, cond, Option, arith, length-append}
+use Rattle.std.proofs.Common.{◌≡◌, ◌≢◌, ℕ, ◌+◌, ◌≤◌, inl, inr, ◌==◌, ◌&&◌, if◌then◌else◌, refl, sym, ap, subst, ◌∙◌, List, [], ◌∷◌, ◌++◌, length, Bool, true, false, cond, Option, arith, length-append}
 use Rattle.std.specs.Prelude.{IsPermutation, sum_by, count_by, option_map, unwrap_or, vec_capacity}
 use Rattle.std.specs.List.{Contains}
 use Rattle.std.specs.Global.{Vec}
@@ -10,7 +10,7 @@ use Rattle.cad_map.proofs.CallerLemmas.{Contains-cases, Contains-first, Contains
 use Rattle.cad_rows.specs.declared.rows.StringRow.{StringRow}
 use Rattle.half_table.specs.Half.{is_half, forward_of, backward_of}
 use Rattle.half_table.proofs.Halves.{is_half-self, is_half-same}
-use Rattle.key_lists.specs.Held.{Held, items_at, capacity_at, list_at, HasRoomAt, KeepsOthers}
+use Rattle.key_lists.specs.Held.{Held, items_at, capacity_at, list_at, HasRoomAt}
 use Rattle.map_parts.specs.declared.stars.Spoke.{Spoke}
 use Rattle.map_parts.specs.Splitting.{AreStarsOf, Connects}
 use Rattle.map_parts.specs.Stars.{spoke, spokes_of, spokes_at, is_spoke, AddsSpokes}
@@ -209,49 +209,6 @@ same-room old new p n e room =
     let items = ap (λ (l : List Spoke). length l) (same-items old new p e) in
     let capacity = same-capacity old new p e in
     omega (arith, items, capacity, room)
-
-module _ (row : StringRow) (two : row.from ≢ row.to) (old mid new : Held Spoke)
-    (from_others : KeepsOthers row.from old mid) (to_others : KeepsOthers row.to mid new) where
-  pub taken-spokes : IsPermutation (items_at old row.from)
-      (spoke (forward_of row.number) row.to ∷ items_at mid row.from)
-      → IsPermutation (items_at mid row.to) (spoke (backward_of row.number) row.from ∷ items_at new row.to)
-      → TakesSpokes row old new
-  taken-spokes first second p = by (row.from == p) (row.to == p) refl refl
-    where
-      by : (s t : Bool) → (row.from == p) ≡ s → (row.to == p) ≡ t
-          → IsPermutation (items_at old p) (spokes_of p row ++ items_at new p)
-      by true t e k =
-          let at = eqb-true row.from p e in
-          let here : IsPermutation (items_at old row.from) (spokes_of row.from row ++ items_at new row.from) =
-          subst (λ (l : List Spoke). IsPermutation (items_at old row.from) (l ++ items_at new row.from)) (sym (spokes-from row))
-          (subst (λ (l : List Spoke). IsPermutation (items_at old row.from) (spoke (forward_of row.number) row.to ∷ l))
-          (sym (same-items mid new row.from (to_others row.from (λ e. two (sym e))))) first) in
-          subst (λ (q : ℕ). IsPermutation (items_at old q) (spokes_of q row ++ items_at new q)) at here
-      by false true e k =
-          let at = eqb-true row.to p k in
-          let here : IsPermutation (items_at old row.to) (spokes_of row.to row ++ items_at new row.to) =
-          subst (λ (l : List Spoke). IsPermutation (items_at old row.to) (l ++ items_at new row.to)) (sym (spokes-to row two))
-          (subst (λ (l : List Spoke). IsPermutation l (spoke (backward_of row.number) row.from ∷ items_at new row.to))
-          (same-items old mid row.to (from_others row.to two)) second) in
-          subst (λ (q : ℕ). IsPermutation (items_at old q) (spokes_of q row ++ items_at new q)) at here
-      by false false e k =
-          let from : row.from ≢ p = λ s. true≢false (sym (eq-eqb row.from p s) ∙ e) in
-          let to : row.to ≢ p = λ s. true≢false (sym (eq-eqb row.to p s) ∙ k) in
-          let items = same-items mid new p (to_others p to) ∙ same-items old mid p (from_others p from) in
-          subst (λ (l : List Spoke). IsPermutation (items_at old p) (l ++ items_at new p)) (sym (spokes-elsewhere p row from to))
-          (subst (IsPermutation (items_at old p)) (sym items) (IsPermutation-refl (items_at old p)))
-
-  pub taken-capacity : capacity_at mid row.from ≡ capacity_at old row.from
-      → capacity_at new row.to ≡ capacity_at mid row.to → (p : ℕ) → capacity_at new p ≡ capacity_at old p
-  taken-capacity first second p = after (row.to == p) refl ∙ before (row.from == p) refl
-    where
-      after : (t : Bool) → (row.to == p) ≡ t → capacity_at new p ≡ capacity_at mid p
-      after true k = subst (λ (q : ℕ). capacity_at new q ≡ capacity_at mid q) (eqb-true row.to p k) second
-      after false k = same-capacity mid new p (to_others p (λ s. true≢false (sym (eq-eqb row.to p s) ∙ k)))
-
-      before : (t : Bool) → (row.from == p) ≡ t → capacity_at mid p ≡ capacity_at old p
-      before true k = subst (λ (q : ℕ). capacity_at mid q ≡ capacity_at old q) (eqb-true row.from p k) first
-      before false k = same-capacity old mid p (from_others p (λ s. true≢false (sym (eq-eqb row.from p s) ∙ k)))
 
 -- ---- Room
 
