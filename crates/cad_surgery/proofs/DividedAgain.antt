@@ -12,13 +12,13 @@ use Rattle.cad_map.specs.Division.{hole_placed}
 use Rattle.cad_map.specs.Effects.{after}
 use Rattle.cad_map.specs.Map.{Map, all_sides, string_of, side_of}
 use Rattle.cad_map.specs.Rings.{HasWholeRings}
-use Rattle.cad_map.proofs.CallerLemmas.{CanDivide as IsAllowed, All-at_each, All-from_each, Contains-first, Contains-later, Contains-map, Contains-flat_map, allowed, can-divide, filter-Contains, found-number, map-Contains, ring-hole_placed, row-found, whole_valid}
+use Rattle.cad_map.proofs.CallerLemmas.{CanDivide as IsAllowed, All-at_each, All-from_each, Contains-first, Contains-later, Contains-map, Contains-flat_map, filter-Contains, found-number, map-Contains, ring-hole_placed, row-found, whole_valid}
 use Rattle.half_table.specs.declared.half.Half.{Half}
 use Rattle.half_table.specs.Half.{forward_of}
 use Rattle.half_table.specs.Rows.{HalfRows, has}
 use Rattle.cad_laws.specs.Faces.{left_of_chain, uncut}
 use Rattle.cad_laws.specs.Tried.{IsTried}
-use Rattle.cad_laws.proofs.CallerLemmas.{before-one, divided-faces, some-corner, whole-after}
+use Rattle.cad_laws.proofs.CallerLemmas.{before-one, some-corner}
 use Rattle.cad_surgery.specs.declared.edits.given.NewParcel.{NewParcel}
 use Rattle.map_parts.specs.Chains.{IsChainOf}
 use Rattle.map_parts.specs.Dividing.{IsDividing, rings_beside}

@@ -1,5 +1,5 @@
 -- What a record of an enclosure says of the rings that passed over, and what the table says.
-use Rattle.std.proofs.Common.{◌≡◌, ◌≢◌, ℕ, ◌≤◌, ◌&&◌, not, inl, inr, Bool, true, false, true≢false, refl, sym, ap, subst, ◌∙◌, List, [], ◌∷◌, ◌++◌, map, filter, reverse, length, Option, Some, None, is_some, cond, if◌then◌else◌, ◌==◌, arith}
+use Rattle.std.proofs.Common.{◌≡◌, ◌≢◌, ℕ, ◌≤◌, ◌&&◌, not, inl, inr, Bool, true, false, true≢false, refl, sym, ap, subst, ◌∙◌, List, [], ◌∷◌, ◌++◌, map, filter, reverse, length, Some, cond, if◌then◌else◌, ◌==◌, arith}
 use Rattle.std.specs.Prelude.{IsPermutation, count_by}
 use Rattle.std.specs.List.{AllByRecursion, Contains}
 use Rattle.std.proofs.lemmas.List.{length-map}
@@ -14,17 +14,16 @@ use Rattle.cad_map.specs.Boundaries.{is_face, bounding, canonical_form}
 use Rattle.cad_map.specs.Chain.{start_of, next_of, strings_along}
 use Rattle.cad_map.specs.Division.{hole_placed}
 use Rattle.cad_map.specs.Effects.{after}
-use Rattle.cad_map.specs.Map.{Map, all_sides, has_face, string_of}
+use Rattle.cad_map.specs.Map.{Map, all_sides, has_face}
 use Rattle.cad_map.specs.Rings.{HasWholeRings}
 use Rattle.cad_map.specs.Table.{row_with}
-use Rattle.cad_map.proofs.CallerLemmas.{CanEnclose as IsAllowed, All-at_each, All-from_each, Contains-cases, Contains-first, Contains-later, Contains-map, Contains-flat_map, Contains-filter, filter-Contains, map-Contains, Contains-has_side, has_side-Contains, is_face-same, is_face-refl, ring-hole_placed, is_division-enclosed, found-number, count-no, count-map}
+use Rattle.cad_map.proofs.CallerLemmas.{CanEnclose as IsAllowed, All-at_each, All-from_each, Contains-cases, Contains-first, Contains-later, Contains-map, Contains-flat_map, Contains-filter, filter-Contains, map-Contains, Contains-has_side, has_side-Contains, is_face-same, is_face-refl, ring-hole_placed, is_division-enclosed, count-no, count-map}
 use Rattle.half_table.specs.declared.half.Half.{Half}
-use Rattle.half_table.specs.Half.{half_of}
 use Rattle.half_table.specs.Rows.{HalfRows}
 use Rattle.cad_laws.specs.Counts.{sides_of_face}
-use Rattle.cad_laws.specs.Local.{IsLocal, side_by}
+use Rattle.cad_laws.specs.Local.{IsLocal}
 use Rattle.map_parts.specs.Handing.{home_of}
-use Rattle.edit_records.specs.HeldChains.{side_along, IsOfRing, rings_beside, HeldIsland}
+use Rattle.edit_records.specs.HeldChains.{IsOfRing, rings_beside, HeldIsland}
 use Rattle.map_parts.specs.Islands.{AreOfRings}
 use Rattle.map_parts.specs.Labels.{IsOnRing}
 use Rattle.map_parts.specs.Parts.{HasHalves}
@@ -38,7 +37,6 @@ use Rattle.cad_surgery.proofs.MovedHalves.{filter-permuted}
 use Rattle.cad_surgery.proofs.NamedRings.{named-on, on-named}
 use Rattle.cad_surgery.proofs.RingLengths.{face-lengths}
 use Rattle.map_parts.proofs.RingsOnce.{stands-once}
-use Rattle.map_parts.proofs.StringRowsPut.{found-there}
 
 both : (a b : Bool) → (a && b) ≡ true → (a ≡ true) × (b ≡ true)
 both true true h = (refl, refl)

@@ -16,7 +16,7 @@ use Rattle.cad_map.specs.Chain.{start_of, next_of}
 use Rattle.cad_map.specs.Map.{Map, all_sides}
 use Rattle.cad_map.specs.Merger.{handed_over}
 use Rattle.cad_map.specs.Rings.{HasWholeRings}
-use Rattle.cad_map.proofs.CallerLemmas.{All-at_each, All-from_each, Contains-first, Contains-map, whole_valid}
+use Rattle.cad_map.proofs.CallerLemmas.{All-at_each, All-from_each, Contains-map, whole_valid}
 use Rattle.half_table.specs.declared.half.Half.{Half}
 use Rattle.half_table.specs.Rows.{HalfRows, has}
 use Rattle.half_paths.specs.Path.{AreIn}

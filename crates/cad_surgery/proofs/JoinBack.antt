@@ -1,5 +1,5 @@
 -- A join on a map on half-edges that is taken back by its record.
-use Rattle.std.proofs.Common.{◌≡◌, ◌≤◌, ◌+◌, ℕ, sym, ap, subst, ◌∙◌, [], ◌∷◌, length, true, false, Bool, if◌then◌else◌, arith}
+use Rattle.std.proofs.Common.{◌≡◌, ◌≤◌, ◌+◌, ℕ, sym, ap, subst, ◌∙◌, [], ◌∷◌, length, true, Bool, if◌then◌else◌, arith}
 use Rattle.std.specs.Prelude.{Result, Ok, IsErr}
 use Rattle.cad_rows.specs.declared.edits.Edit.TheVariants.{Join}
 use Rattle.cad_map.specs.Asked.{GivesInRange}

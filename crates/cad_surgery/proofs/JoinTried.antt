@@ -1,5 +1,5 @@
 -- A join that is tried on a map on half-edges, kept or taken back.
-use Rattle.std.proofs.Common.{◌≡◌, ◌≤◌, ◌+◌, ◌==◌, ℕ, sym, ap, subst, ◌∙◌, [], ◌∷◌, length, not, true, false, Bool, if◌then◌else◌, arith}
+use Rattle.std.proofs.Common.{◌≡◌, ◌≤◌, ◌+◌, ◌==◌, ℕ, sym, ap, subst, ◌∙◌, [], ◌∷◌, length, not, true, Bool, if◌then◌else◌, arith}
 use Rattle.cad_rows.specs.declared.edits.Edit.TheVariants.{Join}
 use Rattle.cad_rows.specs.declared.rows.StringRow.{StringRow}
 use Rattle.cad_map.specs.Changes.{by_number}
@@ -12,11 +12,9 @@ use Rattle.half_table.specs.declared.half.Half.{Half}
 use Rattle.half_table.specs.Count.{greatest, ticked}
 use Rattle.half_table.specs.Half.{half_of, twin, forward_of, backward_of}
 use Rattle.half_table.specs.Rows.{Table, has, next, cycle}
-use Rattle.half_paths.specs.Path.{AreDifferent, strings_of}
 use Rattle.half_paths.specs.Loose.{is_of, AreLoose, DropsStrings}
 use Rattle.key_lists.specs.Held.{Held, HasRoomAt}
 use Rattle.cad_laws.specs.Joining.{FarEndsAreApart}
-use Rattle.cad_laws.specs.Local.{IsShown}
 use Rattle.cad_laws.specs.Tried.{IsTried}
 use Rattle.map_parts.specs.declared.edits.join.JoinedRows.{JoinedRows}
 use Rattle.cad_surgery.specs.declared.draft.Draft.TheInside.{Inside}

@@ -1,5 +1,5 @@
 -- A split that is taken back on a map on half-edges.
-use Rattle.std.proofs.Common.{◌≡◌, ◌≤◌, ◌+◌, ℕ, sym, ap, subst, ◌∙◌, List, [], ◌∷◌, length, true, false, if◌then◌else◌, arith}
+use Rattle.std.proofs.Common.{◌≡◌, ◌≤◌, ◌+◌, ℕ, sym, ap, subst, ◌∙◌, List, [], ◌∷◌, length, true, if◌then◌else◌, arith}
 use Rattle.cad_rows.specs.declared.edits.Edit.TheVariants.{Split}
 use Rattle.cad_rows.specs.declared.rows.StringRow.{StringRow}
 use Rattle.cad_map.specs.Asked.{GivesInRange}
@@ -12,10 +12,8 @@ use Rattle.half_table.specs.declared.half.Half.{Half}
 use Rattle.half_table.specs.Count.{greatest, ticked}
 use Rattle.half_table.specs.Half.{forward_of, backward_of}
 use Rattle.half_table.specs.Rows.{Table, has, cycle}
-use Rattle.half_paths.specs.Path.{AreIn, AreDifferent, strings_of}
 use Rattle.half_paths.specs.Loose.{is_of, DropsStrings}
 use Rattle.key_lists.specs.Held.{Held}
-use Rattle.cad_laws.specs.Local.{IsShown}
 use Rattle.cad_laws.specs.Tried.{IsTried}
 use Rattle.map_parts.specs.declared.map_rows.MapRows.{MapRows}
 use Rattle.map_parts.specs.declared.stars.Spoke.{Spoke}
@@ -31,7 +29,7 @@ use Rattle.cad_surgery.proofs.DraftFits.{draft-fits, draft-all, draft-work, sett
 use Rattle.cad_surgery.proofs.LooseBeside.{AreUnseen, no-strings}
 use Rattle.cad_surgery.proofs.FitParts.{parts, parts-in, GoWith, at-rest, stand-for}
 use Rattle.cad_surgery.proofs.WorkTaken.{ticks-just, ticks-then}
-use Rattle.cad_surgery.proofs.SplitDraft.{split-whole_after, whole-free, unsplit-in, unsplit-alone, back-hidden, back-different, split-work, whole-few}
+use Rattle.cad_surgery.proofs.SplitDraft.{split-whole_after, whole-free, unsplit-alone, back-hidden, back-different, split-work, whole-few}
 
 module _ {T : Type 0} (inside : Inside T) {v : Parts} (view : parts-in inside ≡ v) (fit : FitTogether (parts-in inside)) (h : Halving)
     {row : StringRow} {place : ℕ} (given : GivesInRange (split_by row.number h)) {m : Map} (from : IsSplitFrom row place h (map_of v) m)
