@@ -31,6 +31,14 @@ On a star of `bin/bench --write star SIZE`:
 
     centre        the star's centre, to another place near it
 
+On strips of `bin/bench --write long SIZE`:
+
+    strip         the western end of a boundary between two strips, to another place near it
+
+On petals of `bin/bench --write petals SIZE`:
+
+    common        the point that all petals have in common, to another place near it
+
 The same call gives the same script. Outside `mixed` nothing is refused, where 1,000 edits can be undone.
 """
 import itertools
@@ -132,6 +140,30 @@ class Star:
 
     def __init__(self, size):
         self.centre = size + 1
+
+
+class Strips:
+    """The numbers and positions of the western ends of long strips' boundaries, from the south to the north."""
+
+    BREADTH = 100
+
+    def __init__(self, size):
+        self.size = size
+
+    def end(self, strip):
+        return 2 * strip + 1
+
+    def position(self, strip):
+        return 0, strip * self.BREADTH
+
+
+class Petals:
+    """The number of the point that all petals have in common."""
+
+    COMMON = 1
+
+    def __init__(self, size):
+        self.size = size
 
 
 class Draws:
@@ -344,9 +376,23 @@ def centre(star, draws):
         yield f'move,{star.centre},{east},{north}'
 
 
+def strip(strips, draws):
+    while True:
+        boundary = 1 + draws.below(strips.size - 1)
+        east, north = draws.near(strips.position(boundary), 20)
+        yield f'move,{strips.end(boundary)},{east},{north}'
+
+
+def common(petals, draws):
+    while True:
+        east, north = draws.near((0, 0), 50)
+        yield f'move,{petals.COMMON},{east},{north}'
+
+
 KINDS = {'divide-undo': divide_undo, 'divide-merge': divide_merge, 'chain': chain, 'split-join': split_join,
          'move': move, 'points': points, 'enclose': enclose, 'attach': attach, 'undo-walk': undo_walk, 'mixed': mixed}
-FACE_KINDS = {'edge': (Town, edge), 'island': (Islands, island), 'centre': (Star, centre)}
+FACE_KINDS = {'edge': (Town, edge), 'island': (Islands, island), 'centre': (Star, centre),
+              'strip': (Strips, strip), 'common': (Petals, common)}
 
 
 def script(kind, size, records):
