@@ -33,7 +33,7 @@ On a star of `bin/bench --write star SIZE`:
 
 On strips of `bin/bench --write long SIZE`:
 
-    strip         the western end of a boundary between two strips, to another place near it
+    strip         a boundary between two strips, split somewhere, and undo
 
 On petals of `bin/bench --write petals SIZE`:
 
@@ -143,18 +143,17 @@ class Star:
 
 
 class Strips:
-    """The numbers and positions of the western ends of long strips' boundaries, from the south to the north."""
+    """The numbers and positions of long strips' boundaries, from the south to the north."""
 
-    BREADTH = 100
+    LENGTH, BREADTH = 1_000_000_000, 100
 
     def __init__(self, size):
         self.size = size
 
-    def end(self, strip):
-        return 2 * strip + 1
-
-    def position(self, strip):
-        return 0, strip * self.BREADTH
+    def position(self, boundary, x):
+        """The place of a boundary so far in the east."""
+        rise = boundary * boundary % 13
+        return x, boundary * self.BREADTH + x * rise // self.LENGTH
 
 
 class Petals:
@@ -379,8 +378,9 @@ def centre(star, draws):
 def strip(strips, draws):
     while True:
         boundary = 1 + draws.below(strips.size - 1)
-        east, north = draws.near(strips.position(boundary), 20)
-        yield f'move,{strips.end(boundary)},{east},{north}'
+        x, y = strips.position(boundary, 1000 + draws.below(strips.LENGTH - 2000))
+        yield f'split,{boundary + 1},{NEW_POINT},{x},{y},{NEW_POINT},{NEW_POINT + 1}'
+        yield 'undo'
 
 
 def common(petals, draws):

@@ -1,5 +1,5 @@
 -- Entries spread over the cells of one size that their boxes touch.
-use Rattle.std.specs.Prelude.{◌≡◌, ℕ, ◌<◌, ◌≤◌, Bool, ◌∷◌, [], ◌++◌, nat_le, count_by, ◌⊎◌, ◌↔◌, IsPermutation}
+use Rattle.std.specs.Prelude.{◌≡◌, ℕ, ◌<◌, ◌≤◌, Bool, ◌∷◌, [], ◌++◌, nat_le, nat_eq, count_by, ◌⊎◌, ◌↔◌, IsPermutation, if◌then◌else◌}
 use Rattle.std.specs.List.{Contains}
 use Rattle.geo_exact.specs.Position.{OnTheMap}
 use Rattle.cad_rows.specs.Limits.{IsNumber}
@@ -14,9 +14,13 @@ use Rattle.cell_grid.specs.Held.{HeldEntries, entries_at, HasRoomInCell}
 abbrev pub block_at : CellSize → Entry → Block
 block_at size e = block_of size e.from e.to
 
+-- in how many cells of a size an entry may stand: in 64 squares, or in 8 lanes
+abbrev pub most_cells : CellSize → ℕ
+most_cells size = if nat_eq size.width size.height then 64 else 8
+
 -- the entry's box touches no more cells than an entry may stand in
 abbrev pub fits : CellSize → Entry → Bool
-fits size e = nat_le (cell_count (block_at size e)) 64
+fits size e = nat_le (cell_count (block_at size e)) (most_cells size)
 
 -- the number is one of a row, and the ends are on the map
 pub record IsSoundEntry (e : Entry) : Type 0 where

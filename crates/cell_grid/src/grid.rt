@@ -26,10 +26,10 @@ use std::marker::Model;
 /// There are three kinds of cells: squares with the side, lanes from west to east, a thousand
 /// kilometres long and as wide as the side, and such lanes from south to north. The cell of a
 /// location is its two coordinates divided by the width and the height of the kind, rounded down. A
-/// string stands in every cell that its box touches, of the first kind of which these are 64 at
-/// most, or, where they are more of each kind, in a list of long ones: so a string is a long one
-/// only where it goes slantwise over more than 63 sides both ways. A number may stand at several
-/// positions at once.
+/// string stands in every square that its box touches, where these are 64 at most; else in every
+/// lane from west to east, or from south to north, where these are eight at most; and else in a
+/// list of long ones, which are those that go slantwise over more than seven sides both ways. A
+/// number may stand at several positions at once.
 ///
 /// Only `new` and the puts take memory: some 40 bytes for each cell that an entry stands in. A cell
 /// keeps the room that it was given. A call takes time by the cells of the box and the entries that

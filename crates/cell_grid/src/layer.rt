@@ -3,7 +3,7 @@ ghost use Rattle.std.specs.Prelude.{◌≡◌, ℕ, ◌<◌, OnOk, OnErr};
 ghost use Rattle.std.specs.List.{Contains};
 ghost use Rattle.cell_grid.specs.Cells.{IsBlock, IsCellSize, cell_count, cell_at};
 ghost use Rattle.cell_grid.specs.Held.{entries_at, HasSameEntries};
-ghost use Rattle.cell_grid.specs.Spread.{IsSoundEntry, HasRoomIn, IsPutIn, IsTakenOut, IsSpread, Stands, StandsNone, StandsOneMore, StandsOneLess, StandsSame, fits as fits_of};
+ghost use Rattle.cell_grid.specs.Spread.{IsSoundEntry, HasRoomIn, IsPutIn, IsTakenOut, IsSpread, Stands, StandsNone, StandsOneMore, StandsOneLess, StandsSame, fits as fits_of, most_cells as most_cells_of};
 
 use crate::block::{Block, CellSize, block_of};
 use crate::entry::Entry;
@@ -12,15 +12,30 @@ use cad_rows::Memory;
 use number_hash::NumberHash;
 use std::alloc::Global;
 
-/// An entry whose box touches more cells of a layer than this stands elsewhere: a list that more
-/// searches go through costs less than entries in so many cells.
-const MOST_CELLS_OF_ENTRY: u64 = 64;
+/// An entry whose box touches more squares than this stands elsewhere: a list that more searches go
+/// through costs less than entries in so many cells.
+const MOST_SQUARES_OF_ENTRY: u64 = 64;
+
+/// And so does one whose box touches more lanes than this: each lane is long, and many entries stand
+/// in it.
+const MOST_LANES_OF_ENTRY: u64 = 8;
 
 /// Entries by the cells of one size, each in the list of every cell that its box touches.
 #[derive(Drop)]
 pub(crate) struct Layer {
     pub size: CellSize,
     pub lists: CellLists,
+}
+
+/// In how many cells of a size an entry may stand.
+fn most_cells(size: &CellSize) -> u64
+    ensures { result ≡ most_cells_of size.now }
+{
+    if size.width == size.height {
+        MOST_SQUARES_OF_ENTRY
+    } else {
+        MOST_LANES_OF_ENTRY
+    }
 }
 
 /// Gives each cell of a block room for one entry more. No cell has another entry after it, also
@@ -78,7 +93,7 @@ impl Layer {
         requires { IsCellSize self.now.size }
         ensures { result ≡ fits_of self.now.size entry.now }
     {
-        block_of(self.size, entry.from, entry.to).cell_count() <= MOST_CELLS_OF_ENTRY
+        block_of(self.size, entry.from, entry.to).cell_count() <= most_cells(&self.size)
     }
 
     /// Puts an entry in that doesn't stand here. It makes room in all cells first, so where memory
