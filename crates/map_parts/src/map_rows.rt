@@ -7,9 +7,7 @@ ghost use Rattle.map_parts.specs.Rows.{rows_in, map_in};
 
 use crate::rows::Rows;
 use cad_map::{Numbered, RowTables, Table};
-use cad_rows::{
-    Memory, Numbers, ParcelNo, ParcelRow, PointRow, SourceRow, StringNo, StringRow,
-};
+use cad_rows::{Memory, Numbers, ParcelNo, ParcelRow, PointRow, SourceRow, StringNo, StringRow};
 use number_hash::NumberHash;
 use std::alloc::Global;
 
