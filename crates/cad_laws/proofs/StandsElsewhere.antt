@@ -2,14 +2,14 @@
 use Rattle.std.proofs.Common.{◌≡◌, ℕ, ◌⊎◌, inl, inr, refl, sym, ap, subst, ◌∙◌, List, ◌++◌, map, filter, Bool, true, false, ◌==◌}
 use Rattle.std.proofs.lemmas.Bool.{eqb-true}
 use Rattle.std.proofs.lemmas.List.Elements.{Contains-append_cases}
-use Rattle.std.specs.Prelude.{IsTrue, ◌↔◌}
+use Rattle.std.specs.Prelude.{IsTrue, IfSome, ◌↔◌}
 use Rattle.std.specs.List.{AllByRecursion, Contains}
 use Rattle.cad_rows.specs.declared.names.Face.{Face}
 use Rattle.cad_rows.specs.declared.rows.StringRow.{StringRow}
 use Rattle.cad_rings.specs.Cycle.{Ring, Corner}
 use Rattle.cad_map.specs.Boundaries.{bounding}
 use Rattle.cad_map.specs.Map.{Map, has_point, has_face, position_of, is_end, far_end, strings_at, rings_of, all_corners}
-use Rattle.cad_map.specs.Touched.{Touched, neighbours, PointStands, StringStands, FaceStands, IsTouched}
+use Rattle.cad_map.specs.Touched.{Touched, neighbours, PointStands, StringStands, FaceStands, ComesByMove, IsTouched}
 use Rattle.cad_map.specs.Valid.{HasSoundRows}
 use Rattle.cad_map.proofs.CallerLemmas.{All-at_each, All-from_each, Contains-filter, filter-Contains, ends, ring-there}
 use Rattle.cad_laws.specs.Parting.{HasCorner}
@@ -47,7 +47,8 @@ module _ (old new : Map) (t : Touched) (sound : HasSoundRows old) where
 
   module _ (Ok : ℕ → Type 0) (on_points : KeepsPoints Ok) (on_strings : KeepsStrings Ok)
       (on_corners : KeepsCorners)
-      (on_faces : (f : Face) → IsTrue (has_face new f) → Contains t.faces f ⊎ KeepsFace Ok f) where
+      (on_faces : (f : Face) → IsTrue (has_face new f) → Contains t.faces f ⊎ KeepsFace Ok f)
+      (on_move : IfSome t.moved (ComesByMove old new)) where
     same-strings : (q : ℕ) → IsTrue (has_point new q) → (¬ Contains t.points q)
         → strings_at new q ≡ strings_at old q
     same-strings q known off =
@@ -156,4 +157,5 @@ module _ (old new : Map) (t : Touched) (sound : HasSoundRows old) where
         | inl named ↦ inl named
         | inr k ↦ inr (face-stands f k)
       ];
+      moved = on_move;
     }

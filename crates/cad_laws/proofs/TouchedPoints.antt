@@ -19,14 +19,14 @@ use Rattle.cad_map.specs.Asked.{GivesInRange}
 use Rattle.cad_map.specs.Boundaries.{is_face, bounding}
 use Rattle.cad_map.specs.Changes.{by_number, string_joining, both_sources, split, join, with_point}
 use Rattle.cad_map.specs.Effects.{after}
-use Rattle.cad_map.specs.Map.{Map, point_of, string_of, has_point, has_face, origin, is_end, far_end, strings_at, side_of}
+use Rattle.cad_map.specs.Map.{Map, point_of, string_of, has_point, has_face, position_of, origin, is_end, far_end, strings_at, side_of}
 use Rattle.cad_map.specs.Refusals.{first_refusal}
 use Rattle.cad_map.specs.Rings.{HasWholeRings}
-use Rattle.cad_map.specs.Touched.{Touched, neighbours, IsTouched}
+use Rattle.cad_map.specs.Touched.{Touched, neighbours, ComesByMove, IsTouched}
 use Rattle.cad_map.specs.Valid.{IsValid}
 use Rattle.cad_map.proofs.CallerLemmas.{IsAllowed, allowed, there-one, two-joined, Contains-cases, Contains-first, Contains-later, Contains-map, list_any-Contains, Contains-filter, find-Contains, is_face-same, row-found, dropped, MeetAt, meet-at, differs, split_boundary, found-number, found-with_row, ends, is_end-of, other_end, whole_valid}
 use Rattle.cad_laws.specs.Joining.{IsJoinedAt}
-use Rattle.cad_laws.specs.Touching.{touching, faces_where, passes, goes_along, touched_by_split, touched_by}
+use Rattle.cad_laws.specs.Touching.{touching, faces_where, passes, goes_along, touched_by_split, touched_by_move, touched_by}
 use Rattle.cad_laws.proofs.CornersElsewhere.{corners-joined}
 use Rattle.cad_laws.proofs.Elsewhere.{face-or_not, filter-changed, rings-elsewhere, found-pushed, same-pushed, same-without, in-without, same-with_row}
 use Rattle.cad_laws.proofs.JoinedCorners.{join-at}
@@ -235,7 +235,7 @@ module _ (m : Map) (valid : IsValid m) (row : StringRow) (there : Contains m.str
               (λ b. refl) f off);
           points = λ r h q has. tt;
         })
-      ])
+      ]) tt
 
 pub split-touched : (m : Map) (s p : ℕ) (x y : ℤ) (first second : ℕ) → IsValid m
     → GivesInRange (Split s p x y first second)
@@ -379,7 +379,7 @@ module _ (m : Map) (valid : IsValid m) (p new : ℕ) (two : MeetAt m p) where
           points = λ r h q has.
               not-passed p r (none-where m (passes p) f off (bounding f r) h refl) q has;
         })
-      ])
+      ]) tt
 
 pub join-touched : (m : Map) (p new : ℕ) → IsValid m → first_refusal m (Join p new) ≡ None
     → IsTouched m (after m (Join p new)) (touched_by m (Join p new))
@@ -401,17 +401,25 @@ module _ (m : Map) (valid : IsValid m) (p : ℕ) (x y : ℤ) (row : PointRow)
   moved = with_point m moved_row
 
   abbrev near : Touched
-  near = touching (p ∷ []) (map (λ s. s.number) (strings_at m p)) (faces_where m (passes p))
+  near = touched_by_move m p
 
   abbrev Away : ℕ → Type 0
   Away q = q ≢ p
 
+  -- each other point lies where it lay
+  lies-elsewhere : (q : ℕ) → q ≢ p → position_of moved q ≡ position_of m q
+  lies-elsewhere q off =
+      ap (λ (o : Option PointRow). unwrap_or (option_map (λ r. r.position) o) origin)
+      (same-with_row (λ (r : PointRow). r.number) q moved_row m.points
+      (λ e. off (e ∙ found-number (λ (r : PointRow). r.number) p m.points row is)))
+
+  comes-by_move : ComesByMove m moved (record { point = p; from = position_of m p })
+  comes-by_move =
+      record { from = refl; elsewhere = lies-elsewhere; parcels = refl; boundaries = refl }
+
   move-points : KeepsPoints m moved near valid.sound.v1 Away
   move-points = record {
-    position = λ q known off.
-        ap (λ (o : Option PointRow). unwrap_or (option_map (λ r. r.position) o) origin)
-        (same-with_row (λ (r : PointRow). r.number) q moved_row m.points
-        (λ e. off (e ∙ found-number (λ (r : PointRow). r.number) p m.points row is)));
+    position = λ q known off. lies-elsewhere q off;
     points = λ q known. by q (nat_eq p q) refl
         (sym (found-with_row (λ (r : PointRow). r.number) q moved_row m.points) ∙ known);
   }
@@ -460,7 +468,7 @@ module _ (m : Map) (valid : IsValid m) (p : ℕ) (x y : ℤ) (row : PointRow)
           points = λ r h q has.
               not-passed p r (none-where m (passes p) f off (bounding f r) h refl) q has;
         })
-      ])
+      ]) comes-by_move
 
 pub move-touched : (m : Map) (p : ℕ) (x y : ℤ) → IsValid m → first_refusal m (Move p x y) ≡ None
     → IsTouched m (after m (Move p x y)) (touched_by m (Move p x y))
@@ -477,4 +485,7 @@ move-touched m p x y valid none = by (point_of m p) refl
     by None is =
         absurd (true≢false (sym (there-one m (name.Point p) free.unknown)
         ∙ ap (λ (o : Option PointRow). is_some o) is))
-    by (Some row) is = rw is (touched-move m valid p x y row is)
+    by (Some row) is =
+        subst (λ (o : Option PointRow). IsTouched m (unwrap_or (option_map (λ row. with_point m
+        (record row { position = record { x = x; y = y } })) o) m) (touched_by m (Move p x y)))
+        (sym is) (touched-move m valid p x y row is)

@@ -1,5 +1,5 @@
 -- The points, strings and faces that each edit touches.
-use Rattle.std.specs.Prelude.{ℕ, ◌||◌, ◌==◌, Bool, List, [], ◌∷◌, map, filter, option_map, unwrap_or}
+use Rattle.std.specs.Prelude.{ℕ, ◌||◌, ◌==◌, Bool, List, [], ◌∷◌, map, filter, option_map, unwrap_or, Some, None}
 use Rattle.std.specs.List.{list_any, flat_map}
 use Rattle.cad_rows.specs.declared.edits.Edit.{Edit}
 use Rattle.cad_rows.specs.declared.edits.Edit.TheVariants.{AddPoint, Split, Join, Divide, Merge, Move, Enclose}
@@ -8,13 +8,14 @@ use Rattle.cad_rows.specs.declared.names.Face.TheVariants.{Parcel}
 use Rattle.cad_rows.specs.declared.rows.StringRow.{StringRow}
 use Rattle.cad_rings.specs.Cycle.{Ring, has_side, opposite, sides_of}
 use Rattle.cad_rings.specs.Surgery.{chain_from}
-use Rattle.cad_map.specs.Map.{Map, string_of, side_of, strings_at}
+use Rattle.cad_map.specs.Map.{Map, position_of, string_of, side_of, strings_at}
 use Rattle.cad_map.specs.Merger.{ChainInRings, shared_chains}
 use Rattle.cad_map.specs.Merger.ChainInRings.{along, around}
 use Rattle.cad_map.specs.Touched.{Touched, neighbours}
 
 abbrev pub touching : List ℕ → List ℕ → List Face → Touched
-touching points strings faces = record { points = points; strings = strings; faces = faces }
+touching points strings faces =
+    record { points = points; strings = strings; faces = faces; moved = None }
 
 -- the faces of the rings that pass the test
 abbrev pub faces_where : Map → (Ring → Bool) → List Face
@@ -39,6 +40,15 @@ abbrev pub touched_by_split : Map → ℕ → ℕ → ℕ → StringRow → Touc
 touched_by_split m p first second s =
     touching (p ∷ s.from ∷ s.to ∷ []) (first ∷ second ∷ []) (faces_where m (goes_along s))
 
+-- the point, its strings, the faces whose rings pass it, and where it lay
+abbrev pub touched_by_move : Map → ℕ → Touched
+touched_by_move m p = record {
+  points = p ∷ [];
+  strings = map (λ s. s.number) (strings_at m p);
+  faces = faces_where m (passes p);
+  moved = Some (record { point = p; from = position_of m p });
+}
+
 -- What an edit touches. Sources and labels are in no rule, and a point that is dropped is gone.
 abbrev pub touched_by : Map → Edit → Touched
 touched_by m (AddPoint p x y) = touching (p ∷ []) [] []
@@ -50,9 +60,7 @@ touched_by m (Divide face chain strings parcel label source) =
     touching chain strings (face ∷ Parcel parcel ∷ [])
 touched_by m (Merge kept ended) =
     touching (flat_map points_of_shared_chain (shared_chains m kept ended)) [] (kept ∷ [])
--- the point, its strings, and the faces whose rings pass it
-touched_by m (Move p x y) =
-    touching (p ∷ []) (map (λ s. s.number) (strings_at m p)) (faces_where m (passes p))
+touched_by m (Move p x y) = touched_by_move m p
 touched_by m (Enclose face points strings parcel label source) =
     touching points strings (face ∷ Parcel parcel ∷ [])
 touched_by m _ = touching [] [] []

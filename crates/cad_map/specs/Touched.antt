@@ -1,16 +1,23 @@
 -- What an edit touched: whatever isn't named stands after it as it stood before.
-use Rattle.std.specs.Prelude.{◌≡◌, ℕ, ◌==◌, ◌↔◌, List, filter, map, ◌⊎◌, IsTrue}
+use Rattle.std.specs.Prelude.{◌≡◌, ◌≢◌, ℕ, ◌==◌, ◌↔◌, List, filter, map, ◌⊎◌, IsTrue, Option, IfSome}
 use Rattle.std.specs.List.{AllByRecursion, Contains}
+use Rattle.geo_exact.specs.Position.{Position}
 use Rattle.cad_rows.specs.declared.rows.StringRow.{StringRow}
 use Rattle.cad_rows.specs.declared.names.Face.{Face}
 use Rattle.cad_rings.specs.Cycle.{Corner}
 use Rattle.cad_map.specs.Map.{Map, has_point, has_face, position_of, strings_at, far_end, rings_of, all_corners}
 
--- points, strings and faces
+-- a point that was moved, and where it lay
+pub record Moved : Type 0 where
+  pub point : ℕ
+  pub from : Position
+
+-- points, strings and faces, and of a move what was moved
 pub record Touched : Type 0 where
   pub points : List ℕ
   pub strings : List ℕ
   pub faces : List Face
+  pub moved : Option Moved
 
 -- the points at the other ends of a point's strings
 abbrev pub neighbours : Map → ℕ → List ℕ
@@ -42,8 +49,16 @@ pub record FaceStands (old new : Map) (f : Face) : Type 0 where
   pub rings : rings_of new f ≡ rings_of old f
   pub positions : AllByRecursion (λ ring. AllByRecursion (λ p. position_of new p ≡ position_of old p) ring) (rings_of old f)
 
+-- the point lay there, all others lie where they lay, and parcels and rings are those that were
+pub record ComesByMove (old new : Map) (v : Moved) : Type 0 where
+  pub from : position_of old v.point ≡ v.from
+  pub elsewhere : (p : ℕ) → p ≢ v.point → position_of new p ≡ position_of old p
+  pub parcels : new.parcels ≡ old.parcels
+  pub boundaries : new.boundaries ≡ old.boundaries
+
 -- between the two maps no more was touched than this
 pub record IsTouched (old new : Map) (t : Touched) : Type 0 where
   pub points : (p : ℕ) → IsTrue (has_point new p) → Contains t.points p ⊎ PointStands old new p
   pub strings : AllByRecursion (λ s. Contains t.strings s.number ⊎ StringStands old new s) new.strings
   pub faces : (f : Face) → IsTrue (has_face new f) → Contains t.faces f ⊎ FaceStands old new f
+  pub moved : IfSome t.moved (ComesByMove old new)

@@ -40,15 +40,15 @@ left_of a b q low high left right =
     ap (λ (z : ℤ). int_lt (pos 0) z) (from_q a b q) ∙ less _ h
 
 -- whether it lies no higher than q
-abbrev low : Position → Position → Bool
+abbrev pub low : Position → Position → Bool
 low q p = int_le p.y q.y
 
 -- one of the two, and not both
-abbrev differ : Bool → Bool → Bool
+abbrev pub differ : Bool → Bool → Bool
 differ a b = cond a (not b) b
 
 -- where q is left of both ends, the side is counted exactly where one end lies no higher than q
-counted-left : (a b q : Position) → q.x <ℤ a.x → q.x <ℤ b.x → is_counted a b q ≡ differ (low q a) (low q b)
+pub counted-left : (a b q : Position) → q.x <ℤ a.x → q.x <ℤ b.x → is_counted a b q ≡ differ (low q a) (low q b)
 counted-left a b q left right = by (low q a) (low q b) refl refl
   where
     at_most : (y z : ℤ) → int_le y z ≡ true → y ≤ℤ z
@@ -83,7 +83,7 @@ odd n false true h k = refl
 odd n false false h k = let a = eqb-false (n % 2) 1 h in let b = eqb-false ((1 + n) % 2) 1 k in absurd (omega arith)
 
 -- one more side in the count
-inside-cons : (side : Position × Position) (sides : List (Position × Position)) (q : Position) → is_inside (side ∷ sides) q ≡ differ (is_counted side.0 side.1 q) (is_inside sides q)
+pub inside-cons : (side : Position × Position) (sides : List (Position × Position)) (q : Position) → is_inside (side ∷ sides) q ≡ differ (is_counted side.0 side.1 q) (is_inside sides q)
 inside-cons side sides q =
     let counted : Position × Position → Bool = λ s. is_counted s.0 s.1 q in
     ap (λ (n : ℕ). nat_eq (n % 2) 1) (sum_by-cons (λ (s : Position × Position). cond (counted s) 1 0) side sides) ∙ by (counted side) (count_by counted sides)
@@ -138,7 +138,7 @@ record IsNotPast (e : Extent) (p : Position) : Type 0 where
   top : (p.y +ℤ coordinate_limit) ≤ℤ pos e.top
 
 -- where q is right of both ends of a side that rises past it, it isn't left of the side
-right_of : (a b q : Position) → a.y ≤ℤ q.y → q.y <ℤ b.y → a.x <ℤ q.x → b.x <ℤ q.x → is_left a b q ≡ false
+pub right_of : (a b q : Position) → a.y ≤ℤ q.y → q.y <ℤ b.y → a.x <ℤ q.x → b.x <ℤ q.x → is_left a b q ≡ false
 right_of a b q low high left right =
     let h = two_products (q.x -ℤ b.x) (q.y -ℤ a.y) (b.y -ℤ q.y) (q.x -ℤ a.x) (omega (arith, ints)) (omega (arith, ints)) (omega (arith, ints)) (omega (arith, ints)) in
     ap (λ (z : ℤ). int_lt (pos 0) z) (away a b q) ∙ not_less _ h

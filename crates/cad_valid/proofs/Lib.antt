@@ -9,6 +9,8 @@ mod SweptRules
 mod PlacedStrings
 mod Whole
 mod InsideBox
+mod MovedSides
+mod MovedRings
 mod AnchorFacts
 mod Sweeping
 mod PlacedRings

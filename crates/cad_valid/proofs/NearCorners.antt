@@ -39,7 +39,7 @@ either (inr h) = inr h.0
 
 module _ (m : Map) (whole : HasWholeRings m) where
   -- the other end of a string between two points
-  far-between : (a b : ℕ) → (between : IsBetween m a b) → (is_end between.string b ≡ true) × (far_end between.string b ≡ a)
+  pub far-between : (a b : ℕ) → (between : IsBetween m a b) → (is_end between.string b ≡ true) × (far_end between.string b ≡ a)
   far-between a b between = elim between.joins.ends [
     | inl e ↦ (is_end-of between.string b (inr e.1), by (between.string.from == b) refl (λ is. e.1 ∙ sym is ∙ e.0) (λ _. e.0))
     | inr e ↦ (is_end-of between.string b (inl e.0), by (between.string.from == b) refl (λ _. e.1) (λ no_end. absurd (no_end e.0)))

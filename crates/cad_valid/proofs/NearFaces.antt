@@ -46,31 +46,16 @@ module _ {X : Type 0} where
   each_pair-same f g (x ∷ xs) same =
       λ i. list_all-same (f x) (g x) xs (λ y h. same x y (Contains-first x xs) (Contains-later x xs y h)) i && each_pair-same f g xs (λ a b h k. same a b (Contains-later x xs a h) (Contains-later x xs b k)) i
 
--- ---- A face that stands
+-- ---- A face of which the rings tell the same
 
-module _ (old new : Map) (rings : List Ring) (placed_as : AllByRecursion (λ ring. AllByRecursion (λ p. position_of new p ≡ position_of old p) ring) rings) (some : (r : Ring) → Contains rings r → 1 ≤ length r) where
-  ring-stands : (r : Ring) → Contains rings r → AllByRecursion (λ p. position_of new p ≡ position_of old p) r
-  ring-stands r h = All-at_each (λ ring. AllByRecursion (λ p. position_of new p ≡ position_of old p) ring) rings r placed_as h
-
-  sum-kept : (r : Ring) → Contains rings r → sum_of_ring doubled_area new r ≡ sum_of_ring doubled_area old r
-  sum-kept r h = ring_sum-same doubled_area (position_of new) (position_of old) r (ring-stands r h)
-
-  positive-kept : (r : Ring) → Contains rings r → is_positive new r ≡ is_positive old r
-  positive-kept r h = ap (int_lt (pos 0)) (sum-kept r h)
-
-  negative-kept : (r : Ring) → Contains rings r → is_negative new r ≡ is_negative old r
-  negative-kept r h = ap (λ (z : ℤ). int_lt z (pos 0)) (sum-kept r h)
-
-  outlines-kept : (n : ℕ) → has_outlines n new rings ≡ has_outlines n old rings
+module _ (old new : Map) (rings : List Ring)
+    (positive-kept : (r : Ring) → Contains rings r → is_positive new r ≡ is_positive old r)
+    (negative-kept : (r : Ring) → Contains rings r → is_negative new r ≡ is_negative old r)
+    (inside-kept : (r hole : Ring) → Contains rings r → Contains rings hole → is_in_ring new r (anchor_of hole) ≡ is_in_ring old r (anchor_of hole)) where
+  pub outlines-kept : (n : ℕ) → has_outlines n new rings ≡ has_outlines n old rings
   outlines-kept n =
       λ i. (count-same (is_positive new) (is_positive old) rings positive-kept i == n)
       && list_all-same (λ r. is_positive new r || is_negative new r) (λ r. is_positive old r || is_negative old r) rings (λ r h. λ j. positive-kept r h j || negative-kept r h j) i
-
-  anchor-kept : (r : Ring) → Contains rings r → position_of new (anchor_of r) ≡ position_of old (anchor_of r)
-  anchor-kept r h = All-at_each (λ p. position_of new p ≡ position_of old p) r (anchor_of r) (ring-stands r h) (anchor_of-Contains r (some r h))
-
-  inside-kept : (r : Ring) (p : ℕ) → Contains rings r → position_of new p ≡ position_of old p → is_in_ring new r p ≡ is_in_ring old r p
-  inside-kept r p h at = λ i. is_inside (placed_same (position_of new) (position_of old) r (ring-stands r h) i) (at i)
 
   holes-inside-kept : are_holes_inside new rings ≡ are_holes_inside old rings
   holes-inside-kept =
@@ -78,7 +63,7 @@ module _ (old new : Map) (rings : List Ring) (placed_as : AllByRecursion (λ rin
       ∙ list_all-same (λ hole. list_all (λ outline. is_in_ring new outline (anchor_of hole)) (filter (is_positive old) rings)) (λ hole. list_all (λ outline. is_in_ring old outline (anchor_of hole)) (filter (is_positive old) rings))
       (filter (is_negative old) rings)
       (λ hole h. list_all-same (λ outline. is_in_ring new outline (anchor_of hole)) (λ outline. is_in_ring old outline (anchor_of hole)) (filter (is_positive old) rings)
-      (λ outline k. inside-kept outline (anchor_of hole) (filter-Contains (is_positive old) rings outline k).0 (anchor-kept hole (filter-Contains (is_negative old) rings hole h).0)))
+      (λ outline k. inside-kept outline hole (filter-Contains (is_positive old) rings outline k).0 (filter-Contains (is_negative old) rings hole h).0))
 
   holes-apart-kept : are_holes_apart new rings ≡ are_holes_apart old rings
   holes-apart-kept =
@@ -87,10 +72,39 @@ module _ (old new : Map) (rings : List Ring) (placed_as : AllByRecursion (λ rin
       (λ a b h k.
       let ha = (filter-Contains (is_negative old) rings a h).0 in
       let hb = (filter-Contains (is_negative old) rings b k).0 in
-      λ i. not (inside-kept a (anchor_of b) ha (anchor-kept b hb) i) && not (inside-kept b (anchor_of a) hb (anchor-kept a ha) i))
+      λ i. not (inside-kept a b ha hb i) && not (inside-kept b a hb ha i))
 
-  sound-kept : has_sound_holes new rings ≡ has_sound_holes old rings
+  pub sound-kept : has_sound_holes new rings ≡ has_sound_holes old rings
   sound-kept = λ i. holes-inside-kept i && holes-apart-kept i
+
+-- ---- A face that stands
+
+-- rings whose points lie where they lay
+module _ (old new : Map) (ring : Ring) (stands : AllByRecursion (λ p. position_of new p ≡ position_of old p) ring) where
+  sum-kept : sum_of_ring doubled_area new ring ≡ sum_of_ring doubled_area old ring
+  sum-kept = ring_sum-same doubled_area (position_of new) (position_of old) ring stands
+
+  pub positive-stands : is_positive new ring ≡ is_positive old ring
+  positive-stands = ap (int_lt (pos 0)) sum-kept
+
+  pub negative-stands : is_negative new ring ≡ is_negative old ring
+  negative-stands = ap (λ (z : ℤ). int_lt z (pos 0)) sum-kept
+
+module _ (old new : Map) (rings : List Ring) (placed_as : AllByRecursion (λ ring. AllByRecursion (λ p. position_of new p ≡ position_of old p) ring) rings) (some : (r : Ring) → Contains rings r → 1 ≤ length r) where
+  ring-stands : (r : Ring) → Contains rings r → AllByRecursion (λ p. position_of new p ≡ position_of old p) r
+  ring-stands r h = All-at_each (λ ring. AllByRecursion (λ p. position_of new p ≡ position_of old p) ring) rings r placed_as h
+
+  anchor-stands : (r : Ring) → Contains rings r → position_of new (anchor_of r) ≡ position_of old (anchor_of r)
+  anchor-stands r h = All-at_each (λ p. position_of new p ≡ position_of old p) r (anchor_of r) (ring-stands r h) (anchor_of-Contains r (some r h))
+
+  inside-stands : (r hole : Ring) → Contains rings r → Contains rings hole → is_in_ring new r (anchor_of hole) ≡ is_in_ring old r (anchor_of hole)
+  inside-stands r hole h k = λ i. is_inside (placed_same (position_of new) (position_of old) r (ring-stands r h) i) (anchor-stands hole k i)
+
+  outlines-stand : (n : ℕ) → has_outlines n new rings ≡ has_outlines n old rings
+  outlines-stand = outlines-kept old new rings (λ r h. positive-stands old new r (ring-stands r h)) (λ r h. negative-stands old new r (ring-stands r h)) inside-stands
+
+  sound-stands : has_sound_holes new rings ≡ has_sound_holes old rings
+  sound-stands = sound-kept old new rings (λ r h. positive-stands old new r (ring-stands r h)) (λ r h. negative-stands old new r (ring-stands r h)) inside-stands
 
 -- ---- Every face of a map
 
@@ -117,7 +131,7 @@ module _ (m : Map) (sound : HasSoundRows m) (test : Face → Bool) where
       by false is all f there = let no_test = rw is at all in cc
 
 -- rings of a valid map have points
-some-points : (m : Map) → IsValid m → (f : Face) (r : Ring) → Contains (rings_of m f) r → 1 ≤ length r
+pub some-points : (m : Map) → IsValid m → (f : Face) (r : Ring) → Contains (rings_of m f) r → 1 ≤ length r
 some-points m valid f r h =
     let b = map-Contains (λ (b : Boundary). b.ring) (filter (λ b. is_face f b.face) m.boundaries) r h in
     let there = filter-Contains (λ b. is_face f b.face) m.boundaries b.0 b.1 in
@@ -130,7 +144,7 @@ module _ (old new : Map) (t : Touched) (valid : IsValid old) (sound : HasSoundRo
     (λ tested. faces-from new sound (λ f. has_outlines (outlines_wanted f) new (rings_of new f)) (λ f there. elim (touched.faces f there) [
       | inl named ↦ All-at_each (OfFace new (HasOutlines new)) t.faces f tested named there
       | inr s ↦
-          ap (has_outlines (outlines_wanted f) new) s.rings ∙ outlines-kept old new (rings_of old f) s.positions (some-points old valid f) (outlines_wanted f)
+          ap (has_outlines (outlines_wanted f) new) s.rings ∙ outlines-stand old new (rings_of old f) s.positions (some-points old valid f) (outlines_wanted f)
           ∙ faces-at old valid.sound.v1 (λ f. has_outlines (outlines_wanted f) old (rings_of old f)) valid.keeps.v7 f s.there
     ])),
     (λ v7. All-from_each (OfFace new (HasOutlines new)) t.faces (λ f _ there. faces-at new sound (λ f. has_outlines (outlines_wanted f) new (rings_of new f)) v7 f there)),
@@ -141,7 +155,7 @@ module _ (old new : Map) (t : Touched) (valid : IsValid old) (sound : HasSoundRo
     (λ tested. faces-from new sound (λ f. has_sound_holes new (rings_of new f)) (λ f there. elim (touched.faces f there) [
       | inl named ↦ All-at_each (OfFace new (HasSoundHoles new)) t.faces f tested named there
       | inr s ↦
-          ap (has_sound_holes new) s.rings ∙ sound-kept old new (rings_of old f) s.positions (some-points old valid f)
+          ap (has_sound_holes new) s.rings ∙ sound-stands old new (rings_of old f) s.positions (some-points old valid f)
           ∙ faces-at old valid.sound.v1 (λ f. has_sound_holes old (rings_of old f)) valid.keeps.v8 f s.there
     ])),
     (λ v8. All-from_each (OfFace new (HasSoundHoles new)) t.faces (λ f _ there. faces-at new sound (λ f. has_sound_holes new (rings_of new f)) v8 f there)),

@@ -2,6 +2,7 @@ pub mod Anchors
 pub mod Boxes
 pub mod Corners
 pub mod Holes
+pub mod Moves
 pub mod Near
 pub mod Seen
 pub mod Rays

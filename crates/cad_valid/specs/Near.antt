@@ -23,7 +23,12 @@ pub record HoldsMap (g : Grid) (m : Map) : Type 0 where
 -- what an edit touched, by the numbers
 abbrev pub touched_of : Lists → Touched
 touched_of t =
-    record { points = t.points.items; strings = t.strings.items; faces = t.faces.items }
+    record {
+      points = t.points.items;
+      strings = t.strings.items;
+      faces = t.faces.items;
+      moved = t.moved;
+    }
 
 -- a valid map led here by an edit that touched no more than this
 pub record ComesFromValid (t : Touched) (m : Map) : Type 0 where

@@ -14,6 +14,7 @@ ghost use Rattle.cad_valid.specs.Seen.{IsSeen};
 mod corners;
 mod faces;
 mod many;
+mod moves;
 mod points;
 mod rays;
 mod seen;
@@ -31,18 +32,42 @@ use crate::near::strings::{are_uncrossed, lie_at_ends};
 use cad_map::MapView;
 use cad_rows::{Face, PointNo, Rule, StringNo};
 use cell_grid::CellGrid;
+use geo_exact::Pt;
 use std::alloc::Global;
+use std::marker::Model;
+
+/// A point that was moved, and where it lay.
+#[derive(Clone, Copy, Debug)]
+pub struct Moved {
+    pub point: PointNo,
+    pub from: Pt,
+}
+
+impl Model for Moved {
+    ghost use Rattle.geo_exact.specs.Position.{OnTheMap};
+    ghost use Rattle.cad_map.specs.Touched.{Moved};
+
+    ghost Value = { Moved };
+
+    ghost view = { λ v. record { point = v.point; from = v.from } };
+
+    ghost invariant = { λ v. OnTheMap v.from };
+
+    ghost inverse = { λ v. record { point = v.point; from = v.from } };
+}
 
 /// What an edit touched. More may be named than was.
 ///
 /// The points are those that are new, lie elsewhere, or have other strings or corners. The strings
 /// are those that are new, have other ends, or an end that lies elsewhere. The faces are those that
-/// are new, have other rings, or a point that lies elsewhere.
+/// are new, have other rings, or a point that lies elsewhere. Where the edit moved a point and did
+/// no more, it may be told; then less has to be looked at.
 #[derive(Drop)]
 pub struct Touched {
     pub points: Vec<PointNo>,
     pub strings: Vec<StringNo>,
     pub faces: Vec<Face>,
+    pub moved: Option<Moved>,
 }
 
 /// The first rule that a map breaks, as [`first_broken`](crate::first_broken) tells it, of a map
@@ -51,7 +76,9 @@ pub struct Touched {
 ///
 /// A touched face of many rings is looked at whole: its rings are walked once and laid out in memory,
 /// 32 bytes a side, with a box for each hole and at most three spans a box. Where there is no memory
-/// it does without and answers the same, by walks round each two of the rings. At a touched point of
+/// it does without and answers the same, by walks round each two of the rings. Where a point was moved
+/// that few strings have, and the move is seen to leave the rings as they were to one another, only
+/// those that pass it are walked. At a touched point of
 /// more than eight strings these are laid out too and sorted by their directions, 32 bytes a string;
 /// without memory each corner there is compared with each of them. Where 64 strings or more were
 /// touched, what the grid holds near them is laid out and compared by a sort of its boxes, some 200
@@ -82,7 +109,7 @@ pub fn first_broken_near<M: MapView>(
     if !has_empty_corners(alloc, map, touched) {
         return Some(Rule::V6);
     }
-    let rules = rules_near(alloc, map, touched);
+    let rules = rules_near(alloc, map, grid, touched);
     if !rules.outlines {
         return Some(Rule::V7);
     }
@@ -177,11 +204,18 @@ fn has_empty_corners<M: MapView>(alloc: Global, map: &M, touched: &Touched) -> b
 
 /// Whether each parcel has one outline and the outside none, and whether the holes of each face are in
 /// place. A face that wasn't touched has its own from before, and in their places.
-fn rules_near<M: MapView>(alloc: Global, map: &M, touched: &Touched) -> FaceRules
+fn rules_near<M: MapView>(alloc: Global, map: &M, grid: &CellGrid, touched: &Touched) -> FaceRules
     requires whole { HasWholeRings (M.map map.now) }
+    requires held { HoldsMap grid.now (M.map map.now) }
     requires touched { ComesFromValid (touched_of touched.now) (M.map map.now) }
     ensures outlines { IsTrue result.outlines ↔ Keeps (M.map map.now) V7 }
     ensures holes { IsTrue result.holes ↔ Keeps (M.map map.now) V8 }
 {
-    rules_of_faces(alloc, map, touched.faces.as_slice())
+    rules_of_faces(
+        alloc,
+        map,
+        grid,
+        touched.faces.as_slice(),
+        touched.moved.as_ref(),
+    )
 }

@@ -1,6 +1,6 @@
 -- What is listed of an edit's touch.
 use Rattle.std.proofs.Common.{◌≡◌, ◌<◌, take, get_or, ◌≤◌, ◌+◌, ◌⊎◌, inl, inr, ℕ, List, [], ◌∷◌, Bool, true, false, nat_eq, ◌==◌, map, refl, sym, ap, ◌∙◌, subst, Option, Some, None, true≢false, filter, length, ℤ, arith}
-use Rattle.std.specs.Prelude.{IsTrue, ◌||◌, is_some, IfNone, flat_map, option_map, unwrap_or}
+use Rattle.std.specs.Prelude.{IsTrue, ◌||◌, is_some, IfNone, IfSome, flat_map, option_map, unwrap_or}
 use Rattle.std.specs.List.{Contains, list_any}
 use Rattle.std.proofs.lemmas.Bool.{eqb-true, eq-eqb}
 use Rattle.std.proofs.lemmas.Option.{same_Some}
@@ -18,9 +18,9 @@ use Rattle.cad_rings.proofs.CallerLemmas.{sides_of-least_rotation}
 use Rattle.cad_map.specs.declared.boundary.Boundary.{Boundary}
 use Rattle.cad_map.specs.Boundaries.{is_face, canonical_form, canonical_order}
 use Rattle.cad_map.specs.Effects.{after}
-use Rattle.cad_map.specs.Map.{Map, string_of, strings_at, side_of, is_end, far_end, rings_at, all_sides}
+use Rattle.cad_map.specs.Map.{Map, position_of, string_of, strings_at, side_of, is_end, far_end, rings_at, all_sides}
 use Rattle.cad_map.specs.Merger.{ChainInRings, shared_chains, shared_sides}
-use Rattle.cad_map.specs.Touched.{Touched, IsTouched, StringStands, neighbours}
+use Rattle.cad_map.specs.Touched.{Touched, Moved, ComesByMove, IsTouched, StringStands, neighbours}
 use Rattle.cad_map.specs.Valid.{IsValid}
 use Rattle.cad_map.specs.Views.{HasFaces, HasNoFaces, HasSide, IsNoSide}
 use Rattle.cad_map.proofs.CallerLemmas.{All-follows, Contains-cases, Contains-first, Contains-later, Contains-filter, Contains-flat_map, Contains-map, filter-Contains, map-Contains, faces-told, some-faces, find-Contains, of_string, one_ring, Contains-has_side, has_side-Contains, Contains-in_part, list_any-Contains, beside, IsPermutation-canonical_order, is_face-refl, along-passed, row-found, IsFound, found}
@@ -31,11 +31,12 @@ use Rattle.cad_laws.proofs.CallerLemmas.{touched-after, merged-faces}
 
 -- more may be named
 pub more-touched : (old new : Map) (t u : Touched) → IsTouched old new t → ((p : ℕ) → Contains t.points p → Contains u.points p)
-    → ((s : ℕ) → Contains t.strings s → Contains u.strings s) → ((f : Face) → Contains t.faces f → Contains u.faces f) → IsTouched old new u
-more-touched old new t u is points strings faces = record {
+    → ((s : ℕ) → Contains t.strings s → Contains u.strings s) → ((f : Face) → Contains t.faces f → Contains u.faces f) → IfSome u.moved (ComesByMove old new) → IsTouched old new u
+more-touched old new t u is points strings faces moved = record {
   points = λ p there. either (points p) (is.points p there);
   strings = All-follows (λ s. Contains t.strings s.number ⊎ StringStands old new s) (λ s. Contains u.strings s.number ⊎ StringStands old new s) (λ s. either (strings s.number)) new.strings is.strings;
   faces = λ f there. either (faces f) (is.faces f there);
+  moved = moved;
 }
   where
     either : {X Y Z : Type 0} → (X → Y) → X ⊎ Z → Y ⊎ Z
@@ -167,18 +168,14 @@ chain-end (a ∷ b ∷ c ∷ rest) q long h =
 
 -- what is named of an edit
 module _ (m : Map) (u : Touched) where
-  pub nothing-more : (e : Edit) → IsTried m e → touched_by m e ≡ touching [] [] [] → IsTouched m (after m e) u
-  nothing-more e t none =
-      more-touched m (after m e) (touching [] [] []) u (subst (IsTouched m (after m e)) none (touched-after m e t.valid t.given t.allowed))
-      (λ p h. absurd (no p h)) (λ s h. absurd (no s h)) (λ f h. absurd (no f h))
-    where
-      no : {X : Type 0} (x : X) → Contains [] x → ⊥
-      no x h = let low = h.1 in omega arith
+  -- that nothing was moved
+  none-moved : (n : Map) → u.moved ≡ None → IfSome u.moved (ComesByMove m n)
+  none-moved n none = subst (λ (o : Option Moved). IfSome o (ComesByMove m n)) (sym none) tt
 
-  pub point-more : (p : ℕ) (x y : ℤ) → IsTried m (AddPoint p x y) → Contains u.points p → IsTouched m (after m (AddPoint p x y)) u
-  point-more p x y t there =
+  pub point-more : (p : ℕ) (x y : ℤ) → IsTried m (AddPoint p x y) → Contains u.points p → u.moved ≡ None → IsTouched m (after m (AddPoint p x y)) u
+  point-more p x y t there none =
       more-touched m (after m (AddPoint p x y)) (touching (p ∷ []) [] []) u (touched-after m (AddPoint p x y) t.valid t.given t.allowed)
-      (λ q h. one q h) (λ s h. absurd (no s h)) (λ f h. absurd (no f h))
+      (λ q h. one q h) (λ s h. absurd (no s h)) (λ f h. absurd (no f h)) (none-moved (after m (AddPoint p x y)) none)
     where
       no : {X : Type 0} (x : X) → Contains [] x → ⊥
       no x h = let low = h.1 in omega arith
@@ -195,12 +192,14 @@ module _ (m : Map) (u : Touched) where
 
   pub move-more : (p : ℕ) (x y : ℤ) → IsTried m (Move p x y) → Contains u.points p
       → ((s : StringRow) → Contains (strings_at m p) s → Contains u.strings s.number)
-      → ((b : Boundary) → Contains m.boundaries b → IsTrue (passes p b.ring) → Contains u.faces b.face) → IsTouched m (after m (Move p x y)) u
-  move-more p x y t there strings faces =
+      → ((b : Boundary) → Contains m.boundaries b → IsTrue (passes p b.ring) → Contains u.faces b.face)
+      → u.moved ≡ Some (record { point = p; from = position_of m p }) → IsTouched m (after m (Move p x y)) u
+  move-more p x y t there strings faces moved =
       more-touched m (after m (Move p x y)) (touched_by m (Move p x y)) u (touched-after m (Move p x y) t.valid t.given t.allowed)
       one
       (λ n h. let s = map-Contains (λ (s : StringRow). s.number) (strings_at m p) n h in subst (Contains u.strings) s.2 (strings s.0 s.1))
       (faces-all (passes p) faces)
+      (subst (λ (o : Option Moved). IfSome o (ComesByMove m (after m (Move p x y)))) (sym moved) (touched-after m (Move p x y) t.valid t.given t.allowed).moved)
     where
       one : (q : ℕ) → Contains (p ∷ []) q → Contains u.points q
       one q h = elim (Contains-cases p [] q h) [ inl same ↦ subst (Contains u.points) same there | inr later ↦ let low = later.1 in absurd (omega arith) ]
@@ -208,21 +207,21 @@ module _ (m : Map) (u : Touched) where
   -- the ends of a string that is split, and the faces on both its sides
   pub split-more : (s p : ℕ) (x y : ℤ) (first second : ℕ) (row : StringRow) → IsTried m (Split s p x y first second) → string_of m s ≡ Some row
       → u.points ≡ p ∷ row.from ∷ row.to ∷ [] → u.strings ≡ first ∷ second ∷ []
-      → ((b : Boundary) → Contains m.boundaries b → IsTrue (goes_along row b.ring) → Contains u.faces b.face) → IsTouched m (after m (Split s p x y first second)) u
-  split-more s p x y first second row t found points strings faces =
+      → ((b : Boundary) → Contains m.boundaries b → IsTrue (goes_along row b.ring) → Contains u.faces b.face) → u.moved ≡ None → IsTouched m (after m (Split s p x y first second)) u
+  split-more s p x y first second row t found points strings faces none =
       let is : touched_by m (Split s p x y first second) ≡ touched_by_split m p first second row =
       ap (λ (o : Option StringRow). unwrap_or (option_map (touched_by_split m p first second) o) (touching [] [] [])) found in
       more-touched m (after m (Split s p x y first second)) (touched_by_split m p first second row) u
       (subst (IsTouched m (after m (Split s p x y first second))) is (touched-after m (Split s p x y first second) t.valid t.given t.allowed))
       (λ q h. subst (λ (l : List ℕ). Contains l q) (sym points) h) (λ n h. subst (λ (l : List ℕ). Contains l n) (sym strings) h)
-      (faces-all (goes_along row) faces)
+      (faces-all (goes_along row) faces) (none-moved (after m (Split s p x y first second)) none)
 
   -- the far ends of two strings that are joined, and the faces round the point
   pub join-more : (p new : ℕ) → IsTried m (Join p new) → ((q : ℕ) → Contains (neighbours m p) q → Contains u.points q) → u.strings ≡ new ∷ []
-      → ((b : Boundary) → Contains m.boundaries b → IsTrue (passes p b.ring) → Contains u.faces b.face) → IsTouched m (after m (Join p new)) u
-  join-more p new t points strings faces =
+      → ((b : Boundary) → Contains m.boundaries b → IsTrue (passes p b.ring) → Contains u.faces b.face) → u.moved ≡ None → IsTouched m (after m (Join p new)) u
+  join-more p new t points strings faces none =
       more-touched m (after m (Join p new)) (touched_by m (Join p new)) u (touched-after m (Join p new) t.valid t.given t.allowed)
-      points (λ n h. subst (λ (l : List ℕ). Contains l n) (sym strings) h) (faces-all (passes p) faces)
+      points (λ n h. subst (λ (l : List ℕ). Contains l n) (sym strings) h) (faces-all (passes p) faces) (none-moved (after m (Join p new)) none)
 
   -- just what is named
   pub just-touched : (e : Edit) → IsTried m e → u ≡ touched_by m e → IsTouched m (after m e) u
@@ -249,14 +248,15 @@ module _ (m : Map) (u : Touched) where
         let two = both-ends side.0 (it.1.in_kept side.0 side.1) (it.1.in_ended side.0 side.1) in
         elim side.2 [ inl first ↦ subst (Contains u.points) first two.0 | inr last ↦ subst (Contains u.points) last two.1 ]
 
-    pub merge-more : Contains u.faces kept → IsTouched m (after m (Merge kept ended)) u
-    merge-more face =
+    pub merge-more : Contains u.faces kept → u.moved ≡ None → IsTouched m (after m (Merge kept ended)) u
+    merge-more face none =
         more-touched m (after m (Merge kept ended)) (touched_by m (Merge kept ended)) u (touched-after m (Merge kept ended) t.valid t.given t.allowed)
         (λ q h.
         let x = Contains-in_part points_of_shared_chain (shared_chains m kept ended) q h in
         chain-points x.0 (found m t.valid kept ended x.0 x.1) (merged-faces m kept ended x.0 t.valid t.allowed x.1) q x.2)
         (λ n h. let low = h.1 in absurd (omega arith))
         (λ f h. elim (Contains-cases kept [] f h) [ inl same ↦ subst (Contains u.faces) same face | inr later ↦ let low = later.1 in absurd (omega arith) ])
+        (none-moved (after m (Merge kept ended)) none)
 
 -- ---- Rings as a view keeps them
 

@@ -1,5 +1,5 @@
 //! What an edit touches, listed on the map before it.
-ghost use Rattle.std.specs.Prelude.{◌≡◌, ◌<◌, ◌∷◌, [], ℕ, length, IsTrue, IsSome, Some, IfOk, OnOk};
+ghost use Rattle.std.specs.Prelude.{◌≡◌, ◌<◌, ◌∷◌, [], ℕ, length, IsTrue, IsSome, Some, None, IfOk, OnOk};
 ghost use Rattle.std.specs.List.{Contains};
 ghost use Rattle.cad_rings.specs.Cycle.{Side, opposite, sides_of};
 ghost use Rattle.cad_rows.specs.declared.names.Face.{Face as FaceOf};
@@ -7,7 +7,7 @@ ghost use Rattle.cad_rows.specs.declared.names.Face.TheVariants as face_of;
 ghost use Rattle.cad_rows.specs.declared.rows.StringRow.{StringRow as StringOf};
 ghost use Rattle.cad_map.specs.declared.boundary.Boundary.{Boundary as BoundaryOf};
 ghost use Rattle.cad_map.specs.Effects.{after};
-ghost use Rattle.cad_map.specs.Map.{far_end as far_end_of, rings_at, string_of, strings_at};
+ghost use Rattle.cad_map.specs.Map.{far_end as far_end_of, position_of, rings_at, string_of, strings_at};
 ghost use Rattle.cad_map.specs.Rings.{HasWholeRings, ring_at};
 ghost use Rattle.cad_map.specs.Touched.{IsTouched, neighbours};
 ghost use Rattle.cad_map.specs.Valid.{IsValid};
@@ -17,9 +17,9 @@ ghost use Rattle.cad_laws.specs.Tried.{IsTried};
 ghost use Rattle.cad_valid.specs.Near.{touched_of};
 
 use crate::point_strings::string_at;
-use cad_map::{MapView, Walk, far_end, is_face, ring_count};
+use cad_map::{MapView, Walk, far_end, is_face, position, ring_count};
 use cad_rows::{Edit, Face, Memory, ParcelNo, PointNo, StringNo, StringRow};
-use cad_valid::Touched;
+use cad_valid::{Moved, Touched};
 use std::alloc::Global;
 
 /// Adds the faces on both sides of a string: those of the rings that go along it.
@@ -113,19 +113,21 @@ fn nothing(alloc: Global) -> Touched
         points: Vec::new(alloc),
         strings: Vec::new(alloc),
         faces: Vec::new(alloc),
+        moved: None,
     }
 }
 
 // A point that is on no string.
 fn lone(alloc: Global, point: PointNo) -> Result<Touched, Memory>
-    ensures { IfOk result (λ t. Contains t.points.items point) }
+    ensures point { IfOk result (λ t. Contains t.points.items point) }
+    ensures moved { IfOk result (λ t. (touched_of t).moved ≡ None) }
 {
     let mut touched = nothing(alloc);
     touched.points.push(point)?;
     Ok(touched)
 }
 
-// A point, its strings, and the faces round it.
+// A point that is moved, its strings, the faces round it, and where it lay.
 fn around<M: MapView>(alloc: Global, map: &M, point: PointNo) -> Result<Touched, Memory>
     requires { IsValid (M.map map.now) }
     ensures point { IfOk result (λ t. Contains t.points.items point) }
@@ -134,15 +136,19 @@ fn around<M: MapView>(alloc: Global, map: &M, point: PointNo) -> Result<Touched,
         → Contains t.strings.items s.number) }
     ensures faces { IfOk result (λ t. (b : BoundaryOf) → Contains (M.map map.now).boundaries b
         → IsTrue (passes point b.ring) → Contains t.faces.items b.face) }
+    ensures moved { IfOk result (λ t. (touched_of t).moved
+        ≡ Some (record { point = point; from = position_of (M.map map.now) point })) }
 {
     let mut points = Vec::new(alloc);
     points.push(point)?;
     let strings = strings_of(alloc, map, point)?;
     let faces = faces_at(alloc, map, point)?;
+    let from = position(map, point);
     Ok(Touched {
         points,
         strings,
         faces,
+        moved: Some(Moved { point, from }),
     })
 }
 
@@ -163,6 +169,7 @@ fn beside<M: MapView>(
     ensures faces { IfOk result (λ t. (s : StringOf) (b : BoundaryOf)
         → string_of (M.map map.now) string ≡ Some s → Contains (M.map map.now).boundaries b
         → IsTrue (goes_along s b.ring) → Contains t.faces.items b.face) }
+    ensures moved { IfOk result (λ t. (touched_of t).moved ≡ None) }
 {
     let row = map.string(string).unwrap();
     let mut points = Vec::new(alloc);
@@ -178,6 +185,7 @@ fn beside<M: MapView>(
         points,
         strings,
         faces,
+        moved: None,
     })
 }
 
@@ -208,6 +216,7 @@ fn across<M: MapView>(
     ensures strings { IfOk result (λ t. t.strings.items ≡ string ∷ []) }
     ensures faces { IfOk result (λ t. (b : BoundaryOf) → Contains (M.map map.now).boundaries b
         → IsTrue (passes point b.ring) → Contains t.faces.items b.face) }
+    ensures moved { IfOk result (λ t. (touched_of t).moved ≡ None) }
 {
     let points = far_ends(alloc, map, point)?;
     let mut strings = Vec::new(alloc);
@@ -217,6 +226,7 @@ fn across<M: MapView>(
         points,
         strings,
         faces,
+        moved: None,
     })
 }
 
@@ -238,6 +248,7 @@ fn along(
         points: Vec::from_slice(alloc, points)?,
         strings: Vec::from_slice(alloc, strings)?,
         faces,
+        moved: None,
     })
 }
 
@@ -322,6 +333,7 @@ fn between<M: MapView>(alloc: Global, map: &M, kept: &Face, ended: &Face) -> Res
         → HasSide (M.map map.now) kept.now (opposite s)
         → Contains t.points.items s.0 × Contains t.points.items s.1) }
     ensures face { IfOk result (λ t. Contains t.faces.items kept.now) }
+    ensures moved { IfOk result (λ t. (touched_of t).moved ≡ None) }
 {
     let points = shared_ends(alloc, map, ended, kept)?;
     let mut faces = Vec::new(alloc);
@@ -330,6 +342,7 @@ fn between<M: MapView>(alloc: Global, map: &M, kept: &Face, ended: &Face) -> Res
         points,
         strings: Vec::new(alloc),
         faces,
+        moved: None,
     })
 }
 

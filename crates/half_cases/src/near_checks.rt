@@ -272,6 +272,8 @@ fn check_islands<R: Abort + AllocGlobal>(rt: &R, count: u32) -> Result<(), Fail>
     let plan = with_islands(rt.alloc(), count)?;
     for (edit, rule) in [
         ("move,11,1400,1200,,,", None),
+        // The tall island's anchor is moved.
+        ("move,10,900,500,,,", None),
         // The tall island's tip goes past the next island, which is in it then.
         ("move,11,2900,1200,,,", Some(Rule::V8)),
         // The lot is folded away from its islands.
@@ -313,10 +315,18 @@ fn corners_at_a_point_of_many_strings_are_told_as_others(rt: HostRuntime) -> Res
 fn many_rings_are_walked_once_each(rt: HostRuntime) -> Result<(), Fail> {
     let few = with_islands(rt.alloc(), 12)?;
     let many = with_islands(rt.alloc(), 24)?;
-    let calls = near_calls(&rt, few.as_str(), "move,11,1400,1200,,,")?;
-    let more = near_calls(&rt, many.as_str(), "move,11,1400,1200,,,")?;
+    // The point is its island's anchor: of each ring it is asked whether that lies inside.
+    let calls = near_calls(&rt, few.as_str(), "move,10,900,500,,,")?;
+    let more = near_calls(&rt, many.as_str(), "move,10,900,500,,,")?;
     assert!(rt; calls < more && more < calls.saturating_mul(3));
     Ok(())
+}
+
+#[test]
+fn a_move_among_many_rings_walks_those_that_pass_the_point(rt: HostRuntime) -> Result<(), Fail> {
+    let few = with_islands(rt.alloc(), 12)?;
+    let many = with_islands(rt.alloc(), 24)?;
+    check_larger(&rt, few.as_str(), many.as_str(), "move,11,1400,1200,,,")
 }
 
 #[test]

@@ -1,12 +1,12 @@
 -- A walk that begins at any side of a ring, and which sides it meets.
-use Rattle.std.proofs.Common.{◌≡◌, ℕ, ◌+◌, ◌*◌, ◌≤◌, refl, sym, ap, subst, ◌∙◌, List, [], ◌∷◌, ◌++◌, length, map, drop, take, Option, Some, Bool, true, false, arith, slice_get}
+use Rattle.std.proofs.Common.{◌≡◌, ℕ, ◌+◌, ◌*◌, ◌≤◌, refl, sym, ap, subst, ◌∙◌, List, [], ◌∷◌, ◌++◌, length, map, drop, take, Option, Some, Bool, true, false, arith, slice_get, length-append}
 use Rattle.std.specs.Prelude.{◌&&◌, flat_map, IsPermutation}
 use Rattle.std.specs.List.{Contains, list_any}
 use Rattle.std.specs.Iterator.{Yields}
 use Rattle.std.proofs.lemmas.Option.{slice_get_read}
 use Rattle.std.proofs.lemmas.List.Sorted.{IsPermutation-refl, IsPermutation-sym, IsPermutation-trans, IsPermutation-append, Contains-permutation}
 use Rattle.cad_rows.specs.declared.names.Face.{Face}
-use Rattle.cad_rings.specs.Cycle.{Ring, Side, has_side, sides_of, Corner, corners_of, turned}
+use Rattle.cad_rings.specs.Cycle.{Ring, Side, has_side, sides_of, Corner, corners_of, turned, IsSameRing}
 use Rattle.cad_rings.proofs.CallerLemmas.{sides_of-turned, sides_of-same, corners_of-same, IsSameRing-turned, length-turned, length-sides_of}
 use Rattle.cad_map.specs.declared.boundary.Boundary.{Boundary}
 use Rattle.cad_map.specs.Boundaries.{bounding, sides_in, corners_in}
@@ -18,7 +18,7 @@ use Rattle.cad_map.proofs.Lists.EachElement.{All-map, All-follows, drop-at}
 use Rattle.cad_map.proofs.Lists.Elements.{Contains-map, Contains-in_part, All-at_each, list_any-Contains}
 use Rattle.cad_map.proofs.Lists.ElementFacts.{list_any-none}
 use Rattle.cad_map.proofs.Walks.Counted.{times-permuted}
-use Rattle.cad_map.proofs.Walks.AlongRing.{once-from_pairs, AreRingsOf, on_ring-begins, on_ring-yields, on_ring-ends, on_ring-Contains}
+use Rattle.cad_map.proofs.Walks.AlongRing.{once-from_pairs, AreRingsOf, on_ring-begins, on_ring-yields, on_ring-ends, on_ring-side, on_ring-Contains}
 use Rattle.cad_map.proofs.Boundaries.FacesBeside.{has_side-Contains, Contains-has_side}
 use Rattle.cad_map.proofs.Walks.ChosenCorners.{face-ring}
 use Rattle.cad_map.proofs.Parcels.CutSides.{only-in}
@@ -72,14 +72,14 @@ module _ (m : Map) (whole : HasWholeRings m) (face : Face) (s : Side) (ring : Ri
   k = has.0
 
   -- the ring, written from the side on
-  abbrev ring_on : Ring
+  abbrev pub ring_on : Ring
   ring_on = turned k own.0.ring
 
   on-same : IsPermutation (sides_of ring) (sides_of ring_on)
   on-same = subst (λ (r : Ring). IsPermutation (sides_of r) (sides_of ring_on)) own.3 (sides_of-same own.0.ring ring_on (IsSameRing-turned k own.0.ring))
 
-  begins : first_side ring_on ≡ Some s
-  begins =
+  pub begins-from : first_side ring_on ≡ Some s
+  begins-from =
       let at : slice_get (sides_of ring) k ≡ Some s = slice_get_read (sides_of ring) (length (sides_of ring)) k s refl has.1 (sym has.2) in
       let on = sides_of-turned k own.0.ring ∙ ap (λ (r : Ring). drop k (sides_of r) ++ take k (sides_of r)) own.3 ∙ ap (λ (l : List Side). l ++ take k (sides_of ring)) (drop-at (sides_of ring) k s at) in
       first-is s ring_on (drop (k + 1) (sides_of ring) ++ take k (sides_of ring)) on
@@ -103,17 +103,47 @@ module _ (m : Map) (whole : HasWholeRings m) (face : Face) (s : Side) (ring : Ri
       let old = length-sides_of own.0.ring in
       let room : length (sides_of ring_on) ≤ (at begun).most = let e = ap (λ (w : Walking). w.most) stands in omega (arith, few, long, same, old, e) in
       on_ring-yields m bs rings (from_place k own.0) among at [] begun xs t gives
-      (on_ring-begins m bs rings (from_place k own.0) among s (at begun) begins room (ap (λ (w : Walking). w.map) stands) (ap (λ (w : Walking). w.first) stands) (ap (λ (w : Walking). w.at) stands))
+      (on_ring-begins m bs rings (from_place k own.0) among s (at begun) begins-from room (ap (λ (w : Walking). w.map) stands) (ap (λ (w : Walking). w.first) stands) (ap (λ (w : Walking). w.at) stands))
 
   -- each side that it gives is one of the ring's
   pub walked-on_ring : (given : List Side) (w : Walking) (t : Side) (v : Walking) → IsOnRing m ring_on given w → GoesOn w t v → Contains (sides_of ring) t
   walked-on_ring given w t v on goes =
       Contains-permutation (sides_of ring_on) (sides_of ring) t (IsPermutation-sym (sides_of ring) (sides_of ring_on) on-same) (on_ring-Contains m bs rings (from_place k own.0) among given w t on goes.here)
 
-  -- and at its end it has given all
+  -- with that side it has given no more than the strings have
+  pub few-from : (given : List Side) (w : Walking) (t : Side) (v : Walking) → IsOnRing m ring_on given w → GoesOn w t v → length (given ++ t ∷ []) ≤ 400000
+  few-from given w t v on goes =
+      let side = on_ring-side m bs rings (from_place k own.0) among given w t on goes.here in
+      let few = ring-sides-few m m.boundaries whole whole.v1.canonical (two-each m whole) own.0 own.1 in
+      let long = length-sides_of ring_on in
+      let same = length-turned k own.0.ring in
+      let old = length-sides_of own.0.ring in
+      let one = ap length side.1 in
+      let all = length-append given (t ∷ side.0) in
+      let now = length-append given (t ∷ []) in
+      let most = whole.v1.few_strings in
+      omega arith
+
+  -- at its end it has given the sides of the ring, written from the side on
+  pub all-from : (given : List Side) (w : Walking) → IsOnRing m ring_on given w → sides_ahead w ≡ [] → given ≡ sides_of ring_on
+  all-from given w on none = on_ring-ends m bs rings (from_place k own.0) among given w on none
+
+  -- which is the same ring
+  pub same-from : IsSameRing ring ring_on
+  same-from = subst (λ (r : Ring). IsSameRing r ring_on) own.3 (IsSameRing-turned k own.0.ring)
+
+  -- so each of them
   pub walked-round : (given : List Side) (w : Walking) → IsOnRing m ring_on given w → sides_ahead w ≡ [] → (t : Side) → Contains (sides_of ring) t → Contains given t
   walked-round given w on none t h =
-      subst (λ (l : List Side). Contains l t) (sym (on_ring-ends m bs rings (from_place k own.0) among given w on none)) (Contains-permutation (sides_of ring) (sides_of ring_on) t on-same h)
+      subst (λ (l : List Side). Contains l t) (sym (all-from given w on none)) (Contains-permutation (sides_of ring) (sides_of ring_on) t on-same h)
+
+  -- it is the map's only ring with the side
+  pub only-from : (b : Boundary) → Contains m.boundaries b → Contains (sides_of b.ring) s → b.ring ≡ ring
+  only-from b h k =
+      let once = once-from_pairs (all_sides m) whole.once s in
+      let one = (only-in s m.boundaries b h k once).ring in
+      let two = (only-in s m.boundaries own.0 own.1 (subst (λ (q : Ring). Contains (sides_of q) s) (sym own.3) has) once).ring in
+      sym one ∙ two ∙ own.3
 
   -- ---- Two sides in one ring
 
@@ -127,10 +157,7 @@ module _ (m : Map) (whole : HasWholeRings m) (face : Face) (s : Side) (ring : Ri
   only : (r : Ring) → Contains (rings_of m face) r → Contains (sides_of r) s → r ≡ ring
   only r h k =
       let other = face-ring m face r h in
-      let once = once-from_pairs (all_sides m) whole.once s in
-      let one = (only-in s m.boundaries other.0 other.1 (subst (λ (q : Ring). Contains (sides_of q) s) (sym other.3) k) once).ring in
-      let two = (only-in s m.boundaries own.0 own.1 (subst (λ (q : Ring). Contains (sides_of q) s) (sym own.3) has) once).ring in
-      sym other.3 ∙ sym one ∙ two ∙ own.3
+      sym other.3 ∙ only-from other.0 other.1 (subst (λ (q : Ring). Contains (sides_of q) s) (sym other.3) k)
 
   pub in_two_rings : (t : Side) → has_side t (sides_of ring) ≡ false → list_any (both_in t) (rings_of m face) ≡ false
   in_two_rings t missed = list_any-none (both_in t) (rings_of m face) (λ r h. by r h (has_side s (sides_of r)) refl)

@@ -164,6 +164,27 @@ least-all first (a ∷ points) begins =
 
 -- ---- Positions and bounds
 
+-- wherever points lie on the map
+module _ (position : ℕ → Position) (on_map : (p : ℕ) → OnTheMap (position p)) where
+  -- so many sides' measures, added up, stay in bounds
+  pub placed-bounded : (f : Measure) → IsBounded f → (sides : List Side) → length sides ≤ 400000 → unsigned_abs (sum_over f (placed position sides)) ≤ 80000000000000000000000000
+  placed-bounded f bounded sides few =
+      let bound = sum_over-bounded f bounded (placed position sides) (all_on sides) in
+      let same : length (placed position sides) ≡ length sides = length-map sides (λ (t : Side). (position t.0, position t.1)) in
+      omega arith
+    where
+      all_on : (ss : List Side) → AllByRecursion (λ side. OnTheMap side.0 × OnTheMap side.1) (placed position ss)
+      all_on [] = tt
+      all_on (s ∷ ss) = ((on_map s.0, on_map s.1), all_on ss)
+
+  -- and so fit
+  pub placed-fits : (f : Measure) → IsBounded f → (sides : List Side) → length sides ≤ 400000 → FitsSigned w128 (sum_over f (placed position sides))
+  placed-fits f bounded sides few = small (sum_over f (placed position sides)) (placed-bounded f bounded sides few)
+    where
+      small : (z : ℤ) → unsigned_abs z ≤ 80000000000000000000000000 → FitsSigned w128 z
+      small (pos n) h = omega (arith, ints)
+      small (negsuc n) h = omega (arith, ints)
+
 module _ (m : Map) (sound : HasSoundRows m) where
   -- also a point that isn't there has a position on the map, the origin
   pub position-on_map : (p : ℕ) → OnTheMap (position_of m p)
@@ -181,21 +202,9 @@ module _ (m : Map) (sound : HasSoundRows m) where
           by true is rest = rw is all.0
           by false is rest = rw is rest
 
-  -- so many sides' measures, added up, stay in bounds
+  -- the sums of sides where the map's points lie
   pub sum-bounded : (f : Measure) → IsBounded f → (sides : List Side) → length sides ≤ 400000 → unsigned_abs (sum_over f (placed (position_of m) sides)) ≤ 80000000000000000000000000
-  sum-bounded f bounded sides few =
-      let bound = sum_over-bounded f bounded (placed (position_of m) sides) (all_on sides) in
-      let same : length (placed (position_of m) sides) ≡ length sides = length-map sides (λ (t : Side). (position_of m t.0, position_of m t.1)) in
-      omega arith
-    where
-      all_on : (ss : List Side) → AllByRecursion (λ side. OnTheMap side.0 × OnTheMap side.1) (placed (position_of m) ss)
-      all_on [] = tt
-      all_on (s ∷ ss) = ((position-on_map s.0, position-on_map s.1), all_on ss)
+  sum-bounded = placed-bounded (position_of m) position-on_map
 
-  -- and so fit
   pub sum-fits : (f : Measure) → IsBounded f → (sides : List Side) → length sides ≤ 400000 → FitsSigned w128 (sum_over f (placed (position_of m) sides))
-  sum-fits f bounded sides few = small (sum_over f (placed (position_of m) sides)) (sum-bounded f bounded sides few)
-    where
-      small : (z : ℤ) → unsigned_abs z ≤ 80000000000000000000000000 → FitsSigned w128 z
-      small (pos n) h = omega (arith, ints)
-      small (negsuc n) h = omega (arith, ints)
+  sum-fits = placed-fits (position_of m) position-on_map

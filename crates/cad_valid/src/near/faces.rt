@@ -1,20 +1,25 @@
 //! Whether touched faces have their outlines, and their holes in place.
-ghost use Rattle.std.specs.Prelude.{◌≡◌, ◌↔◌, ◌<◌, ◌≤◌, ◌*◌, IsTrue, length, map as map_of, IfOk};
+ghost use Rattle.std.specs.Prelude.{◌≡◌, ◌↔◌, ◌<◌, ◌≤◌, ◌*◌, IsTrue, length, map as map_of, IfOk, IfSome};
 ghost use Rattle.std.specs.List.{AllByRecursion};
 ghost use Rattle.cad_rows.specs.Limits.{string_limit};
 ghost use Rattle.cad_map.specs.Boundaries.{canonical_order};
 ghost use Rattle.cad_map.specs.Map.{rings_at, position_of};
 ghost use Rattle.cad_map.specs.Rings.{HasWholeRings, ring_at};
+ghost use Rattle.cad_valid.specs.Moves.{MovesValid};
+ghost use Rattle.cad_valid.specs.Near.{HoldsMap};
 ghost use Rattle.cad_valid.specs.Near.{OfFace, HasOutlines, HasSoundHoles};
 ghost use Rattle.cad_valid.specs.Near.{outlines_wanted as outlines_wanted_of, rules_of};
 ghost use Rattle.cad_valid.specs.Shapes.{shape_of, told_apart};
 
 use crate::face_shapes::FaceShapes;
 use crate::holes::has_sound_holes;
+use crate::near::Moved;
+use crate::near::moves::leaves_faces;
 use crate::outlines::has_outlines;
 use crate::shapes::PlacedRing;
 use cad_map::{MapView, Walk, has_face, ring_count};
 use cad_rows::{Face, Memory};
+use cell_grid::CellGrid;
 use std::alloc::Global;
 
 /// Up to so many rings of a face are walked each time that something is asked of one, which takes no
@@ -31,8 +36,16 @@ pub(crate) struct FaceRules {
 }
 
 /// What the rings of these faces tell. One that the map doesn't have breaks no rule.
-pub(crate) fn rules_of_faces<M: MapView>(alloc: Global, map: &M, faces: &[Face]) -> FaceRules
-    requires { HasWholeRings (M.map map.now) }
+pub(crate) fn rules_of_faces<M: MapView>(
+    alloc: Global,
+    map: &M,
+    grid: &CellGrid,
+    faces: &[Face],
+    moved: Option<&Moved>,
+) -> FaceRules
+    requires whole { HasWholeRings (M.map map.now) }
+    requires held { HoldsMap grid.now (M.map map.now) }
+    requires moved { IfSome moved (λ v. MovesValid (M.map map.now) v.now) }
     ensures outlines { IsTrue result.outlines
         ↔ AllByRecursion (OfFace (M.map map.now) (HasOutlines (M.map map.now))) faces.now }
     ensures holes { IsTrue result.holes
@@ -41,26 +54,46 @@ pub(crate) fn rules_of_faces<M: MapView>(alloc: Global, map: &M, faces: &[Face])
     let mut outlines = true;
     let mut holes = true;
     for face in faces {
-        let rules = rules_of_face_if_there(alloc, map, face);
+        let rules = rules_of_face_if_there(alloc, map, grid, face, moved);
         outlines &= rules.outlines;
         holes &= rules.holes;
     }
     FaceRules { outlines, holes }
 }
 
-/// What the rings of a face tell, if the map has it.
-fn rules_of_face_if_there<M: MapView>(alloc: Global, map: &M, face: &Face) -> FaceRules
-    requires { HasWholeRings (M.map map.now) }
+/// What the rings of a face tell, if the map has it. Where it has many, and a move is seen to leave
+/// rings as they were to one another, they aren't looked at: they broke no rule before.
+fn rules_of_face_if_there<M: MapView>(
+    alloc: Global,
+    map: &M,
+    grid: &CellGrid,
+    face: &Face,
+    moved: Option<&Moved>,
+) -> FaceRules
+    requires whole { HasWholeRings (M.map map.now) }
+    requires held { HoldsMap grid.now (M.map map.now) }
+    requires moved { IfSome moved (λ v. MovesValid (M.map map.now) v.now) }
     ensures outlines { IsTrue result.outlines
         ↔ OfFace (M.map map.now) (HasOutlines (M.map map.now)) face.now }
     ensures holes { IsTrue result.holes
         ↔ OfFace (M.map map.now) (HasSoundHoles (M.map map.now)) face.now }
 {
+    if has_many_rings(map, face) && leaves_faces(map, grid, moved) {
+        return FaceRules {
+            outlines: true,
+            holes: true,
+        };
+    }
     let rules = rules_of_face(alloc, map, face);
     FaceRules {
         outlines: rules.outlines || !has_face(map, face),
         holes: rules.holes || !has_face(map, face),
     }
+}
+
+/// Whether a face has more than [`FEW_RINGS`].
+fn has_many_rings<M: MapView>(map: &M, face: &Face) -> bool {
+    map.ring_side(*face, FEW_RINGS).is_some()
 }
 
 /// What the rings of a face tell.
@@ -72,7 +105,7 @@ fn rules_of_face<M: MapView>(alloc: Global, map: &M, face: &Face) -> FaceRules
     requires { HasWholeRings (M.map map.now) }
     ensures { result ≡ rules_of (M.map map.now) face.now }
 {
-    if map.ring_side(*face, FEW_RINGS).is_none() {
+    if !has_many_rings(map, face) {
         return rules_by_walks(map, face);
     }
     match rules_by_shapes(alloc, map, face) {

@@ -1,0 +1,178 @@
+//! Whether a move leaves rings as they were to one another: seen by the rings that pass the point, and
+//! by the points that lie near it.
+ghost use Rattle.std.specs.Prelude.{◌≡◌, ◌≢◌, ℕ, pos, int_lt, not, IsTrue, IfSome};
+ghost use Rattle.std.specs.List.{AllByRecursion, Contains, list_all};
+ghost use Rattle.geo_exact.specs.Position.{Position};
+ghost use Rattle.cad_rows.specs.declared.names.Face.{Face as FaceOf};
+ghost use Rattle.cell_grid.specs.Grid.{HoldsPoint};
+ghost use Rattle.cad_rings.specs.Cycle.{Side};
+ghost use Rattle.cad_map.specs.Map.{all_sides, has_face};
+ghost use Rattle.cad_map.specs.Rings.{HasWholeRings};
+ghost use Rattle.cad_valid.specs.Moves.{lay as lay_of, is_counted_anew as is_counted_anew_of};
+ghost use Rattle.cad_valid.specs.Moves.{goes_past_alike as goes_past_alike_of};
+ghost use Rattle.cad_valid.specs.Moves.{is_past_alike as is_past_alike_of};
+ghost use Rattle.cad_valid.specs.Moves.{LeavesRings, MovesValid, TurnAlong};
+ghost use Rattle.cad_valid.specs.Near.{HoldsMap, HasOutlines, HasSoundHoles};
+ghost use Rattle.cad_valid.specs.Rays.{AreRaysOf};
+ghost use Rattle.cad_valid.specs.Seen.{IsInReach};
+
+use crate::near::Moved;
+use crate::near::rays::{MOST_RAYS, Ray, rays_at};
+use crate::near::seen::{Reach, grown};
+use cad_map::{MapView, Walk, position};
+use cad_rows::PointNo;
+use cell_grid::{CellGrid, HeldPoint};
+use geo_exact::{DoubledArea, Pt, SideMeasure, crosses};
+
+/// Whether a move, if there was one, is seen to leave the rings of each face as they were to one
+/// another. It walks along the rings that pass the point, and looks at what the grid holds near it.
+pub(crate) fn leaves_faces<M: MapView>(map: &M, grid: &CellGrid, moved: Option<&Moved>) -> bool
+    requires whole { HasWholeRings (M.map map.now) }
+    requires held { HoldsMap grid.now (M.map map.now) }
+    requires moved { IfSome moved (λ v. MovesValid (M.map map.now) v.now) }
+    ensures outlines { IsTrue result → (f : FaceOf) → IsTrue (has_face (M.map map.now) f)
+        → HasOutlines (M.map map.now) f }
+    ensures holes { IsTrue result → (f : FaceOf) → IsTrue (has_face (M.map map.now) f)
+        → HasSoundHoles (M.map map.now) f }
+{
+    match moved {
+        Some(moved) => leaves_rings(map, grid, moved),
+        None => false,
+    }
+}
+
+/// Whether a move is seen to leave all rings as they were to one another.
+fn leaves_rings<M: MapView>(map: &M, grid: &CellGrid, moved: &Moved) -> bool
+    requires whole { HasWholeRings (M.map map.now) }
+    requires held { HoldsMap grid.now (M.map map.now) }
+    ensures { IsTrue result → LeavesRings (M.map map.now) moved.now }
+{
+    if map.degree(moved.point) > MOST_RAYS {
+        return false;
+    }
+    let rays = rays_at(map, moved.point);
+    let at = position(map, moved.point);
+    go_past_alike(grid, moved, at, rays.as_slice()) && turn_as_before(map, moved, rays.as_slice())
+}
+
+// ---- Points
+
+/// Whether of the sides from a ray's end to where a point is and to where it lay one is counted at q.
+fn is_counted_anew(at: Pt, from: Pt, q: Pt, ray: &Ray) -> bool
+    ensures { result ≡ is_counted_anew_of at from q ray.now.position }
+{
+    if crosses(ray.position, at, q) {
+        !crosses(ray.position, from, q)
+    } else {
+        crosses(ray.position, from, q)
+    }
+}
+
+/// Whether a point went past q with all its sides.
+fn goes_past_with_all(at: Pt, from: Pt, rays: &[Ray], q: Pt) -> bool
+    ensures { result ≡ list_all (λ r. is_counted_anew_of at from q r.position) rays.now }
+{
+    rays.iter().all(|ray| is_counted_anew(at, from, q, ray))
+}
+
+/// Whether it went past q with none of them.
+fn goes_past_with_none(at: Pt, from: Pt, rays: &[Ray], q: Pt) -> bool
+    ensures { result ≡ list_all (λ r. not (is_counted_anew_of at from q r.position)) rays.now }
+{
+    rays.iter().all(|ray| !is_counted_anew(at, from, q, ray))
+}
+
+/// Whether it went past q with all its sides, or with none.
+fn goes_past_alike(at: Pt, from: Pt, rays: &[Ray], q: Pt) -> bool
+    ensures { result ≡ goes_past_alike_of at from rays.now q }
+{
+    goes_past_with_all(at, from, rays, q) || goes_past_with_none(at, from, rays, q)
+}
+
+/// Whether a held point is the moved one, or that went past it so.
+fn is_past_alike(at: Pt, moved: &Moved, rays: &[Ray], held: &HeldPoint) -> bool
+    ensures { result ≡ is_past_alike_of at moved.now rays.now held.now }
+{
+    held.point.get() == moved.point.get() || goes_past_alike(at, moved.from, rays, held.position)
+}
+
+/// The box of a point, of where it lay, and of the ends of its rays.
+fn reach_round(at: Pt, from: Pt, rays: &[Ray]) -> Reach
+    ensures at { IsInReach result at }
+    ensures from { IsInReach result from }
+    ensures rays { AllByRecursion (λ r. IsInReach result r.position) rays.now }
+{
+    let mut reach = grown(Reach { low: at, high: at }, from);
+    for ray in rays {
+        reach = grown(reach, ray.position);
+    }
+    reach
+}
+
+/// Whether the moved point went past each other point that the grid holds with all its sides, or with
+/// none. It looks at those in the box round its rays: past all others it does.
+fn go_past_alike(grid: &CellGrid, moved: &Moved, at: Pt, rays: &[Ray]) -> bool
+    ensures { IsTrue result → (n : ℕ) (q : Position) → HoldsPoint grid.now n q
+        → n ≢ moved.now.point
+        → IsTrue (goes_past_alike_of at moved.now.from rays.now q) }
+{
+    let reach = reach_round(at, moved.from, rays);
+    grid.point_candidates(reach.low, reach.high)
+        .all(|held| is_past_alike(at, moved, rays, &held))
+}
+
+// ---- Rings
+
+/// Where a point that is at a position lay before a move.
+fn lay(moved: &Moved, point: PointNo, at: Pt) -> Pt
+    ensures { result ≡ lay_of moved.now point at }
+{
+    if point.get() == moved.point.get() {
+        moved.from
+    } else {
+        at
+    }
+}
+
+/// Whether two doubled areas are both positive, both negative, or both nothing.
+fn is_same_turn(a: i128, b: i128) -> bool
+    ensures positive { IsTrue result → int_lt (pos 0) a ≡ int_lt (pos 0) b }
+    ensures negative { IsTrue result → int_lt a (pos 0) ≡ int_lt b (pos 0) }
+{
+    (a > 0) == (b > 0) && (a < 0) == (b < 0)
+}
+
+/// Whether the ring that leaves a moved point along one side is positive or negative as it was, and
+/// has its anchor elsewhere.
+fn turns_as_before<M: MapView>(map: &M, moved: &Moved, to: PointNo) -> bool
+    requires whole { HasWholeRings (M.map map.now) }
+    requires side { Contains {X = Side} (all_sides (M.map map.now)) (moved.now.point, to) }
+    ensures { IsTrue result → TurnAlong (M.map map.now) moved.now to }
+{
+    let mut area = 0;
+    let mut area_before = 0;
+    let mut least = moved.point;
+    for (from, end) in Walk::from(map, moved.point, to) {
+        let (a, b) = (position(map, from), position(map, end));
+        area += DoubledArea.of(a, b);
+        area_before += DoubledArea.of(lay(moved, from, a), lay(moved, end, b));
+        if from.get() < least.get() {
+            least = from;
+        }
+    }
+    least.get() < moved.point.get() && is_same_turn(area, area_before)
+}
+
+/// Whether all rings that pass a moved point do, whose rays these are.
+fn turn_as_before<M: MapView>(map: &M, moved: &Moved, rays: &[Ray]) -> bool
+    requires whole { HasWholeRings (M.map map.now) }
+    requires rays { AreRaysOf (M.map map.now) moved.now.point rays.now }
+    ensures { IsTrue result → AllByRecursion (λ r. TurnAlong (M.map map.now) moved.now r.far) rays.now }
+{
+    for ray in rays {
+        if !turns_as_before(map, moved, ray.far) {
+            return false;
+        }
+    }
+    true
+}
