@@ -16,13 +16,14 @@ use Rattle.cad_rings.specs.Cycle.{Ring, Side, opposite, sides_of, placed, ring_s
 use Rattle.cad_rings.proofs.CallerLemmas.{ring_sum-same_ring, anchor_of-same, anchor_of-Contains, placed_same, ring_sum-same}
 use Rattle.cad_map.specs.declared.boundary.Boundary.{Boundary}
 use Rattle.cad_map.specs.Boundaries.{is_face, sides_in}
-use Rattle.cad_map.specs.Map.{Map, all_sides, string_sides, strings_at, side_of, is_end, far_end, has_point, has_face, position_of, rings_at, rings_of, is_positive, is_negative, is_in_ring}
+use Rattle.cad_map.specs.Map.{Map, all_sides, string_sides, strings_at, side_of, is_end, far_end, has_point, has_face, face_sides, position_of, rings_at, rings_of, is_positive, is_negative, is_in_ring}
 use Rattle.cad_map.specs.Rings.{HasWholeRings}
 use Rattle.cad_map.specs.Table.{row_with}
 use Rattle.cad_map.specs.Touched.{Moved, ComesByMove}
 use Rattle.cad_map.specs.Valid.{IsValid, has_outlines, has_sound_holes}
+use Rattle.cad_map.specs.Views.{HasSide}
 use Rattle.cad_map.specs.Walk.{Walking, sides_ahead, IsOnRing}
-use Rattle.cad_map.proofs.CallerLemmas.{All-at_each, All-from_each, Contains-in_part, Contains-flat_map, Contains-map, Contains-filter, filter-Contains, map-Contains, is_face-refl, list_all-at, list_any-Contains, list_any-found, both_sides, Joins, joins-far, face-ring, whole_valid, all-from, only-from, ring_on, same-from, begins-from, first_points, least-all}
+use Rattle.cad_map.proofs.CallerLemmas.{All-at_each, All-from_each, Contains-in_part, Contains-flat_map, Contains-map, Contains-filter, filter-Contains, map-Contains, is_face-refl, list_all-at, list_any-Contains, list_any-found, both_sides, Joins, joins-far, face-ring, has_side-Contains, once-from_pairs, one_boundary, whole_valid, all-from, only-from, ring_on, same-from, begins-from, first_points, least-all}
 use Rattle.cad_valid.specs.declared.near.rays.Ray.{Ray}
 use Rattle.cad_valid.specs.Moves.{position_before, is_counted_anew, goes_past_alike, TurnsAsBefore, TurnAlong, LeavesRings}
 use Rattle.cad_valid.specs.Near.{outlines_wanted, HasOutlines, HasSoundHoles}
@@ -134,6 +135,16 @@ module _ (m : Map) (whole : HasWholeRings m) (p : ℕ) where
       let far = far-between m whole b p turned in
       (between.string, Contains-filter (λ s. is_end s p) m.strings between.string between.there far.0, far.1)
 
+  -- a ring of another face than the one that has a side doesn't have the side
+  pub other-face : (f left : Face) (to : ℕ) → HasSide m left (p, to) → is_face f left ≡ false → (b : Boundary) → Contains m.boundaries b → f ≡ b.face → Contains {X = Side} (sides_of b.ring) (p, to) → ⊥
+  other-face f left to has apart b there own in_ring =
+      let part = Contains-in_part sides_of (rings_of m left) (p, to) (has_side-Contains (p, to) (face_sides m left) has) in
+      let c = face-ring m left part.0 part.1 in
+      let once = once-from_pairs (all_sides m) whole.once (p, to) in
+      let same = one_boundary (p, to) m.boundaries b c.0 once there c.1 in_ring (subst (λ (r : Ring). Contains {X = Side} (sides_of r) (p, to)) (sym c.3) part.2) in
+      let face : f ≡ left = own ∙ ap (λ (d : Boundary). d.face) same ∙ sym c.2 in
+      true≢false (sym (ap (is_face f) (sym face) ∙ is_face-refl f) ∙ apart)
+
 -- ---- What was seen
 
 -- the rays' tests are tests of the strings
@@ -156,16 +167,16 @@ module _ (m : Map) (v : Moved) (rays : List Ray) (are : AreRaysOf m v.point rays
       by true all t = (true, λ s h. sym (here s) ∙ list_all-at (λ r. is_counted_anew at v.from q r.position) rays (ray_of m v.point s) all (ray-of s h))
       by false none all = (false, λ s h. sym (here s) ∙ not-true (is_counted_anew at v.from q (position_of m (far_end s v.point))) (list_all-at (λ r. not (is_counted_anew at v.from q r.position)) rays (ray_of m v.point s) all (ray-of s h)))
 
-  pub leaves-rings : ((p : PointRow) → Contains m.points p → p.number ≢ v.point → goes_past_alike at v.from rays p.position ≡ true)
-      → AllByRecursion (λ r. TurnAlong m v r.far) rays → LeavesRings m v
-  leaves-rings past turn = record {
-    rings = λ s h. All-at_each (λ r. TurnAlong m v r.far) rays (ray_of m v.point s) turn (ray-of s h);
+  pub leaves-rings : (f : Face) → ((p : PointRow) → Contains m.points p → p.number ≢ v.point → goes_past_alike at v.from rays p.position ≡ true)
+      → AllByRecursion (λ r. TurnAlong m f v r.far) rays → LeavesRings m f v
+  leaves-rings f past turn = record {
+    rings = λ s h. All-at_each (λ r. TurnAlong m f v r.far) rays (ray_of m v.point s) turn (ray-of s h);
     points = λ p h other. alike-strings p.position (past p h other);
   }
 
 -- ---- What the faces tell
 
-module _ (old new : Map) (v : Moved) (valid : IsValid old) (whole : HasWholeRings new) (comes : ComesByMove old new v) (leaves : LeavesRings new v) where
+module _ (old new : Map) (v : Moved) (valid : IsValid old) (whole : HasWholeRings new) (comes : ComesByMove old new v) (f : Face) (leaves : LeavesRings new f v) where
   -- each point lay where the old map has it
   lay-old : (p : ℕ) → position_before (position_of new) v p ≡ position_of old p
   lay-old p = by (p == v.point) refl
@@ -190,14 +201,14 @@ module _ (old new : Map) (v : Moved) (valid : IsValid old) (whole : HasWholeRing
   in_all b there s h = Contains-flat_map (λ (b : Boundary). sides_of b.ring) new.boundaries b s there h
 
   -- one that does turns as it turned
-  turns : (b : Boundary) → Contains new.boundaries b → list_any (λ p. p == v.point) b.ring ≡ true → TurnsAsBefore new v b.ring
-  turns b there some =
+  turns : (b : Boundary) → Contains new.boundaries b → f ≡ b.face → list_any (λ p. p == v.point) b.ring ≡ true → TurnsAsBefore new v b.ring
+  turns b there own some =
       let found = list_any-found (λ p. p == v.point) b.ring some in
       let out = map-Contains (λ (t : Side). t.0) (sides_of b.ring) found.0 (subst (λ (l : List ℕ). Contains l found.0) (sym (first_points b.ring)) found.1) in
       let from : out.0.0 ≡ v.point = out.2 ∙ eqb-true found.0 v.point found.2 in
       let has : Contains {X = Side} (sides_of b.ring) (v.point, out.0.1) = subst (λ (p : ℕ). Contains {X = Side} (sides_of b.ring) (p, out.0.1)) from out.1 in
       let s = string-out new whole v.point out.0.1 (in_all b there (v.point, out.0.1) has) in
-      leaves.rings s.0 s.1 b there (subst (λ (p : ℕ). Contains {X = Side} (sides_of b.ring) (v.point, p)) (sym s.2) has)
+      leaves.rings s.0 s.1 b there own (subst (λ (p : ℕ). Contains {X = Side} (sides_of b.ring) (v.point, p)) (sym s.2) has)
 
   -- the ends of a side are two points
   apart : (s : Side) → Contains (all_sides new) s → s.0 ≢ s.1
@@ -237,14 +248,14 @@ module _ (old new : Map) (v : Moved) (valid : IsValid old) (whole : HasWholeRing
   abbrev lay_as : (ring : Ring) → ring_sum doubled_area (position_before (position_of new) v) ring ≡ ring_sum doubled_area (position_of old) ring
   lay_as ring = ring_sum-same doubled_area (position_before (position_of new) v) (position_of old) ring (all-lay ring)
 
-  positive : (b : Boundary) → Contains new.boundaries b → is_positive new b.ring ≡ is_positive old b.ring
-  positive b there = by_passing b.ring (passes b.ring) refl
-      (λ some. (turns b there some).positive ∙ ap (int_lt (pos 0)) (lay_as b.ring))
+  positive : (b : Boundary) → Contains new.boundaries b → f ≡ b.face → is_positive new b.ring ≡ is_positive old b.ring
+  positive b there own = by_passing b.ring (passes b.ring) refl
+      (λ some. (turns b there own some).positive ∙ ap (int_lt (pos 0)) (lay_as b.ring))
       (λ none. positive-stands old new b.ring (stands b.ring none))
 
-  negative : (b : Boundary) → Contains new.boundaries b → is_negative new b.ring ≡ is_negative old b.ring
-  negative b there = by_passing b.ring (passes b.ring) refl
-      (λ some. (turns b there some).negative ∙ ap (λ (z : ℤ). int_lt z (pos 0)) (lay_as b.ring))
+  negative : (b : Boundary) → Contains new.boundaries b → f ≡ b.face → is_negative new b.ring ≡ is_negative old b.ring
+  negative b there own = by_passing b.ring (passes b.ring) refl
+      (λ some. (turns b there own some).negative ∙ ap (λ (z : ℤ). int_lt z (pos 0)) (lay_as b.ring))
       (λ none. negative-stands old new b.ring (stands b.ring none))
 
   anchor-in : (b : Boundary) → Contains new.boundaries b → Contains b.ring (anchor_of b.ring)
@@ -252,15 +263,15 @@ module _ (old new : Map) (v : Moved) (valid : IsValid old) (whole : HasWholeRing
       let three = All-at_each (λ b. 3 ≤ length b.ring) new.boundaries b whole.v5.three there in
       anchor_of-Contains b.ring (omega (arith, three))
 
-  anchor-elsewhere : (b : Boundary) → Contains new.boundaries b → anchor_of b.ring ≢ v.point
-  anchor-elsewhere b there = by_passing b.ring (passes b.ring) refl
-      (λ some. (turns b there some).anchor)
+  anchor-elsewhere : (b : Boundary) → Contains new.boundaries b → f ≡ b.face → anchor_of b.ring ≢ v.point
+  anchor-elsewhere b there own = by_passing b.ring (passes b.ring) refl
+      (λ some. (turns b there own some).anchor)
       (λ none. other b.ring none (anchor_of b.ring) (anchor-in b there))
 
-  inside : (b c : Boundary) → Contains new.boundaries b → Contains new.boundaries c → is_in_ring new b.ring (anchor_of c.ring) ≡ is_in_ring old b.ring (anchor_of c.ring)
-  inside b c b_there c_there =
+  inside : (b c : Boundary) → Contains new.boundaries b → Contains new.boundaries c → f ≡ c.face → is_in_ring new b.ring (anchor_of c.ring) ≡ is_in_ring old b.ring (anchor_of c.ring)
+  inside b c b_there c_there own =
       let n = anchor_of c.ring in
-      let away = anchor-elsewhere c c_there in
+      let away = anchor-elsewhere c c_there own in
       let known = All-at_each (λ b. AllByRecursion (λ p. IsTrue (has_point new p)) b.ring) new.boundaries c whole.v1.points_of_rings c_there in
       let r = row-of new n (All-at_each (λ p. IsTrue (has_point new p)) c.ring n known (anchor-in c c_there)) in
       let q = r.row.position in
@@ -270,44 +281,43 @@ module _ (old new : Map) (v : Moved) (valid : IsValid old) (whole : HasWholeRing
       ∙ ap (λ (l : List (Position × Position)). is_inside l q) (placed_same (position_before (position_of new) v) (position_of old) b.ring (all-lay b.ring))
       ∙ ap (is_inside (placed (position_of old) (sides_of b.ring))) (r.position ∙ comes.elsewhere n away)
 
-  -- ---- Each face
+  -- ---- The face
 
-  module _ (f : Face) where
-    abbrev rings : List Ring
-    rings = rings_of new f
+  abbrev rings : List Ring
+  rings = rings_of new f
 
-    own : (r : Ring) → Contains rings r → (b : Boundary) × Contains new.boundaries b × (b.ring ≡ r)
-    own r h = let b = face-ring new f r h in (b.0, b.1, b.3)
+  own : (r : Ring) → Contains rings r → (b : Boundary) × Contains new.boundaries b × (f ≡ b.face) × (b.ring ≡ r)
+  own r h = face-ring new f r h
 
-    positive-kept : (r : Ring) → Contains rings r → is_positive new r ≡ is_positive old r
-    positive-kept r h = let b = own r h in subst (λ (q : Ring). is_positive new q ≡ is_positive old q) b.2 (positive b.0 b.1)
+  positive-kept : (r : Ring) → Contains rings r → is_positive new r ≡ is_positive old r
+  positive-kept r h = let b = own r h in subst (λ (q : Ring). is_positive new q ≡ is_positive old q) b.3 (positive b.0 b.1 b.2)
 
-    negative-kept : (r : Ring) → Contains rings r → is_negative new r ≡ is_negative old r
-    negative-kept r h = let b = own r h in subst (λ (q : Ring). is_negative new q ≡ is_negative old q) b.2 (negative b.0 b.1)
+  negative-kept : (r : Ring) → Contains rings r → is_negative new r ≡ is_negative old r
+  negative-kept r h = let b = own r h in subst (λ (q : Ring). is_negative new q ≡ is_negative old q) b.3 (negative b.0 b.1 b.2)
 
-    inside-kept : (r hole : Ring) → Contains rings r → Contains rings hole → is_in_ring new r (anchor_of hole) ≡ is_in_ring old r (anchor_of hole)
-    inside-kept r hole h k =
-        let b = own r h in
-        let c = own hole k in
-        subst (λ (q : Ring). is_in_ring new q (anchor_of hole) ≡ is_in_ring old q (anchor_of hole)) b.2
-        (subst (λ (q : Ring). is_in_ring new b.0.ring (anchor_of q) ≡ is_in_ring old b.0.ring (anchor_of q)) c.2 (inside b.0 c.0 b.1 c.1))
+  inside-kept : (r hole : Ring) → Contains rings r → Contains rings hole → is_in_ring new r (anchor_of hole) ≡ is_in_ring old r (anchor_of hole)
+  inside-kept r hole h k =
+      let b = own r h in
+      let c = own hole k in
+      subst (λ (q : Ring). is_in_ring new q (anchor_of hole) ≡ is_in_ring old q (anchor_of hole)) b.3
+      (subst (λ (q : Ring). is_in_ring new b.0.ring (anchor_of q) ≡ is_in_ring old b.0.ring (anchor_of q)) c.3 (inside b.0 c.0 b.1 c.1 c.2))
 
-    same-rings : rings ≡ rings_of old f
-    same-rings = ap (rings_at f) comes.boundaries
+  same-rings : rings ≡ rings_of old f
+  same-rings = ap (rings_at f) comes.boundaries
 
-    was-there : (g : Face) → IsTrue (has_face new g) → IsTrue (has_face old g)
-    was-there Outside there = refl
-    was-there (Parcel n) there = ap (λ (rows : List ParcelRow). is_some (row_with (λ (r : ParcelRow). r.number) n rows)) (sym comes.parcels) ∙ there
+  was-there : (g : Face) → IsTrue (has_face new g) → IsTrue (has_face old g)
+  was-there Outside there = refl
+  was-there (Parcel n) there = ap (λ (rows : List ParcelRow). is_some (row_with (λ (r : ParcelRow). r.number) n rows)) (sym comes.parcels) ∙ there
 
-    -- a face of which the move left the rings as they were has its outlines, and its holes in place
-    pub outlines-left : IsTrue (has_face new f) → HasOutlines new f
-    outlines-left there =
-        outlines-kept old new rings positive-kept negative-kept inside-kept (outlines_wanted f)
-        ∙ ap (has_outlines (outlines_wanted f) old) same-rings
-        ∙ faces-at old valid.sound.v1 (λ f. has_outlines (outlines_wanted f) old (rings_of old f)) valid.keeps.v7 f (was-there f there)
+  -- a face of which the move left the rings as they were has its outlines, and its holes in place
+  pub outlines-left : IsTrue (has_face new f) → HasOutlines new f
+  outlines-left there =
+      outlines-kept old new rings positive-kept negative-kept inside-kept (outlines_wanted f)
+      ∙ ap (has_outlines (outlines_wanted f) old) same-rings
+      ∙ faces-at old valid.sound.v1 (λ f. has_outlines (outlines_wanted f) old (rings_of old f)) valid.keeps.v7 f (was-there f there)
 
-    pub holes-left : IsTrue (has_face new f) → HasSoundHoles new f
-    holes-left there =
-        sound-kept old new rings positive-kept negative-kept inside-kept
-        ∙ ap (has_sound_holes old) same-rings
-        ∙ faces-at old valid.sound.v1 (λ f. has_sound_holes old (rings_of old f)) valid.keeps.v8 f (was-there f there)
+  pub holes-left : IsTrue (has_face new f) → HasSoundHoles new f
+  holes-left there =
+      sound-kept old new rings positive-kept negative-kept inside-kept
+      ∙ ap (has_sound_holes old) same-rings
+      ∙ faces-at old valid.sound.v1 (λ f. has_sound_holes old (rings_of old f)) valid.keeps.v8 f (was-there f there)

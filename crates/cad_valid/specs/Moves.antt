@@ -4,6 +4,7 @@ use Rattle.std.specs.List.{Contains, list_all}
 use Rattle.geo_exact.specs.Position.{Position}
 use Rattle.geo_exact.specs.Inside.{is_counted}
 use Rattle.geo_exact.specs.Measure.{doubled_area}
+use Rattle.cad_rows.specs.declared.names.Face.{Face}
 use Rattle.cad_rows.specs.declared.rows.PointRow.{PointRow}
 use Rattle.cad_rows.specs.declared.rows.StringRow.{StringRow}
 use Rattle.cell_grid.specs.declared.entry.HeldPoint.{HeldPoint}
@@ -54,15 +55,15 @@ pub record TurnsAsBefore (m : Map) (v : Moved) (ring : Ring) : Type 0 where
       ≡ int_lt (ring_sum doubled_area (position_before (position_of m) v) ring) (pos 0)
   pub anchor : anchor_of ring ≢ v.point
 
--- each ring that leaves the point along one side does
-abbrev pub TurnAlong : Map → Moved → ℕ → Type 0
-TurnAlong m v to = (b : Boundary) → Contains m.boundaries b
+-- each ring of the face that leaves the point along one side does
+abbrev pub TurnAlong : Map → Face → Moved → ℕ → Type 0
+TurnAlong m f v to = (b : Boundary) → Contains m.boundaries b → f ≡ b.face
     → Contains {X = Side} (sides_of b.ring) (v.point, to) → TurnsAsBefore m v b.ring
 
--- all rings that pass the point turn as before, and it went past each other point with all its sides or none
-pub record LeavesRings (m : Map) (v : Moved) : Type 0 where
+-- all of its rings that pass the point turn as before, and the point went past each other point with all its sides or none
+pub record LeavesRings (m : Map) (f : Face) (v : Moved) : Type 0 where
   pub rings : (s : StringRow) → Contains (strings_at m v.point) s
-      → TurnAlong m v (far_end s v.point)
+      → TurnAlong m f v (far_end s v.point)
   pub points : (p : PointRow) → Contains m.points p → p.number ≢ v.point
       → (anew : Bool) × ((s : StringRow) → Contains (strings_at m v.point) s
       → is_counted_anew (position_of m v.point) v.from p.position

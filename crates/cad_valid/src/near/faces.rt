@@ -14,7 +14,7 @@ ghost use Rattle.cad_valid.specs.Shapes.{shape_of, told_apart};
 use crate::face_shapes::FaceShapes;
 use crate::holes::has_sound_holes;
 use crate::near::Moved;
-use crate::near::moves::leaves_faces;
+use crate::near::moves::leaves_face;
 use crate::outlines::has_outlines;
 use crate::shapes::PlacedRing;
 use cad_map::{MapView, Walk, has_face, ring_count};
@@ -62,7 +62,7 @@ pub(crate) fn rules_of_faces<M: MapView>(
 }
 
 /// What the rings of a face tell, if the map has it. Where it has many, and a move is seen to leave
-/// rings as they were to one another, they aren't looked at: they broke no rule before.
+/// them as they were to one another, they aren't looked at: they broke no rule before.
 fn rules_of_face_if_there<M: MapView>(
     alloc: Global,
     map: &M,
@@ -78,7 +78,7 @@ fn rules_of_face_if_there<M: MapView>(
     ensures holes { IsTrue result.holes
         ↔ OfFace (M.map map.now) (HasSoundHoles (M.map map.now)) face.now }
 {
-    if has_many_rings(map, face) && leaves_faces(map, grid, moved) {
+    if has_many_rings(map, face) && leaves_face(map, grid, face, moved) {
         return FaceRules {
             outlines: true,
             holes: true,

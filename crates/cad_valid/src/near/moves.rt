@@ -6,53 +6,57 @@ ghost use Rattle.geo_exact.specs.Position.{Position};
 ghost use Rattle.cad_rows.specs.declared.names.Face.{Face as FaceOf};
 ghost use Rattle.cell_grid.specs.Grid.{HoldsPoint};
 ghost use Rattle.cad_rings.specs.Cycle.{Side};
-ghost use Rattle.cad_map.specs.Map.{all_sides, has_face};
+ghost use Rattle.cad_map.specs.Map.{all_sides};
 ghost use Rattle.cad_map.specs.Rings.{HasWholeRings};
 ghost use Rattle.cad_valid.specs.Moves.{lay as lay_of, is_counted_anew as is_counted_anew_of};
 ghost use Rattle.cad_valid.specs.Moves.{goes_past_alike as goes_past_alike_of};
 ghost use Rattle.cad_valid.specs.Moves.{is_past_alike as is_past_alike_of};
 ghost use Rattle.cad_valid.specs.Moves.{LeavesRings, MovesValid, TurnAlong};
-ghost use Rattle.cad_valid.specs.Near.{HoldsMap, HasOutlines, HasSoundHoles};
+ghost use Rattle.cad_valid.specs.Near.{HoldsMap, OfFace, HasOutlines, HasSoundHoles};
 ghost use Rattle.cad_valid.specs.Rays.{AreRaysOf};
 ghost use Rattle.cad_valid.specs.Seen.{IsInReach};
 
 use crate::near::Moved;
 use crate::near::rays::{MOST_RAYS, Ray, rays_at};
 use crate::near::seen::{Reach, grown};
-use cad_map::{MapView, Walk, position};
-use cad_rows::PointNo;
+use cad_map::{MapView, Walk, is_face, position};
+use cad_rows::{Face, PointNo};
 use cell_grid::{CellGrid, HeldPoint};
 use geo_exact::{DoubledArea, Pt, SideMeasure, crosses};
 
-/// Whether a move, if there was one, is seen to leave the rings of each face as they were to one
-/// another. It walks along the rings that pass the point, and looks at what the grid holds near it.
-pub(crate) fn leaves_faces<M: MapView>(map: &M, grid: &CellGrid, moved: Option<&Moved>) -> bool
+/// Whether a move, if there was one, is seen to leave the rings of a face as they were to one another.
+/// It walks along those that pass the point, and looks at what the grid holds near it.
+pub(crate) fn leaves_face<M: MapView>(
+    map: &M,
+    grid: &CellGrid,
+    face: &Face,
+    moved: Option<&Moved>,
+) -> bool
     requires whole { HasWholeRings (M.map map.now) }
     requires held { HoldsMap grid.now (M.map map.now) }
     requires moved { IfSome moved (λ v. MovesValid (M.map map.now) v.now) }
-    ensures outlines { IsTrue result → (f : FaceOf) → IsTrue (has_face (M.map map.now) f)
-        → HasOutlines (M.map map.now) f }
-    ensures holes { IsTrue result → (f : FaceOf) → IsTrue (has_face (M.map map.now) f)
-        → HasSoundHoles (M.map map.now) f }
+    ensures outlines { IsTrue result → OfFace (M.map map.now) (HasOutlines (M.map map.now)) face.now }
+    ensures holes { IsTrue result → OfFace (M.map map.now) (HasSoundHoles (M.map map.now)) face.now }
 {
     match moved {
-        Some(moved) => leaves_rings(map, grid, moved),
+        Some(moved) => leaves_rings(map, grid, face, moved),
         None => false,
     }
 }
 
-/// Whether a move is seen to leave all rings as they were to one another.
-fn leaves_rings<M: MapView>(map: &M, grid: &CellGrid, moved: &Moved) -> bool
+/// Whether a move is seen to leave the rings of a face as they were to one another.
+fn leaves_rings<M: MapView>(map: &M, grid: &CellGrid, face: &Face, moved: &Moved) -> bool
     requires whole { HasWholeRings (M.map map.now) }
     requires held { HoldsMap grid.now (M.map map.now) }
-    ensures { IsTrue result → LeavesRings (M.map map.now) moved.now }
+    ensures { IsTrue result → LeavesRings (M.map map.now) face.now moved.now }
 {
     if map.degree(moved.point) > MOST_RAYS {
         return false;
     }
     let rays = rays_at(map, moved.point);
     let at = position(map, moved.point);
-    go_past_alike(grid, moved, at, rays.as_slice()) && turn_as_before(map, moved, rays.as_slice())
+    go_past_alike(grid, moved, at, rays.as_slice())
+        && turn_as_before(map, face, moved, rays.as_slice())
 }
 
 // ---- Points
@@ -147,7 +151,7 @@ fn is_same_turn(a: i128, b: i128) -> bool
 fn turns_as_before<M: MapView>(map: &M, moved: &Moved, to: PointNo) -> bool
     requires whole { HasWholeRings (M.map map.now) }
     requires side { Contains {X = Side} (all_sides (M.map map.now)) (moved.now.point, to) }
-    ensures { IsTrue result → TurnAlong (M.map map.now) moved.now to }
+    ensures { IsTrue result → (f : FaceOf) → TurnAlong (M.map map.now) f moved.now to }
 {
     let mut area = 0;
     let mut area_before = 0;
@@ -163,14 +167,29 @@ fn turns_as_before<M: MapView>(map: &M, moved: &Moved, to: PointNo) -> bool
     least.get() < moved.point.get() && is_same_turn(area, area_before)
 }
 
-/// Whether all rings that pass a moved point do, whose rays these are.
-fn turn_as_before<M: MapView>(map: &M, moved: &Moved, rays: &[Ray]) -> bool
+/// Whether it does, where it is a ring of a face.
+fn turns_if_of_face<M: MapView>(map: &M, face: &Face, moved: &Moved, to: PointNo) -> bool
+    requires whole { HasWholeRings (M.map map.now) }
+    requires side { Contains {X = Side} (all_sides (M.map map.now)) (moved.now.point, to) }
+    ensures { IsTrue result → TurnAlong (M.map map.now) face.now moved.now to }
+{
+    if let Some(left) = map.face_of(moved.point, to) {
+        if !is_face(face, &left) {
+            return true;
+        }
+    }
+    turns_as_before(map, moved, to)
+}
+
+/// Whether all rings of a face that pass a moved point do, whose rays these are.
+fn turn_as_before<M: MapView>(map: &M, face: &Face, moved: &Moved, rays: &[Ray]) -> bool
     requires whole { HasWholeRings (M.map map.now) }
     requires rays { AreRaysOf (M.map map.now) moved.now.point rays.now }
-    ensures { IsTrue result → AllByRecursion (λ r. TurnAlong (M.map map.now) moved.now r.far) rays.now }
+    ensures { IsTrue result
+        → AllByRecursion (λ r. TurnAlong (M.map map.now) face.now moved.now r.far) rays.now }
 {
     for ray in rays {
-        if !turns_as_before(map, moved, ray.far) {
+        if !turns_if_of_face(map, face, moved, ray.far) {
             return false;
         }
     }

@@ -16,7 +16,7 @@ returns-then-go_past_alike g c = λ turned.
     let at = c.position-at.result in
     let are = subst (λ (w : Moved). AreRaysOf m w.point rays) c.moved.view_is c.rays_at-rays.ensures in
     let lies = c.position-at.ensures ∙ ap (λ (w : Moved). position_of m w.point) c.moved.view_is in
-    leaves-rings m v rays are at lies
+    leaves-rings m v rays are at lies c.args.face.now
     (λ p h other. subst (λ (rs : List Ray). goes_past_alike at v.from rs p.position ≡ true) c.as_slice.ensures.value
     (c.go_past_alike.ensures c.if-go_past_alike.true p.number p.position (c.requires.held.points p h) other))
-    (subst (λ (rs : List Ray). AllByRecursion (λ (r : Ray). TurnAlong m v r.far) rs) c.as_slice-then-go_past_alike.ensures.value (c.turn_as_before.ensures turned))
+    (subst (λ (rs : List Ray). AllByRecursion (λ (r : Ray). TurnAlong m c.args.face.now v r.far) rs) c.as_slice-then-go_past_alike.ensures.value (c.turn_as_before.ensures turned))

@@ -4,8 +4,8 @@ use Rattle.cad_map.proofs.CallerLemmas.{Contains-at}
 use Rattle.cad_valid.proofs.MovedRings.{ray-side}
 use Rattle.cad_valid.proofs.near.moves.turn_as_before.Goals as goal
 
-pub turns_as_before-requires-clause-side : goal.turns_as_before-requires-clause-side
-turns_as_before-requires-clause-side g c =
+pub turns_if_of_face-requires-clause-side : goal.turns_if_of_face-requires-clause-side
+turns_if_of_face-requires-clause-side g c =
     let rays = c.args.rays.now in
     let k = c.loop-ray.ray-index in
     let ray = c.ray-item.result in

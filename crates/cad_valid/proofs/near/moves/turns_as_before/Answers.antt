@@ -141,7 +141,7 @@ loop-from-preserved g c =
     }
 
 pub returns-then-get-2 : goal.returns-then-get-2
-returns-then-get-2 g c same b there has =
+returns-then-get-2 g c same f b there own has =
     let m = g.M.MapView.map c.args.map.now in
     let walked = (goal.at.returns-then-get-2 g c).After-next in
     let none = rw c.in-None.is at c.next.ensures.steps in
