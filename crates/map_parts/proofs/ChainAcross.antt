@@ -13,7 +13,7 @@ use Rattle.cad_map.specs.Rings.{HasWholeRings}
 use Rattle.cad_map.proofs.CallerLemmas.{Contains-first, Contains-map, All-from_each, in_both_ways}
 use Rattle.half_table.specs.declared.half.Half.{Half}
 use Rattle.half_table.specs.Half.{twin}
-use Rattle.half_table.specs.Rows.{HalfRows, next, origin_of}
+use Rattle.half_table.specs.Rows.{HalfRows, has, next, origin_of}
 use Rattle.half_table.proofs.Halves.{twin-twin}
 use Rattle.half_paths.specs.Path.{strings_of, last_of, AreElsewhere}
 use Rattle.half_paths.specs.Loose.{is_of}
@@ -22,6 +22,7 @@ use Rattle.cad_laws.specs.Local.{IsShown, side_by, IsLocal}
 use Rattle.cad_laws.specs.Parting.{IsParted}
 use Rattle.cad_laws.specs.Tables.{GoesOnWhole}
 use Rattle.cad_laws.proofs.CallerLemmas.{goes-on_whole}
+use Rattle.map_parts.specs.FaceChanges.{IsPlaceFor, IsTied}
 use Rattle.map_parts.specs.Labels.{IsAlong}
 use Rattle.map_parts.specs.Paths.{AreAlong, HasStringsMore}
 use Rattle.map_parts.proofs.AlongPaths.{on-path, elsewhere-of, chain-strung, first-of, tail-of, last-there}
@@ -97,18 +98,36 @@ last-string added chain long sides = by (two-last chain long) added sides
 
 -- ---- Where it comes
 
+-- a place in a table is one in another with the same halves
+pub place-kept : (old new : HalfRows) → ((h : Half) → has new h ≡ has old h) → {path : List Half} {start end : Half} → IsPlaceFor path start end old → IsPlaceFor path start end new
+place-kept old new same {start = start} {end = end} it = record {
+  start_in = same start ∙ it.start_in;
+  end_in = same end ∙ it.end_in;
+  start_away = it.start_away;
+  end_away = it.end_away;
+  differ = it.differ;
+}
+
+-- a path that is tied in a table is tied in another where the same halves follow
+pub tied-kept : (old new : HalfRows) → ((h : Half) → next new h ≡ next old h) → {first : Half} {rest : List Half} → IsTied first rest old → IsTied first rest new
+tied-kept old new same {first} {rest} it = record {
+  strung = subst (λ (n : Half → Half). IsStrung n first rest) (λ i h. sym (same h) i) it.strung;
+  on_away = subst (λ (h : Half). AreElsewhere h (first ∷ rest)) (sym (same (last_of first rest))) it.on_away;
+  back_away = subst (λ (h : Half). AreElsewhere h (first ∷ rest)) (sym (same (twin first))) it.back_away;
+}
+
 module _ (whole parted : Map) (path : List Half) (more : HasStringsMore whole parted path) (rows : HalfRows) (chain : List ℕ) (fc lc : Corner) (law : IsParted whole parted chain fc lc)
     (apart : start_of chain ≢ end_of chain) (start end : Half) (start_on : IsAlong whole rows (leaving fc) start) (end_on : IsAlong whole rows (leaving lc) end) where
-  pub start-away : AreElsewhere start path
-  start-away = more-away whole parted path more start start_on.shown
-
-  pub end-away : AreElsewhere end path
-  end-away = more-away whole parted path more end end_on.shown
-
-  pub start-differs : start ≢ end
-  start-differs same =
-      let sides : leaving fc ≡ leaving lc = sym start_on.side ∙ ap (side_by rows) same ∙ end_on.side in
-      apart (sym law.first_at ∙ ap (λ (s : Side). s.0) sides ∙ law.last_at)
+  pub chain-place : IsPlaceFor path start end rows
+  chain-place = record {
+    start_in = start_on.there;
+    end_in = end_on.there;
+    start_away = more-away whole parted path more start start_on.shown;
+    end_away = more-away whole parted path more end end_on.shown;
+    differ = λ same.
+        let sides : leaving fc ≡ leaving lc = sym start_on.side ∙ ap (side_by rows) same ∙ end_on.side in
+        apart (sym law.first_at ∙ ap (λ (s : Side). s.0) sides ∙ law.last_at);
+  }
 
 -- ---- Where it goes
 
@@ -133,7 +152,7 @@ module _ (whole parted : Map) (parts : HasWholeRings parted) (chain : List ℕ) 
   own : (h : Half) → Contains path h → IsShown parted h
   own = more-new whole parted path more
 
-  pub path-strung : IsStrung (next rows) first rest
+  path-strung : IsStrung (next rows) first rest
   path-strung = chain-strung parted parts rows local first rest chain along (All-from_each (IsShown parted) path own) law.along law.back
 
   chained : (h : Half) → is_of (strings_of path) h ≡ true → Contains (both_ways (sides_of_chain chain)) (side_by rows h)
@@ -167,8 +186,12 @@ module _ (whole parted : Map) (parts : HasWholeRings parted) (chain : List ℕ) 
       let turned : side_by rows (twin first) ≡ (next_of chain, start_of chain) = λ i. ((first_side i).1, (ap (origin_of rows) (twin-twin first) ∙ ap (λ (s : Side). s.0) first_side) i) in
       λ i. ((local.meets (twin first) shown ∙ ap (λ (s : Side). s.1) turned ∙ sym law.first_at) i, tied.after_start (twin first) shown turned i)
 
-  pub on-away : AreElsewhere (next rows last) path
+  on-away : AreElsewhere (next rows last) path
   on-away = leaves-away lc (law.free lc law.last_there) (next rows last) last-leaves
 
-  pub back-away : AreElsewhere (next rows (twin first)) path
-  back-away = leaves-away fc (law.free fc law.first_there) (next rows (twin first)) first-leaves
+  pub chain-tied : IsTied first rest rows
+  chain-tied = record {
+    strung = path-strung;
+    on_away = on-away;
+    back_away = leaves-away fc (law.free fc law.first_there) (next rows (twin first)) first-leaves;
+  }

@@ -6,37 +6,35 @@ use Rattle.cad_rows.specs.declared.names.Face.{Face}
 use Rattle.cad_rows.specs.declared.names.Face.TheVariants.{Parcel}
 use Rattle.cad_rows.specs.declared.rows.ParcelRow.{ParcelRow}
 use Rattle.cad_rows.specs.declared.rows.StringRow.{StringRow}
-use Rattle.cad_rings.specs.Cycle.{Corner}
 use Rattle.cad_rings.specs.Surgery.{sides_of_chain}
 use Rattle.cad_map.specs.declared.boundary.Boundary.{Boundary}
 use Rattle.cad_map.specs.Boundaries.{face_place, bounding, canonical_form}
-use Rattle.cad_map.specs.Chain.{start_of, next_of, end_of, last_but_one, leaving}
+use Rattle.cad_map.specs.Chain.{start_of, end_of, leaving}
 use Rattle.cad_map.specs.Effects.{after}
 use Rattle.cad_map.specs.Map.{Map, side_of, has_face}
 use Rattle.cad_map.specs.Rings.{HasWholeRings}
 use Rattle.cad_map.proofs.CallerLemmas.{CanDivide as IsAllowed, can-divide, allowed, whole_valid, ends-differ, numbers-strings_along, sides-strings_along, pairs-from_distinct}
 use Rattle.half_table.specs.declared.half.Half.{Half}
 use Rattle.half_table.specs.Rows.{HalfRows, IsLinked}
-use Rattle.half_paths.specs.Path.{AreDifferent, last_of}
+use Rattle.half_paths.specs.Path.{AreDifferent}
 use Rattle.half_paths.specs.Loose.{AddsStrings, numbers_of}
 use Rattle.key_lists.specs.Held.{Held, IsSame, items_at}
 use Rattle.cad_laws.specs.Faces.{left_of_chain, right_of_chain}
-use Rattle.cad_laws.specs.Local.{IsShown, side_by}
 use Rattle.cad_laws.proofs.CallerLemmas.{whole-after}
 use Rattle.map_parts.specs.declared.map_rows.MapRows.{MapRows}
 use Rattle.map_parts.specs.declared.stars.Spoke.{Spoke}
 use Rattle.map_parts.specs.Adding.{HasRoomToCome, HasRoomToExchange, IsSeenAs}
 use Rattle.map_parts.specs.Parts.{HasHalves}
 use Rattle.map_parts.specs.Paths.{AreAlong, HasStringsMore}
-use Rattle.map_parts.specs.Islands.{FitsTable, AreOfRings}
+use Rattle.map_parts.specs.Islands.{AreOfRings}
 use Rattle.map_parts.specs.Chains.{IsChainOf}
 use Rattle.map_parts.specs.Labels.{IsAlong}
-use Rattle.map_parts.specs.FaceChanges.{CanBringAcross, CanTakeAcross}
-use Rattle.map_parts.specs.Handing.{KeepsEach, HaveTwoFaces}
+use Rattle.map_parts.specs.FaceChanges.{CanBringAcross, CanTakeAcross, GoesWith, GoesWithChain, GoesWithoutChain}
+use Rattle.map_parts.specs.Handing.{HaveTwoFaces}
 use Rattle.map_parts.specs.Dividing.{IsDividing, divided, rings_beside, CanBeginDivide, CanBeginUndivide, CanUndivide}
 use Rattle.map_parts.proofs.AddedMap as added_map
 use Rattle.map_parts.proofs.AddedMap.{HaveCome}
-use Rattle.map_parts.proofs.ChainAcross.{first-along, last-along, start-away, end-away, start-differs, path-strung, on-away, back-away}
+use Rattle.map_parts.proofs.ChainAcross.{chain-place, chain-tied}
 use Rattle.map_parts.proofs.ChainRoom.{chain_ends-room}
 use Rattle.map_parts.proofs.DividedChain.{tried-chain, tried-faces}
 use Rattle.map_parts.proofs.KeptEach.{place-same}
@@ -183,38 +181,18 @@ module _ {face : Face} {added : List StringRow} {parcel : ParcelRow} {first : Ha
     pub made-can : CanBringAcross first rest start end face new_face moved new wide
     made-can = record {
       path = added_map.can-bring made-come made-ready moved (rings_beside c.is) made-moved (places-differ m face ns added parcel.number path c.is);
-      start_in = start_on.there;
-      end_in = end_on.there;
-      start_away = start-away m (divided c.is) path more_are new c.is.chain c.is.first c.is.last law.corners apart start end start_on end_on;
-      end_away = end-away m (divided c.is) path more_are new c.is.chain c.is.first c.is.last law.corners apart start end start_on end_on;
-      differ = start-differs m (divided c.is) path more_are new c.is.chain c.is.first c.is.last law.corners apart start end start_on end_on;
+      place = chain-place m (divided c.is) path more_are new c.is.chain c.is.first c.is.last law.corners apart start end start_on end_on;
     }
 
     pub made-none : items_at wide (face_place new_face) ≡ []
     made-none = (added_map.made-keeps made-come made-ready).none new_face (none m face ns added parcel.number path c.is)
 
     -- so the table goes with the map after it
-    pub made-table : (done : HalfRows) (put : Held Half)
-        → ((whole parted : Map) (chain : List ℕ) (fc lc : Corner) (one left right : Boundary) (others : List Boundary)
-        → HasWholeRings whole → HasWholeRings parted → 2 ≤ length chain
-        → IsChainOf whole parted face new_face chain fc lc one left right others
-        → HaveTwoFaces whole parted face new_face → has_face whole new_face ≡ false
-        → HasStringsMore whole parted path
-        → AreAlong new path (sides_of_chain chain)
-        → side_by new first ≡ (start_of chain, next_of chain)
-        → side_by new (last_of first rest) ≡ (last_but_one chain, end_of chain)
-        → AllByRecursion (HasHalves new) parted.strings
-        → IsShown whole start → side_by new start ≡ leaving fc
-        → IsShown whole end → side_by new end ≡ leaving lc
-        → AreOfRings parted new moved new_face others
-        → FitsTable whole new → KeepsEach whole new wide
-        → FitsTable parted done × KeepsEach parted done put)
-        → FitsTable (divided c.is) done × KeepsEach (divided c.is) done put
+    pub made-table : (done : HalfRows) (put : Held Half) → GoesWithChain path start end face new_face moved new wide done put → GoesWith (divided c.is) done put
     made-table done put brings =
         brings m (divided c.is) c.is.chain c.is.first c.is.last c.is.divided.cut (left_ring m face ns added parcel.number path c.is) (right_ring m face ns added parcel.number path c.is) (rings_beside c.is)
         made-come.whole made-come.parts long law (two m face ns added parcel.number path c.is) (none m face ns added parcel.number path c.is) more_are along_is
-        (first-along (side_by new) first rest c.is.chain long along_is) (last-along (side_by new) first rest c.is.chain long along_is) (added_map.made-ends made-come made-ready)
-        start_on.shown start_on.side end_on.shown end_on.side made-moved (added_map.made-table made-come made-ready) (added_map.made-keeps made-come made-ready)
+        (added_map.made-ends made-come made-ready) start_on end_on made-moved (added_map.made-table made-come made-ready, added_map.made-keeps made-come made-ready)
 
 -- ---- It is taken back
 
@@ -252,32 +230,16 @@ module _ {face : Face} {ns : List ℕ} {parcel : ℕ} {first : Half} {rest moved
     path =
         added_map.can-take gone-come c.fits face moved (rings_beside c.is) c.moved_are (places-differ old face ns c.added parcel gone_path c.is) c.inner_room
         (let more = c.outer_room in omega (arith, more));
-    strung = path-strung old last gone-come.parts c.is.chain gone_long c.is.first c.is.last gone_law.corners first rest gone_more table c.fits.fits.local gone_along;
-    on_away = on-away old last gone-come.parts c.is.chain gone_long c.is.first c.is.last gone_law.corners first rest gone_more table c.fits.fits.local gone_along;
-    back_away = back-away old last gone-come.parts c.is.chain gone_long c.is.first c.is.last gone_law.corners first rest gone_more table c.fits.fits.local gone_along;
+    tied = chain-tied old last gone-come.parts c.is.chain gone_long c.is.first c.is.last gone_law.corners first rest gone_more table c.fits.fits.local gone_along;
     one_more = c.outer_room;
   }
 
   -- the table goes with the map before it
-  pub gone-table : (wide : HalfRows) (put : Held Half)
-      → ((whole parted : Map) (chain : List ℕ) (fc lc : Corner) (one left right : Boundary) (others : List Boundary)
-      → HasWholeRings whole → HasWholeRings parted → 2 ≤ length chain
-      → IsChainOf whole parted face gone_face chain fc lc one left right others
-      → HaveTwoFaces whole parted face gone_face
-      → HasStringsMore whole parted gone_path
-      → AreAlong table gone_path (sides_of_chain chain)
-      → side_by table first ≡ (start_of chain, next_of chain)
-      → side_by table (last_of first rest) ≡ (last_but_one chain, end_of chain)
-      → AllByRecursion (HasHalves table) whole.strings
-      → AreOfRings parted table moved gone_face others
-      → FitsTable parted table → KeepsEach parted table held
-      → FitsTable whole wide × KeepsEach whole wide put)
-      → FitsTable old wide × KeepsEach old wide put
+  pub gone-table : (wide : HalfRows) (put : Held Half) → GoesWithoutChain gone_path face gone_face moved table held wide put → GoesWith old wide put
   gone-table wide put takes =
       takes old last c.is.chain c.is.first c.is.last c.is.divided.cut (left_ring old face ns c.added parcel gone_path c.is) (right_ring old face ns c.added parcel gone_path c.is) (rings_beside c.is)
       gone-come.whole gone-come.parts gone_long gone_law (two old face ns c.added parcel gone_path c.is) gone_more gone_along
-      (first-along (side_by table) first rest c.is.chain gone_long gone_along) (last-along (side_by table) first rest c.is.chain gone_long gone_along)
-      (added_map.gone-ends gone-come c.fits).0 c.moved_are (added_map.gone-table gone-come c.fits) (added_map.gone-keeps gone-come c.fits)
+      (added_map.gone-ends gone-come c.fits).0 c.moved_are (added_map.gone-table gone-come c.fits, added_map.gone-keeps gone-come c.fits)
 
 -- room to exchange kept halves is room for the way back
 module _ {face : Face} {ns : List ℕ} {parcel : ℕ} {path moved : List Half} {rows : MapRows} {table : HalfRows} {held : Held Half} {stars : Held Spoke}

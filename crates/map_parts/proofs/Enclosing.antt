@@ -7,10 +7,9 @@ use Rattle.cad_rows.specs.declared.names.Face.{Face}
 use Rattle.cad_rows.specs.declared.names.Face.TheVariants.{Parcel}
 use Rattle.cad_rows.specs.declared.rows.ParcelRow.{ParcelRow}
 use Rattle.cad_rows.specs.declared.rows.StringRow.{StringRow}
-use Rattle.cad_rings.specs.Cycle.{Ring, sides_of}
+use Rattle.cad_rings.specs.Cycle.{sides_of}
 use Rattle.cad_rings.specs.Surgery.{sides_of_chain}
 use Rattle.cad_rings.proofs.CallerLemmas.{sides_of_chain-is}
-use Rattle.cad_map.specs.declared.boundary.Boundary.{Boundary}
 use Rattle.cad_map.specs.Boundaries.{face_place, bounding, canonical_form}
 use Rattle.cad_map.specs.Chain.{start_of}
 use Rattle.cad_map.specs.Effects.{after}
@@ -29,9 +28,9 @@ use Rattle.map_parts.specs.declared.stars.Spoke.{Spoke}
 use Rattle.map_parts.specs.Adding.{HasRoomToCome, HasRoomToExchange, IsSeenAs}
 use Rattle.map_parts.specs.Parts.{HasHalves}
 use Rattle.map_parts.specs.Paths.{AreAlong, HasStringsMore}
-use Rattle.map_parts.specs.Islands.{FitsTable, AreOfRings, IsIslandOf}
-use Rattle.map_parts.specs.FaceChanges.{CanBring, CanTakeOut}
-use Rattle.map_parts.specs.Handing.{KeepsEach, HaveTwoFaces}
+use Rattle.map_parts.specs.Islands.{AreOfRings, IsIslandOf}
+use Rattle.map_parts.specs.FaceChanges.{CanBring, CanTakeOut, GoesWith, GoesWithIsland, GoesWithoutIsland}
+use Rattle.map_parts.specs.Handing.{HaveTwoFaces}
 use Rattle.map_parts.specs.Enclosing.{IsEnclosing, enclosed, rings_placed, CanBeginEnclose, CanBeginOpen, CanOpen}
 use Rattle.map_parts.proofs.AddedMap as added_map
 use Rattle.map_parts.proofs.AddedMap.{HaveCome}
@@ -173,24 +172,13 @@ module _ {face : Face} {added : List StringRow} {parcel : ParcelRow} {first : Ha
     made-none = (added_map.made-keeps made-come made-ready).none new_face (none m face ns added parcel.number all_path c.is)
 
     -- so the table goes with the map after it
-    pub made-table : (done : HalfRows) (put : Held Half)
-        → ((whole parted : Map) (ring : Ring) (left right : Boundary) (others : List Boundary)
-        → HasWholeRings whole → HasWholeRings parted
-        → IsIslandOf whole parted face new_face ring left right others
-        → HaveTwoFaces whole parted face new_face → has_face whole new_face ≡ false
-        → HasStringsMore whole parted all_path
-        → AreAlong new all_path (sides_of ring)
-        → AllByRecursion (HasHalves new) parted.strings
-        → AreOfRings parted new moved new_face others
-        → FitsTable whole new → KeepsEach whole new wide
-        → FitsTable parted done × KeepsEach parted done put)
-        → FitsTable (enclosed c.is) done × KeepsEach (enclosed c.is) done put
+    pub made-table : (done : HalfRows) (put : Held Half) → GoesWithIsland all_path face new_face moved new wide done put → GoesWith (enclosed c.is) done put
     made-table done put brings =
         brings m (enclosed c.is) c.is.points (canonical_form (bounding new_face c.is.points)) (canonical_form (bounding face (reverse c.is.points))) (rings_placed c.is)
         made-come.whole made-come.parts (island m face ns added parcel.number all_path c.is)
         (two m face ns added parcel.number all_path c.is) (none m face ns added parcel.number all_path c.is) (added_map.more made-come)
         (along m face ns added parcel.number all_path c.is new made-ready.there) (added_map.made-ends made-come made-ready) made-moved
-        (added_map.made-table made-come made-ready) (added_map.made-keeps made-come made-ready)
+        (added_map.made-table made-come made-ready, added_map.made-keeps made-come made-ready)
 
 -- ---- It is taken back
 
@@ -228,23 +216,12 @@ module _ {face : Face} {ns : List ℕ} {parcel : ℕ} {first : Half} {rest moved
   }
 
   -- the table goes with the map before it
-  pub gone-table : (wide : HalfRows) (put : Held Half)
-      → ((whole parted : Map) (ring : Ring) (left right : Boundary) (others : List Boundary)
-      → HasWholeRings whole → HasWholeRings parted → 2 ≤ length ring
-      → IsIslandOf whole parted face gone_face ring left right others
-      → HaveTwoFaces whole parted face gone_face
-      → HasStringsMore whole parted path
-      → AreAlong table path (sides_of ring)
-      → AllByRecursion (HasHalves table) whole.strings
-      → AreOfRings parted table moved gone_face others
-      → FitsTable parted table → KeepsEach parted table held
-      → FitsTable whole wide × KeepsEach whole wide put)
-      → FitsTable old wide × KeepsEach old wide put
+  pub gone-table : (wide : HalfRows) (put : Held Half) → GoesWithoutIsland path face gone_face moved table held wide put → GoesWith old wide put
   gone-table wide put takes =
       takes old last c.is.points (canonical_form (bounding gone_face c.is.points)) (canonical_form (bounding face (reverse c.is.points))) (rings_placed c.is)
       gone-come.whole gone-come.parts long gone_island (two old face ns c.added parcel path c.is)
       (added_map.more gone-come) gone_along (added_map.gone-ends gone-come c.fits).0 c.moved_are
-      (added_map.gone-table gone-come c.fits) (added_map.gone-keeps gone-come c.fits)
+      (added_map.gone-table gone-come c.fits, added_map.gone-keeps gone-come c.fits)
 
 -- room to exchange kept halves is room for the way back
 module _ {face : Face} {ns : List ℕ} {parcel : ℕ} {path moved : List Half} {rows : MapRows} {table : HalfRows} {held : Held Half} {stars : Held Spoke}

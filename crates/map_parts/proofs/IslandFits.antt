@@ -21,7 +21,7 @@ use Rattle.half_paths.specs.Path.{AreDifferent, AreElsewhere}
 use Rattle.half_paths.specs.Round.{IsRound}
 use Rattle.cad_laws.specs.Local.{IsShown, side_by, IsLocal}
 use Rattle.map_parts.specs.Parts.{HasHalves}
-use Rattle.map_parts.specs.Labels.{IsOnRing}
+use Rattle.map_parts.specs.Labels.{IsAlong, IsOnRing}
 use Rattle.map_parts.specs.Paths.{AreAlong, HasStringsMore}
 use Rattle.map_parts.specs.Relabelled.{on_cycles, RelabelsEach}
 use Rattle.map_parts.specs.Islands.{FitsTable, AreOfRings, IsIslandOf}
@@ -49,6 +49,9 @@ module _ (old new : HalfRows) (origins : (g : Half) → origin_of new g ≡ orig
         (λ h it. (it.0, it.1, on-same m it.0 h it.2, it.3)) halves of.each;
     all = λ b there is. let it = of.all b there is in (it.0, it.1, on-same m b it.0 it.2);
   }
+
+  pub half-same : ((g : Half) → has new g ≡ has old g) → {m : Map} {s : Side} {h : Half} → IsAlong m old s h → IsAlong m new s h
+  half-same same {h = h} on = record { there = same h ∙ on.there; shown = on.shown; side = side-same h ∙ on.side }
 
   pub ends-same : ((g : Half) → has new g ≡ has old g) → (strings : List StringRow) → AllByRecursion (HasHalves old) strings → AllByRecursion (HasHalves new) strings
   ends-same same strings ends = All-follows (HasHalves old) (HasHalves new) (λ s e. record {

@@ -1,7 +1,6 @@
 -- A merger along a chain on a map on half-edges that is made in place, and taken back.
-use Rattle.std.proofs.Common.{◌≡◌, ◌≢◌, ℕ, suc, ◌+◌, ◌≤◌, ◌==◌, false, refl, sym, ap, subst, ◌∙◌, List, [], ◌∷◌, ◌++◌, length, reverse, take, add-one, arith}
+use Rattle.std.proofs.Common.{◌≡◌, ◌≢◌, ℕ, suc, ◌+◌, ◌≤◌, ◌==◌, refl, sym, ap, subst, ◌∙◌, List, [], ◌∷◌, ◌++◌, length, reverse, take, add-one, arith}
 use Rattle.std.specs.Prelude.{IsPermutation}
-use Rattle.std.specs.List.{AllByRecursion}
 use Rattle.std.proofs.lemmas.Bool.{eqb-true, eq-eqb}
 use Rattle.std.proofs.lemmas.List.{length-take-le, reverse-reverse}
 use Rattle.std.proofs.lemmas.List.Elements.{Contains-append_right}
@@ -9,12 +8,12 @@ use Rattle.std.proofs.lemmas.List.Sorted.{IsPermutation-reverse}
 use Rattle.cad_rows.specs.declared.names.Face.{Face}
 use Rattle.cad_rows.specs.declared.names.Face.TheVariants.{Parcel}
 use Rattle.cad_rows.specs.declared.rows.ParcelRow.{ParcelRow}
-use Rattle.cad_rings.specs.Cycle.{Corner, turned}
-use Rattle.cad_rings.specs.Surgery.{sides_of_chain, chain_from, joined}
+use Rattle.cad_rings.specs.Cycle.{turned}
+use Rattle.cad_rings.specs.Surgery.{chain_from, joined}
 use Rattle.cad_map.specs.declared.boundary.Boundary.{Boundary}
 use Rattle.cad_map.specs.Boundaries.{bounding, canonical_form}
-use Rattle.cad_map.specs.Chain.{start_of, next_of, end_of, last_but_one, leaving}
-use Rattle.cad_map.specs.Map.{Map, has_face}
+use Rattle.cad_map.specs.Chain.{start_of, end_of}
+use Rattle.cad_map.specs.Map.{Map}
 use Rattle.cad_map.specs.Chain.{are_distinct}
 use Rattle.cad_map.specs.Merger.{ChainInRings, shared_sides}
 use Rattle.cad_map.specs.Merger.ChainInRings.{along, around}
@@ -23,22 +22,17 @@ use Rattle.cad_map.specs.Valid.{EachPair, IsValid}
 use Rattle.cad_map.proofs.CallerLemmas.{IsFound, found, along-passed, pairs-from_distinct, pairs-IsPermutation, All-at_each, Contains-first, Contains-later}
 use Rattle.half_table.specs.declared.half.Half.{Half}
 use Rattle.half_table.specs.Rows.{HalfRows}
-use Rattle.half_paths.specs.Path.{last_of}
 use Rattle.key_lists.specs.Held.{Held, IsSame}
-use Rattle.cad_laws.specs.Local.{IsShown, side_by}
 use Rattle.map_parts.specs.declared.edits.placed_strings.PlacedString.{PlacedString}
 use Rattle.map_parts.specs.declared.map_rows.MapRows.{MapRows}
 use Rattle.map_parts.specs.declared.stars.Spoke.{Spoke}
 use Rattle.map_parts.specs.Adding.{HasRoomToExchange}
-use Rattle.map_parts.specs.Parts.{HasHalves}
-use Rattle.map_parts.specs.Paths.{AreAlong, HasStringsMore}
-use Rattle.map_parts.specs.Islands.{FitsTable, AreOfRings}
+use Rattle.map_parts.specs.Paths.{HasStringsMore}
 use Rattle.map_parts.specs.Chains.{IsChainOf}
-use Rattle.map_parts.specs.FaceChanges.{CanBringAcross, CanTakeAcross}
-use Rattle.map_parts.specs.Handing.{KeepsEach, HaveTwoFaces}
+use Rattle.map_parts.specs.FaceChanges.{CanBringAcross, CanTakeAcross, GoesWith, GoesWithChain, GoesWithoutChain}
 use Rattle.map_parts.specs.Splitting.{FitMap}
 use Rattle.map_parts.specs.Merging.{IsMerging, merged, shared_chain, first_corner, last_corner, rings_past, CanBeginMerge, CanUnmerge}
-use Rattle.map_parts.proofs.ChainAcross.{first-along, last-along, start-away, end-away, start-differs, path-strung, on-away, back-away, two-last, ends-last}
+use Rattle.map_parts.proofs.ChainAcross.{chain-place, chain-tied, two-last, ends-last}
 use Rattle.map_parts.proofs.MergedRows as rows_of
 use Rattle.map_parts.proofs.RoomMade.{fit-grown}
 
@@ -150,33 +144,17 @@ module _ {keeper : Face} {ended : ℕ} {strings : List ℕ} {first : Half} {rest
   pub made-can : CanTakeAcross first rest keeper (Parcel ended) moved table wide
   made-can = record {
     path = rows_of.can-take m keeper ended first rest c.is.tried c.is.shared fit moved (rings_past c.is) c.moved_are room;
-    strung = path-strung (merged c.is) m whole_is chain open_is.long (first_corner c.is) (last_corner c.is) law.corners first rest more_is table c.fits.fits.local c.leads;
-    on_away = on-away (merged c.is) m whole_is chain open_is.long (first_corner c.is) (last_corner c.is) law.corners first rest more_is table c.fits.fits.local c.leads;
-    back_away = back-away (merged c.is) m whole_is chain open_is.long (first_corner c.is) (last_corner c.is) law.corners first rest more_is table c.fits.fits.local c.leads;
+    tied = chain-tied (merged c.is) m whole_is chain open_is.long (first_corner c.is) (last_corner c.is) law.corners first rest more_is table c.fits.fits.local c.leads;
     one_more = room.outer;
   }
 
   -- the table goes with the map after it
-  pub made-table : (done : HalfRows) (put : Held Half)
-      → ((whole parted : Map) (chain : List ℕ) (fc lc : Corner) (one left right : Boundary) (others : List Boundary)
-      → HasWholeRings whole → HasWholeRings parted → 2 ≤ length chain
-      → IsChainOf whole parted keeper (Parcel ended) chain fc lc one left right others
-      → HaveTwoFaces whole parted keeper (Parcel ended)
-      → HasStringsMore whole parted path
-      → AreAlong table path (sides_of_chain chain)
-      → side_by table first ≡ (start_of chain, next_of chain)
-      → side_by table (last_of first rest) ≡ (last_but_one chain, end_of chain)
-      → AllByRecursion (HasHalves table) whole.strings
-      → AreOfRings parted table moved (Parcel ended) others
-      → FitsTable parted table → KeepsEach parted table wide
-      → FitsTable whole done × KeepsEach whole done put)
-      → FitsTable (merged c.is) done × KeepsEach (merged c.is) done put
+  pub made-table : (done : HalfRows) (put : Held Half) → GoesWithoutChain path keeper (Parcel ended) moved table wide done put → GoesWith (merged c.is) done put
   made-table done put takes =
       takes (merged c.is) m chain (first_corner c.is) (last_corner c.is) (one_ring m keeper ended path c.is) (bounding (Parcel ended) c.is.ended_ring) (bounding keeper c.is.kept_ring) (rings_past c.is)
       (parts m keeper ended path c.is) whole_is open_is.long law (rows_of.two m keeper ended path c.is.tried c.is.shared) more_is c.leads
-      (first-along (side_by table) first rest chain open_is.long c.leads) (last-along (side_by table) first rest chain open_is.long c.leads)
       (rows_of.ends-left m keeper ended path c.is.tried c.is.shared table c.fits.fits.ends) c.moved_are
-      (rows_of.made-table m keeper ended first rest c.is.tried c.is.shared fit) (rows_of.made-keeps m keeper ended first rest c.is.tried c.is.shared fit)
+      (rows_of.made-table m keeper ended first rest c.is.tried c.is.shared fit, rows_of.made-keeps m keeper ended first rest c.is.tried c.is.shared fit)
 
 -- ---- It is taken back
 
@@ -211,33 +189,13 @@ module _ {keeper : Face} {row : ParcelRow} {place : ℕ} {first : Half} {rest : 
   back-can = record {
     path =
         rows_of.can-bring old keeper first rest c.is.tried c.is.shared c.went c.fits c.there moved (rings_past c.is) c.moved_are c.loose c.inner_room c.outer_room;
-    start_in = c.start_on.there;
-    end_in = c.end_on.there;
-    start_away = start-away last old gone_path gone_more table gone_chain (first_corner c.is) (last_corner c.is) gone_law.corners gone_open.apart start end c.start_on c.end_on;
-    end_away = end-away last old gone_path gone_more table gone_chain (first_corner c.is) (last_corner c.is) gone_law.corners gone_open.apart start end c.start_on c.end_on;
-    differ = start-differs last old gone_path gone_more table gone_chain (first_corner c.is) (last_corner c.is) gone_law.corners gone_open.apart start end c.start_on c.end_on;
+    place = chain-place last old gone_path gone_more table gone_chain (first_corner c.is) (last_corner c.is) gone_law.corners gone_open.apart start end c.start_on c.end_on;
   }
 
   -- the table goes with the map before it
-  pub back-table : (wide : HalfRows) (put : Held Half)
-      → ((whole parted : Map) (chain : List ℕ) (fc lc : Corner) (one left right : Boundary) (others : List Boundary)
-      → HasWholeRings whole → HasWholeRings parted → 2 ≤ length chain
-      → IsChainOf whole parted keeper gone_face chain fc lc one left right others
-      → HaveTwoFaces whole parted keeper gone_face → has_face whole gone_face ≡ false
-      → HasStringsMore whole parted gone_path
-      → AreAlong table gone_path (sides_of_chain chain)
-      → side_by table first ≡ (start_of chain, next_of chain)
-      → side_by table (last_of first rest) ≡ (last_but_one chain, end_of chain)
-      → AllByRecursion (HasHalves table) parted.strings
-      → IsShown whole start → side_by table start ≡ leaving fc
-      → IsShown whole end → side_by table end ≡ leaving lc
-      → AreOfRings parted table moved gone_face others
-      → FitsTable whole table → KeepsEach whole table held
-      → FitsTable parted wide × KeepsEach parted wide put)
-      → FitsTable old wide × KeepsEach old wide put
+  pub back-table : (wide : HalfRows) (put : Held Half) → GoesWithChain gone_path start end keeper gone_face moved table held wide put → GoesWith old wide put
   back-table wide put brings =
       brings last old gone_chain (first_corner c.is) (last_corner c.is) (one_ring old keeper row.number gone_path c.is) (bounding gone_face c.is.ended_ring) (bounding keeper c.is.kept_ring) (rings_past c.is)
       (parts old keeper row.number gone_path c.is) (whole old keeper row.number gone_path c.is) gone_open.long gone_law (rows_of.two old keeper row.number gone_path c.is.tried c.is.shared) (rows_of.none old keeper row.number gone_path c.is.tried c.is.shared) gone_more c.leads
-      (first-along (side_by table) first rest gone_chain gone_open.long c.leads) (last-along (side_by table) first rest gone_chain gone_open.long c.leads)
-      (rows_of.all-back old keeper first rest c.is.tried c.is.shared c.went c.fits c.there) c.start_on.shown c.start_on.side c.end_on.shown c.end_on.side c.moved_are
-      (rows_of.last-table old keeper first rest c.is.tried c.is.shared c.went c.fits c.there) (rows_of.last-keeps old keeper first rest c.is.tried c.is.shared c.went c.fits c.there)
+      (rows_of.all-back old keeper first rest c.is.tried c.is.shared c.went c.fits c.there) c.start_on c.end_on c.moved_are
+      (rows_of.last-table old keeper first rest c.is.tried c.is.shared c.went c.fits c.there, rows_of.last-keeps old keeper first rest c.is.tried c.is.shared c.went c.fits c.there)

@@ -1,5 +1,5 @@
 -- What a merger along a chain leaves for the way back.
-use Rattle.std.proofs.Common.{◌≡◌, ℕ, refl, subst, ◌∙◌, List}
+use Rattle.std.proofs.Common.{◌≡◌, ℕ, refl, subst, List}
 use Rattle.cad_rings.specs.Surgery.{sides_of_chain}
 use Rattle.cad_rows.specs.declared.names.Face.{Face}
 use Rattle.cad_rows.specs.declared.names.Face.TheVariants.{Parcel}
@@ -13,7 +13,7 @@ use Rattle.map_parts.specs.declared.map_rows.MapRows.{MapRows}
 use Rattle.map_parts.specs.declared.stars.Spoke.{Spoke}
 use Rattle.map_parts.specs.Labels.{IsAlong}
 use Rattle.map_parts.specs.Merging.{merged, shared_chain, first_corner, last_corner, rings_past, CanBeginMerge, CanUnmerge}
-use Rattle.map_parts.proofs.IslandFits.{along-same, of-same, side-same}
+use Rattle.map_parts.proofs.IslandFits.{along-same, half-same, of-same}
 use Rattle.map_parts.proofs.MergedRows.{HasGone, gone-stood, gone-there}
 
 -- For the parcel of that number: what it leaves can come back.
@@ -35,8 +35,8 @@ module _ {keeper : Face} {row : ParcelRow} {place : ℕ} {strings : List ℕ} {p
       there = gone-there it c.fits;
       loose = it.loose;
       leads = along-same table wide it.halves.origin path (sides_of_chain (shared_chain c.is)) c.leads;
-      start_on = record { there = it.halves.has start ∙ start_on.there; shown = start_on.shown; side = side-same table wide it.halves.origin start ∙ start_on.side };
-      end_on = record { there = it.halves.has end ∙ end_on.there; shown = end_on.shown; side = side-same table wide it.halves.origin end ∙ end_on.side };
+      start_on = half-same table wide it.halves.origin it.halves.has start_on;
+      end_on = half-same table wide it.halves.origin it.halves.has end_on;
       moved_are = of-same table wide it.halves.origin c.map moved (Parcel row.number) (rings_past c.is) c.moved_are;
       went = gone-stood it c.fits c.strings_are;
       room = it.room;

@@ -1,15 +1,13 @@
 -- A merger round an island on a map on half-edges that is made in place, and taken back.
-use Rattle.std.proofs.Common.{◌≡◌, ℕ, ◌≤◌, false, refl, subst, List, ◌∷◌, length}
-use Rattle.std.specs.List.{AllByRecursion, Contains}
+use Rattle.std.proofs.Common.{ℕ, ◌≤◌, refl, subst, List, ◌∷◌, length}
+use Rattle.std.specs.List.{Contains}
 use Rattle.std.proofs.lemmas.List.Sorted.{IsPermutation-sym, Contains-permutation}
 use Rattle.cad_rows.specs.declared.names.Face.{Face}
 use Rattle.cad_rows.specs.declared.names.Face.TheVariants.{Parcel}
 use Rattle.cad_rows.specs.declared.rows.ParcelRow.{ParcelRow}
-use Rattle.cad_rings.specs.Cycle.{Ring, sides_of}
 use Rattle.cad_rings.proofs.CallerLemmas.{IsSameRing-length}
-use Rattle.cad_map.specs.declared.boundary.Boundary.{Boundary}
 use Rattle.cad_map.specs.Boundaries.{bounding}
-use Rattle.cad_map.specs.Map.{Map, has_face}
+use Rattle.cad_map.specs.Map.{Map}
 use Rattle.cad_map.specs.Rings.{HasWholeRings}
 use Rattle.cad_map.proofs.CallerLemmas.{All-from_each, All-at_each, Contains-first}
 use Rattle.half_table.specs.declared.half.Half.{Half}
@@ -21,11 +19,9 @@ use Rattle.map_parts.specs.declared.edits.placed_strings.PlacedString.{PlacedStr
 use Rattle.map_parts.specs.declared.map_rows.MapRows.{MapRows}
 use Rattle.map_parts.specs.declared.stars.Spoke.{Spoke}
 use Rattle.map_parts.specs.Adding.{HasRoomToExchange}
-use Rattle.map_parts.specs.Parts.{HasHalves}
-use Rattle.map_parts.specs.Paths.{AreAlong, HasStringsMore}
-use Rattle.map_parts.specs.Islands.{FitsTable, AreOfRings, IsIslandOf}
-use Rattle.map_parts.specs.FaceChanges.{CanBring, CanTakeOut}
-use Rattle.map_parts.specs.Handing.{KeepsEach, HaveTwoFaces}
+use Rattle.map_parts.specs.Paths.{HasStringsMore}
+use Rattle.map_parts.specs.Islands.{IsIslandOf}
+use Rattle.map_parts.specs.FaceChanges.{CanBring, CanTakeOut, GoesWith, GoesWithIsland, GoesWithoutIsland}
 use Rattle.map_parts.specs.Splitting.{FitMap}
 use Rattle.map_parts.specs.MergingIsland.{IsMergingIsland, without_island, rings_apart, CanBeginMergeIsland, CanUnmergeIsland}
 use Rattle.map_parts.proofs.AlongPaths.{ring-round}
@@ -80,24 +76,13 @@ module _ {keeper : Face} {ended : ℕ} {strings : List ℕ} {first : Half} {rest
   }
 
   -- the table goes with the map after it
-  pub made-table : (done : HalfRows) (put : Held Half)
-      → ((whole parted : Map) (ring : Ring) (left right : Boundary) (others : List Boundary)
-      → HasWholeRings whole → HasWholeRings parted → 2 ≤ length ring
-      → IsIslandOf whole parted keeper (Parcel ended) ring left right others
-      → HaveTwoFaces whole parted keeper (Parcel ended)
-      → HasStringsMore whole parted path
-      → AreAlong table path (sides_of ring)
-      → AllByRecursion (HasHalves table) whole.strings
-      → AreOfRings parted table moved (Parcel ended) others
-      → FitsTable parted table → KeepsEach parted table wide
-      → FitsTable whole done × KeepsEach whole done put)
-      → FitsTable (without_island c.is) done × KeepsEach (without_island c.is) done put
+  pub made-table : (done : HalfRows) (put : Held Half) → GoesWithoutIsland path keeper (Parcel ended) moved table wide done put → GoesWith (without_island c.is) done put
   made-table done put takes =
       takes (without_island c.is) m c.points (bounding (Parcel ended) c.is.ended_ring) (bounding keeper c.is.kept_ring) (rings_apart c.is)
       (rows_of.parts m keeper ended path c.is.tried c.is.shared) whole_is (long m keeper ended c.points path c.is) law
       (rows_of.two m keeper ended path c.is.tried c.is.shared) more_is c.along
       (rows_of.ends-left m keeper ended path c.is.tried c.is.shared table c.fits.fits.ends) c.moved_are
-      (rows_of.made-table m keeper ended first rest c.is.tried c.is.shared fit) (rows_of.made-keeps m keeper ended first rest c.is.tried c.is.shared fit)
+      (rows_of.made-table m keeper ended first rest c.is.tried c.is.shared fit, rows_of.made-keeps m keeper ended first rest c.is.tried c.is.shared fit)
 
 -- ---- It is taken back
 
@@ -119,22 +104,11 @@ module _ {keeper : Face} {row : ParcelRow} {place : ℕ} {first : Half} {rest mo
   back-can = rows_of.can-bring old keeper first rest c.is.tried c.is.shared c.went c.fits c.there moved (rings_apart c.is) c.moved_are c.loose c.inner_room c.outer_room
 
   -- the table goes with the map before it
-  pub back-table : (wide : HalfRows) (put : Held Half)
-      → ((whole parted : Map) (ring : Ring) (left right : Boundary) (others : List Boundary)
-      → HasWholeRings whole → HasWholeRings parted
-      → IsIslandOf whole parted keeper gone_face ring left right others
-      → HaveTwoFaces whole parted keeper gone_face → has_face whole gone_face ≡ false
-      → HasStringsMore whole parted gone_path
-      → AreAlong table gone_path (sides_of ring)
-      → AllByRecursion (HasHalves table) parted.strings
-      → AreOfRings parted table moved gone_face others
-      → FitsTable whole table → KeepsEach whole table held
-      → FitsTable parted wide × KeepsEach parted wide put)
-      → FitsTable old wide × KeepsEach old wide put
+  pub back-table : (wide : HalfRows) (put : Held Half) → GoesWithIsland gone_path keeper gone_face moved table held wide put → GoesWith old wide put
   back-table wide put brings =
       brings last old c.points (bounding gone_face c.is.ended_ring) (bounding keeper c.is.kept_ring) (rings_apart c.is)
       (rows_of.parts old keeper row.number gone_path c.is.tried c.is.shared) (rows_of.whole old keeper row.number gone_path c.is.tried c.is.shared) (island old keeper row.number c.points gone_path c.is)
       (rows_of.two old keeper row.number gone_path c.is.tried c.is.shared) (rows_of.none old keeper row.number gone_path c.is.tried c.is.shared)
       (rows_of.more old keeper row.number gone_path c.is.tried c.is.shared) c.along
       (rows_of.all-back old keeper first rest c.is.tried c.is.shared c.went c.fits c.there) c.moved_are
-      (rows_of.last-table old keeper first rest c.is.tried c.is.shared c.went c.fits c.there) (rows_of.last-keeps old keeper first rest c.is.tried c.is.shared c.went c.fits c.there)
+      (rows_of.last-table old keeper first rest c.is.tried c.is.shared c.went c.fits c.there, rows_of.last-keeps old keeper first rest c.is.tried c.is.shared c.went c.fits c.there)

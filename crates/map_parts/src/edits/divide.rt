@@ -1,32 +1,19 @@
 //! A chain that comes across a face, and goes again, with the faces of the rings on both its hands.
-ghost use Rattle.std.specs.Prelude.{◌≡◌, ◌≢◌, ◌≤◌, ◌∷◌, ◌+◌, ◌*◌, ℕ, List, length, true, false};
-ghost use Rattle.std.specs.Prelude.{if◌then◌else◌};
-ghost use Rattle.std.specs.List.{AllByRecursion};
-ghost use Rattle.cad_rings.specs.Cycle.{Corner};
-ghost use Rattle.cad_rings.specs.Surgery.{sides_of_chain};
-ghost use Rattle.cad_map.specs.declared.boundary.Boundary.{Boundary as BoundaryOf};
+ghost use Rattle.std.specs.Prelude.{◌≡◌, ◌∷◌, ◌+◌, ◌*◌, ℕ, length, if◌then◌else◌};
 ghost use Rattle.cad_map.specs.Boundaries.{face_place as face_place_of};
-ghost use Rattle.cad_map.specs.Chain.{start_of, next_of, end_of, last_but_one, leaving};
-ghost use Rattle.cad_map.specs.Map.{Map, has_face};
-ghost use Rattle.cad_map.specs.Rings.{HasWholeRings};
 ghost use Rattle.half_table.specs.declared.half.Half.{Half as HalfOf};
 ghost use Rattle.half_table.specs.Count.{ticked};
 ghost use Rattle.half_table.specs.Cycle.{holds};
-ghost use Rattle.half_table.specs.Half.{twin};
 ghost use Rattle.half_table.specs.Rows.{IsLinked, has, next, origin_of, face, cycle};
-ghost use Rattle.half_paths.specs.Path.{strings_of, AreIn, AreDifferent, AreElsewhere, last_of};
+ghost use Rattle.half_paths.specs.Path.{strings_of};
 ghost use Rattle.half_paths.specs.Loose.{is_of, AreLoose};
-ghost use Rattle.half_paths.specs.Strung.{IsStrung};
-ghost use Rattle.cad_laws.specs.Local.{IsShown, IsLocal, side_by};
-ghost use Rattle.cad_laws.specs.Parting.{IsParted};
-ghost use Rattle.map_parts.specs.Parts.{HasHalves};
-ghost use Rattle.map_parts.specs.Paths.{AreAlong, HasStringsMore};
 ghost use Rattle.map_parts.specs.Relabelled.{cycles_length};
-ghost use Rattle.map_parts.specs.Islands.{FitsTable, AreOfRings};
+ghost use Rattle.map_parts.specs.FaceChanges.{CanBringChain, CanTakeChain};
 ghost use Rattle.map_parts.specs.FaceChanges.{CanBringAcross, CanTakeAcross};
-ghost use Rattle.map_parts.specs.Handing.{KeepsEach, HaveTwoFaces, KeepsEnds, KeepsNoMore};
-ghost use Rattle.map_parts.specs.Chains.{IsChainOf};
-ghost use Rattle.key_lists.specs.Held.{items_at, HasRoomAt, capacity_at};
+ghost use Rattle.map_parts.specs.FaceChanges.{IsLocalWithChain, IsLocalWithoutChain};
+ghost use Rattle.map_parts.specs.FaceChanges.{GoesWithChain, GoesWithoutChain};
+ghost use Rattle.map_parts.specs.Handing.{KeepsEnds, KeepsNoMore};
+ghost use Rattle.key_lists.specs.Held.{items_at, capacity_at};
 
 use crate::edits::chain::{bring_chain, take_chain};
 use crate::edits::faces::{relabel_each, relabel_path};
@@ -47,32 +34,15 @@ pub(crate) fn bring_left<T: Tally>(
     outer: &Face,
     inner: &Face,
 )
-    requires linked { IsLinked table.old.rows }
-    requires within { AreIn table.old.rows (first.now ∷ rest.now) }
-    requires different { AreDifferent (first.now ∷ rest.now) }
-    requires loose { AreLoose (next table.old.rows) (first.now ∷ rest.now) }
-    requires start_in { has table.old.rows start.now ≡ true }
-    requires end_in { has table.old.rows end.now ≡ true }
-    requires start_away { AreElsewhere start.now (first.now ∷ rest.now) }
-    requires end_away { AreElsewhere end.now (first.now ∷ rest.now) }
-    requires differ { start.now ≢ end.now }
+    requires { CanBringChain (first.now ∷ rest.now) start.now end.now table.old.rows }
     ensures faces { (g : HalfOf) → face table.new.rows g
         ≡ (if holds (cycle table.new.rows first.now) g then inner.now
         else if is_of (strings_of (first.now ∷ rest.now)) g then outer.now
         else face table.old.rows g) }
 
     // A table that is local to a map is local to the map that has the chain more.
-    ensures local { (whole parted : Map) (chain : List ℕ) (first_corner last_corner : Corner)
-        → HasWholeRings whole → HasWholeRings parted
-        → IsParted whole parted chain first_corner last_corner
-        → HasStringsMore whole parted (first.now ∷ rest.now)
-        → AreAlong table.old.rows (first.now ∷ rest.now) (sides_of_chain chain)
-        → side_by table.old.rows first.now ≡ (start_of chain, next_of chain)
-        → side_by table.old.rows (last_of first.now rest.now) ≡ (last_but_one chain, end_of chain)
-        → AllByRecursion (HasHalves table.old.rows) parted.strings
-        → IsShown whole start.now → side_by table.old.rows start.now ≡ leaving first_corner
-        → IsShown whole end.now → side_by table.old.rows end.now ≡ leaving last_corner
-        → IsLocal whole table.old.rows → IsLocal parted table.new.rows }
+    ensures local { IsLocalWithChain (first.now ∷ rest.now) start.now end.now table.old.rows
+        table.new.rows }
 
     ensures has { (g : HalfOf) → has table.new.rows g ≡ has table.old.rows g }
     ensures origin { (g : HalfOf) → origin_of table.new.rows g ≡ origin_of table.old.rows g }
@@ -95,28 +65,14 @@ pub(crate) fn take_left<T: Tally>(
     outer: &Face,
     inner: &Face,
 )
-    requires linked { IsLinked table.old.rows }
-    requires within { AreIn table.old.rows (first.now ∷ rest.now) }
-    requires different { AreDifferent (first.now ∷ rest.now) }
-    requires strung { IsStrung (next table.old.rows) first.now rest.now }
-    requires on_away { AreElsewhere (next table.old.rows (last_of first.now rest.now))
-        (first.now ∷ rest.now) }
-    requires back_away { AreElsewhere (next table.old.rows (twin first.now))
-        (first.now ∷ rest.now) }
+    requires { CanTakeChain first.now rest.now table.old.rows }
     ensures faces { (g : HalfOf) → face table.new.rows g
         ≡ (if is_of (strings_of (first.now ∷ rest.now)) g then inner.now
         else if holds (cycle table.old.rows first.now) g then outer.now
         else face table.old.rows g) }
 
     // A table that is local to a map with a chain more is local to the map without it.
-    ensures local { (whole parted : Map) (chain : List ℕ) (first_corner last_corner : Corner)
-        → HasWholeRings parted → 2 ≤ length chain
-        → IsParted whole parted chain first_corner last_corner
-        → HasStringsMore whole parted (first.now ∷ rest.now)
-        → AreAlong table.old.rows (first.now ∷ rest.now) (sides_of_chain chain)
-        → side_by table.old.rows first.now ≡ (start_of chain, next_of chain)
-        → side_by table.old.rows (last_of first.now rest.now) ≡ (last_but_one chain, end_of chain)
-        → IsLocal parted table.old.rows → IsLocal whole table.new.rows }
+    ensures local { IsLocalWithoutChain (first.now ∷ rest.now) table.old.rows table.new.rows }
 
     ensures loose { AreLoose (next table.new.rows) (first.now ∷ rest.now) }
     ensures has { (g : HalfOf) → has table.new.rows g ≡ has table.old.rows g }
@@ -150,22 +106,8 @@ pub(crate) fn bring_across<T: Tally>(
 
     // A table that goes with a map goes with the map that has the chain more, and so do the kept
     // halves.
-    ensures chain { (whole parted : Map) (chain : List ℕ) (first_corner last_corner : Corner)
-        (one left right : BoundaryOf) (others : List BoundaryOf)
-        → HasWholeRings whole → HasWholeRings parted → 2 ≤ length chain
-        → IsChainOf whole parted outer.now inner.now chain first_corner last_corner one left right
-        others
-        → HaveTwoFaces whole parted outer.now inner.now → has_face whole inner.now ≡ false
-        → HasStringsMore whole parted (first.now ∷ rest.now)
-        → AreAlong table.old.rows (first.now ∷ rest.now) (sides_of_chain chain)
-        → side_by table.old.rows first.now ≡ (start_of chain, next_of chain)
-        → side_by table.old.rows (last_of first.now rest.now) ≡ (last_but_one chain, end_of chain)
-        → AllByRecursion (HasHalves table.old.rows) parted.strings
-        → IsShown whole start.now → side_by table.old.rows start.now ≡ leaving first_corner
-        → IsShown whole end.now → side_by table.old.rows end.now ≡ leaving last_corner
-        → AreOfRings parted table.old.rows moved.now inner.now others
-        → FitsTable whole table.old.rows → KeepsEach whole table.old.rows kept.old
-        → FitsTable parted table.new.rows × KeepsEach parted table.new.rows kept.new }
+    ensures chain { GoesWithChain (first.now ∷ rest.now) start.now end.now outer.now inner.now
+        moved.now table.old.rows kept.old table.new.rows kept.new }
 
     ensures halves { KeepsEnds table.old.rows table.new.rows }
     ensures linked { IsLinked table.new.rows }
@@ -204,20 +146,8 @@ pub(crate) fn take_across<T: Tally>(
 
     // A table that goes with a map with a chain more goes with the map without it, and so do the
     // kept halves.
-    ensures chain { (whole parted : Map) (chain : List ℕ) (first_corner last_corner : Corner)
-        (one left right : BoundaryOf) (others : List BoundaryOf)
-        → HasWholeRings whole → HasWholeRings parted → 2 ≤ length chain
-        → IsChainOf whole parted outer.now inner.now chain first_corner last_corner one left right
-        others
-        → HaveTwoFaces whole parted outer.now inner.now
-        → HasStringsMore whole parted (first.now ∷ rest.now)
-        → AreAlong table.old.rows (first.now ∷ rest.now) (sides_of_chain chain)
-        → side_by table.old.rows first.now ≡ (start_of chain, next_of chain)
-        → side_by table.old.rows (last_of first.now rest.now) ≡ (last_but_one chain, end_of chain)
-        → AllByRecursion (HasHalves table.old.rows) whole.strings
-        → AreOfRings parted table.old.rows moved.now inner.now others
-        → FitsTable parted table.old.rows → KeepsEach parted table.old.rows kept.old
-        → FitsTable whole table.new.rows × KeepsEach whole table.new.rows kept.new }
+    ensures chain { GoesWithoutChain (first.now ∷ rest.now) outer.now inner.now moved.now
+        table.old.rows kept.old table.new.rows kept.new }
 
     ensures loose { AreLoose (next table.new.rows) (first.now ∷ rest.now) }
     ensures halves { KeepsEnds table.old.rows table.new.rows }

@@ -1,26 +1,16 @@
 //! An island in a face, with the halves that are kept of its rings: it comes where a face is
 //! enclosed, and goes where two faces are merged round it.
-ghost use Rattle.std.specs.Prelude.{◌≡◌, ◌≢◌, ◌≤◌, ◌∷◌, ◌+◌, ℕ, List, length, false};
-ghost use Rattle.std.specs.List.{AllByRecursion};
-ghost use Rattle.cad_rings.specs.Cycle.{Ring, sides_of};
-ghost use Rattle.cad_map.specs.declared.boundary.Boundary.{Boundary as BoundaryOf};
+ghost use Rattle.std.specs.Prelude.{◌≡◌, ◌∷◌, ◌+◌, ℕ, length};
 ghost use Rattle.cad_map.specs.Boundaries.{face_place as face_place_of};
-ghost use Rattle.cad_map.specs.Map.{Map, has_face};
-ghost use Rattle.cad_map.specs.Rings.{HasWholeRings};
-ghost use Rattle.half_table.specs.declared.half.Half.{Half as HalfOf};
 ghost use Rattle.half_table.specs.Half.{twin};
-ghost use Rattle.half_table.specs.Rows.{IsLinked, has, next, origin_of, cycle};
+ghost use Rattle.half_table.specs.Rows.{IsLinked, next, cycle};
 ghost use Rattle.half_table.specs.Count.{ticked};
-ghost use Rattle.half_paths.specs.Path.{AreIn, AreDifferent};
 ghost use Rattle.half_paths.specs.Loose.{AreLoose};
-ghost use Rattle.half_paths.specs.Round.{IsRound};
-ghost use Rattle.key_lists.specs.Held.{items_at, HasRoomAt, capacity_at};
-ghost use Rattle.map_parts.specs.Parts.{HasHalves};
-ghost use Rattle.map_parts.specs.Paths.{AreAlong, HasStringsMore};
+ghost use Rattle.key_lists.specs.Held.{items_at, capacity_at};
 ghost use Rattle.map_parts.specs.Relabelled.{cycles_length};
-ghost use Rattle.map_parts.specs.Islands.{FitsTable, AreOfRings, IsIslandOf};
 ghost use Rattle.map_parts.specs.FaceChanges.{CanBring, CanTakeOut};
-ghost use Rattle.map_parts.specs.Handing.{KeepsEach, HaveTwoFaces, KeepsEnds, KeepsNoMore};
+ghost use Rattle.map_parts.specs.FaceChanges.{GoesWithIsland, GoesWithoutIsland};
+ghost use Rattle.map_parts.specs.Handing.{KeepsEnds, KeepsNoMore};
 
 use crate::edits::handing::{clear, hand_over};
 use crate::edits::island::{bring_island, take_island};
@@ -46,16 +36,8 @@ pub(crate) fn bring_in<T: Tally>(
         kept.old }
 
     // A table that goes with a map goes with that map and the island, and so do the kept halves.
-    ensures island { (whole parted : Map) (ring : Ring) (left right : BoundaryOf) (others : List BoundaryOf)
-        → HasWholeRings whole → HasWholeRings parted
-        → IsIslandOf whole parted outer.now inner.now ring left right others
-        → HaveTwoFaces whole parted outer.now inner.now → has_face whole inner.now ≡ false
-        → HasStringsMore whole parted (first.now ∷ rest.now)
-        → AreAlong table.old.rows (first.now ∷ rest.now) (sides_of ring)
-        → AllByRecursion (HasHalves table.old.rows) parted.strings
-        → AreOfRings parted table.old.rows moved.now inner.now others
-        → FitsTable whole table.old.rows → KeepsEach whole table.old.rows kept.old
-        → FitsTable parted table.new.rows × KeepsEach parted table.new.rows kept.new }
+    ensures island { GoesWithIsland (first.now ∷ rest.now) outer.now inner.now moved.now
+        table.old.rows kept.old table.new.rows kept.new }
 
     ensures halves { KeepsEnds table.old.rows table.new.rows }
     ensures linked { IsLinked table.new.rows }
@@ -92,16 +74,8 @@ pub(crate) fn take_out<T: Tally>(
 
     // A table that goes with a map and an island goes with the map without it, and so do the kept
     // halves.
-    ensures island { (whole parted : Map) (ring : Ring) (left right : BoundaryOf) (others : List BoundaryOf)
-        → HasWholeRings whole → HasWholeRings parted → 2 ≤ length ring
-        → IsIslandOf whole parted outer.now inner.now ring left right others
-        → HaveTwoFaces whole parted outer.now inner.now
-        → HasStringsMore whole parted (first.now ∷ rest.now)
-        → AreAlong table.old.rows (first.now ∷ rest.now) (sides_of ring)
-        → AllByRecursion (HasHalves table.old.rows) whole.strings
-        → AreOfRings parted table.old.rows moved.now inner.now others
-        → FitsTable parted table.old.rows → KeepsEach parted table.old.rows kept.old
-        → FitsTable whole table.new.rows × KeepsEach whole table.new.rows kept.new }
+    ensures island { GoesWithoutIsland (first.now ∷ rest.now) outer.now inner.now moved.now
+        table.old.rows kept.old table.new.rows kept.new }
 
     ensures loose { AreLoose (next table.new.rows) (first.now ∷ rest.now) }
     ensures halves { KeepsEnds table.old.rows table.new.rows }

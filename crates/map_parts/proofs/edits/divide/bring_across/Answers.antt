@@ -5,15 +5,22 @@ use Rattle.half_table.specs.Count.{ticked}
 use Rattle.half_table.specs.Rows.{has, cycle}
 use Rattle.half_paths.proofs.Along.{ticked-add}
 use Rattle.key_lists.specs.Held.{items_at}
+use Rattle.cad_laws.specs.Local.{side_by}
 use Rattle.map_parts.specs.Relabelled.{cycles_length}
 use Rattle.map_parts.specs.Islands.{FitsTable}
 use Rattle.map_parts.specs.Handing.{KeepsBoth}
 use Rattle.map_parts.proofs.RelabelledEach.{cycle-same, in-relabelled, length-same}
 use Rattle.map_parts.proofs.Handed.{count-handed, left-handed, both-in}
 use Rattle.map_parts.proofs.KeptIsland.{room-handed}
+use Rattle.map_parts.proofs.ChainAcross.{first-along, last-along}
 use Rattle.map_parts.proofs.ChainFits.{two-mid, along-mid, fits-across}
 use Rattle.map_parts.proofs.KeptChain.{chain-kept}
 use Rattle.map_parts.proofs.edits.divide.bring_across.Goals as goal
+
+pub bring_left-requires : goal.bring_left-requires
+bring_left-requires g c =
+    let path = c.requires.path in
+    record { linked = path.linked; within = path.within; different = path.different; loose = path.loose; place = c.requires.place }
 
 pub hand_over-requires-clause-within : goal.hand_over-requires-clause-within
 hand_over-requires-clause-within g c =
@@ -99,7 +106,7 @@ returns-clause-work g c =
     c.relabel_each.ensures.work ∙ ap (ticked q) c.bring_left.ensures.work ∙ sym (ticked-add (n + r) q w) ∙ ap (λ k. ticked k w) turn ∙ (λ i. ticked (n + (is_r i + is_q i)) w)
 
 pub returns-clause-chain : goal.returns-clause-chain
-returns-clause-chain g c = λ whole parted chain fc lc one left right others rings parts long it two none more along first_side last_side ends a_in a_side b_in b_side of fits keeps.
+returns-clause-chain g c = λ whole parted chain fc lc one left right others rings parts long it two none more along ends start_on end_on of goes.
     let outer = c.args.outer.now in
     let inner = c.args.inner.now in
     let first : Half = c.args.first.now in
@@ -110,7 +117,10 @@ returns-clause-chain g c = λ whole parted chain fc lc one left right others rin
     let new = c.relabel_each.new.table.rows in
     let labels = c.relabel_each.ensures.relabels in
     let left_one = c.bring_left.ensures in
-    let local = left_one.local whole parted chain fc lc rings parts it.corners more along first_side last_side ends a_in a_side b_in b_side fits.local in
+    let fits = goes.0 in
+    let first_side = first-along (side_by old) first rest chain long along in
+    let last_side = last-along (side_by old) first rest chain long along in
+    let local = left_one.local whole parted chain fc lc rings parts long it.corners more along ends start_on end_on fits.local in
     let fits_new : FitsTable parted new =
     fits-across whole parted outer inner chain fc lc one left right others it rings parts long first rest more moved old mid new left_one.has left_one.origin left_one.faces
     local labels c.relabel_each.ensures.linked along first_side last_side ends of fits in
@@ -123,5 +133,5 @@ returns-clause-chain g c = λ whole parted chain fc lc one left right others rin
     let both = subst (λ (h : Half). KeepsBoth (face_place inner) (face_place outer) first h c.hand_over.new.kept c.keep_both.new.kept) c.twin-back.ensures.is c.keep_both.ensures.both in (
       fits_new,
       chain-kept whole parted outer inner chain fc lc one left right others it rings parts long two none first rest more old mid new left_one.origin labels.origin fits local two_mid fits_new along_mid
-          left_one.faces c.args.kept.now c.hand_over.new.kept c.keep_both.new.kept c.hand_over-2.new.kept keeps c.hand_over.ensures.hands both c.hand_over-2.ensures.hands,
+          left_one.faces c.args.kept.now c.hand_over.new.kept c.keep_both.new.kept c.hand_over-2.new.kept goes.1 c.hand_over.ensures.hands both c.hand_over-2.ensures.hands,
     )

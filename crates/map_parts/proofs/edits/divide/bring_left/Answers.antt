@@ -4,29 +4,27 @@ use Rattle.half_table.specs.declared.half.Half.{Half}
 use Rattle.half_table.specs.Count.{ticked}
 use Rattle.half_table.specs.Cycle.{holds}
 use Rattle.half_table.specs.Rows.{face, cycle}
-use Rattle.half_paths.specs.Path.{strings_of, last_of}
+use Rattle.half_paths.specs.Path.{strings_of}
 use Rattle.half_paths.specs.Loose.{is_of, AreLoose}
 use Rattle.half_paths.proofs.Along.{ticked-add}
 use Rattle.map_parts.specs.Relabelled.{cycles_length}
 use Rattle.map_parts.proofs.KeptShown.{local-kept}
 use Rattle.map_parts.proofs.RelabelledEach.{cycle-same, in-relabelled}
-use Rattle.map_parts.proofs.IslandFits.{side-same, along-same, ends-same}
+use Rattle.map_parts.proofs.IslandFits.{along-same, half-same, ends-same}
+use Rattle.map_parts.proofs.ChainAcross.{place-kept}
 use Rattle.map_parts.proofs.ChainFaces.{cycles-of_loose, length-of_loose}
 use Rattle.map_parts.proofs.edits.divide.bring_left.Goals as goal
 
-pub bring_chain-requires-clause-within : goal.bring_chain-requires-clause-within
-bring_chain-requires-clause-within g c =
-    in-relabelled c.args.table.now.rows c.relabel_path.new.table.rows (c.args.first.now ∷ c.args.rest.now) c.relabel_path.ensures.relabels.has c.requires.within
-
-pub bring_chain-requires-clause-loose : goal.bring_chain-requires-clause-loose
-bring_chain-requires-clause-loose g c =
-    subst (λ (n : Half → Half). AreLoose n (c.args.first.now ∷ c.args.rest.now)) (λ i h. sym (c.relabel_path.ensures.relabels.next h) i) c.requires.loose
-
-pub bring_chain-requires-clause-start_in : goal.bring_chain-requires-clause-start_in
-bring_chain-requires-clause-start_in g c = c.relabel_path.ensures.relabels.has c.args.start.now ∙ c.requires.start_in
-
-pub bring_chain-requires-clause-end_in : goal.bring_chain-requires-clause-end_in
-bring_chain-requires-clause-end_in g c = c.relabel_path.ensures.relabels.has c.args.end.now ∙ c.requires.end_in
+pub bring_chain-requires : goal.bring_chain-requires
+bring_chain-requires g c =
+    let each = c.relabel_path.ensures.relabels in
+    record {
+      linked = c.relabel_path.ensures.linked;
+      within = in-relabelled c.args.table.now.rows c.relabel_path.new.table.rows (c.args.first.now ∷ c.args.rest.now) each.has c.requires.within;
+      different = c.requires.different;
+      loose = subst (λ (n : Half → Half). AreLoose n (c.args.first.now ∷ c.args.rest.now)) (λ i h. sym (each.next h) i) c.requires.loose;
+      place = place-kept c.args.table.now.rows c.relabel_path.new.table.rows each.has c.requires.place;
+    }
 
 pub relabel-requires : goal.relabel-requires
 relabel-requires g c = c.bring_chain.ensures.halves.has c.args.first.now ∙ c.relabel_path.ensures.relabels.has c.args.first.now ∙ c.requires.within.0
@@ -50,12 +48,11 @@ returns g c =
           let was : face mid h ≡ (if is_of (strings_of (a ∷ rest)) h then outer else face old h) =
           chained.halves.face h ∙ each.face h ∙ ap (λ (t : Bool). if t then outer else face old h) (cycles-of_loose old c.requires.linked (a ∷ rest) c.requires.within c.requires.loose h) in
           labels.face h ∙ (λ i. if holds (same i a) h then inner else was i);
-      local = λ whole parted chain fc lc rings parts law more along first_side last_side ends a_in a_side b_in b_side local.
+      local = λ whole parted chain fc lc rings parts long law more along ends start_on end_on local.
           let local_lone = local-kept whole old lone (λ h shown. each.has h) (λ h shown. each.next h) (λ h shown. each.origin h) c.relabel_path.ensures.linked local in
           local-kept parted mid new (λ h shown. labels.has h) (λ h shown. labels.next h) (λ h shown. labels.origin h) c.relabel.ensures.linked
-          (chained.local whole parted chain fc lc rings parts law more (along-same old lone each.origin (a ∷ rest) (sides_of_chain chain) along)
-          (side-same old lone each.origin a ∙ first_side) (side-same old lone each.origin (last_of a rest) ∙ last_side) (ends-same old lone each.origin each.has parted.strings ends)
-          a_in (side-same old lone each.origin c.args.start.now ∙ a_side) b_in (side-same old lone each.origin c.args.end.now ∙ b_side) local_lone);
+          (chained.local whole parted chain fc lc rings parts long law more (along-same old lone each.origin (a ∷ rest) (sides_of_chain chain) along)
+          (ends-same old lone each.origin each.has parted.strings ends) (half-same old lone each.origin each.has start_on) (half-same old lone each.origin each.has end_on) local_lone);
       has = λ h. labels.has h ∙ chained.halves.has h ∙ each.has h;
       origin = λ h. labels.origin h ∙ chained.halves.origin h ∙ each.origin h;
       linked = c.relabel.ensures.linked;

@@ -6,18 +6,19 @@ use Rattle.half_table.specs.Half.{twin}
 use Rattle.half_table.specs.Count.{ticked}
 use Rattle.half_table.specs.Cycle.{holds}
 use Rattle.half_table.specs.Rows.{next, face, cycle}
-use Rattle.half_paths.specs.Path.{strings_of, last_of, AreIn, AreElsewhere}
+use Rattle.half_paths.specs.Path.{strings_of, AreIn}
 use Rattle.half_paths.specs.Loose.{is_of}
-use Rattle.half_paths.specs.Strung.{IsStrung}
 use Rattle.half_paths.proofs.Along.{ticked-add}
 use Rattle.key_lists.specs.Held.{items_at}
+use Rattle.cad_laws.specs.Local.{side_by}
 use Rattle.map_parts.specs.Handing.{KeepsOne}
 use Rattle.map_parts.specs.Relabelled.{on_cycles, cycles_length}
 use Rattle.map_parts.proofs.KeptShown.{local-kept}
 use Rattle.map_parts.proofs.RelabelledEach.{cycle-same, in-relabelled}
 use Rattle.map_parts.proofs.Handed.{in-handed, count-handed, one-few}
 use Rattle.map_parts.proofs.KeptIsland.{items-of, put-capacity, room-handed}
-use Rattle.map_parts.proofs.IslandFits.{side-same, along-same}
+use Rattle.map_parts.proofs.IslandFits.{along-same}
+use Rattle.map_parts.proofs.ChainAcross.{first-along, last-along, tied-kept}
 use Rattle.map_parts.proofs.ChainGone.{fits-cut, start-on, chain-gone}
 use Rattle.map_parts.proofs.edits.divide.take_across.Goals as goal
 
@@ -34,21 +35,15 @@ hand_over-requires-clause-room g c = let room = c.requires.one_more in omega (ar
 pub next-start-requires : goal.next-start-requires
 next-start-requires g c = c.twin-back.ensures.inside ∙ c.relabel_each.ensures.relabels.has c.args.first.now ∙ c.requires.path.within.0
 
-pub take_left-requires-clause-within : goal.take_left-requires-clause-within
-take_left-requires-clause-within g c =
-    in-relabelled c.args.table.now.rows c.relabel_each.new.table.rows (c.args.first.now ∷ c.args.rest.now) c.relabel_each.ensures.relabels.has c.requires.path.within
-
-pub take_left-requires-clause-strung : goal.take_left-requires-clause-strung
-take_left-requires-clause-strung g c =
-    subst (λ (n : Half → Half). IsStrung n c.args.first.now c.args.rest.now) (λ i h. sym (c.relabel_each.ensures.relabels.next h) i) c.requires.strung
-
-pub take_left-requires-clause-on_away : goal.take_left-requires-clause-on_away
-take_left-requires-clause-on_away g c =
-    subst (λ (h : Half). AreElsewhere h (c.args.first.now ∷ c.args.rest.now)) (sym (c.relabel_each.ensures.relabels.next (last_of c.args.first.now c.args.rest.now))) c.requires.on_away
-
-pub take_left-requires-clause-back_away : goal.take_left-requires-clause-back_away
-take_left-requires-clause-back_away g c =
-    subst (λ (h : Half). AreElsewhere h (c.args.first.now ∷ c.args.rest.now)) (sym (c.relabel_each.ensures.relabels.next (twin c.args.first.now))) c.requires.back_away
+pub take_left-requires : goal.take_left-requires
+take_left-requires g c =
+    let all = c.relabel_each.ensures.relabels in
+    record {
+      linked = c.relabel_each.ensures.linked;
+      within = in-relabelled c.args.table.now.rows c.relabel_each.new.table.rows (c.args.first.now ∷ c.args.rest.now) all.has c.requires.path.within;
+      different = c.requires.path.different;
+      tied = tied-kept c.args.table.now.rows c.relabel_each.new.table.rows all.next c.requires.tied;
+    }
 
 pub hand_over-requires-2-clause-within : goal.hand_over-requires-2-clause-within
 hand_over-requires-2-clause-within g c =
@@ -131,7 +126,7 @@ returns-clause-work g c =
     c.take_left.ensures.work ∙ ap (ticked (r + n + p)) c.relabel_each.ensures.work ∙ sym (ticked-add q (r + n + p) w) ∙ (λ i. ticked (q + (is_r i + n + p)) w)
 
 pub returns-clause-chain : goal.returns-clause-chain
-returns-clause-chain g c = λ whole parted chain fc lc one left right others rings parts long it two more along first_side last_side ends of fits keeps.
+returns-clause-chain g c = λ whole parted chain fc lc one left right others rings parts long it two more along ends of goes.
     let outer = c.args.outer.now in
     let inner = c.args.inner.now in
     let first : Half = c.args.first.now in
@@ -142,19 +137,21 @@ returns-clause-chain g c = λ whole parted chain fc lc one left right others rin
     let new = c.take_left.new.table.rows in
     let labels = c.relabel_each.ensures.relabels in
     let key = c.face_place.ensures in
+    let fits = goes.0 in
+    let first_side = first-along (side_by old) first rest chain long along in
+    let last_side = last-along (side_by old) first rest chain long along in
     let origins : (h : Half) → _ = (returns-clause-halves g c).origin in
     let faces_new : (h : Half) → face new h ≡ (if is_of (strings_of (first ∷ rest)) h then inner else if holds (cycle old first) h then outer else if on_cycles old moved h then outer else face old h) =
     λ h. c.take_left.ensures.faces h ∙ (λ i. if is_of (strings_of (first ∷ rest)) h then inner else if holds (cycle-same old back labels.strings labels.next i first) h then outer else labels.face h i) in
     let local_back = local-kept parted old back (λ h shown. labels.has h) (λ h shown. labels.next h) (λ h shown. labels.origin h) c.relabel_each.ensures.linked fits.local in
-    let local = c.take_left.ensures.local whole parted chain fc lc parts long it.corners more (along-same old back labels.origin (first ∷ rest) (sides_of_chain chain) along)
-    (side-same old back labels.origin first ∙ first_side) (side-same old back labels.origin (last_of first rest) ∙ last_side) local_back in
+    let local = c.take_left.ensures.local whole parted chain fc lc parts long it.corners more (along-same old back labels.origin (first ∷ rest) (sides_of_chain chain) along) local_back in
     let is_start : c.next-start.result ≡ next old (twin first) = c.next-start.ensures.is ∙ labels.next c.twin-back.result ∙ ap (next old) c.twin-back.ensures.is in
-    let on = start-on whole parted outer inner chain fc lc one left right others it rings parts long first rest more moved old new origins fits of along first_side last_side faces_new c.requires.back_away in
+    let on = start-on whole parted outer inner chain fc lc one left right others it rings parts long first rest more moved old new origins fits of along first_side last_side faces_new c.requires.tied.back_away in
     let one_kept = subst (λ (h : Half). KeepsOne (face_place inner) (face_place outer) h c.hand_over-2.new.kept c.keep_one.new.kept) is_start c.keep_one.ensures.one in (
       fits-cut whole parted outer inner chain fc lc one left right others it rings parts long first rest more moved old new origins fits of along first_side last_side faces_new
           local (returns-clause-halves g c).has ends,
       chain-gone whole parted outer inner chain fc lc one left right others it rings parts long first rest more moved old new origins fits of along first_side last_side faces_new
-          two back labels.face c.args.kept.now c.hand_over.new.kept c.clear.new.kept c.hand_over-2.new.kept c.keep_one.new.kept (next old (twin first)) keeps c.hand_over.ensures.hands
+          two back labels.face c.args.kept.now c.hand_over.new.kept c.clear.new.kept c.hand_over-2.new.kept c.keep_one.new.kept (next old (twin first)) goes.1 c.hand_over.ensures.hands
           (subst (λ (k : ℕ). items_at c.clear.new.kept k ≡ []) key c.clear.ensures.none)
           (λ n away. items-of c.face_place.result n c.hand_over.new.kept c.clear.new.kept c.clear.ensures.others (λ e. away (sym key ∙ e)))
           c.hand_over-2.ensures.hands one_kept on.1,

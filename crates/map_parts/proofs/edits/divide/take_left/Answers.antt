@@ -1,39 +1,31 @@
 use Rattle.std.proofs.Common.{◌≡◌, ◌∙◌, ◌∷◌, ◌+◌, ◌*◌, length, sym, ap, subst, if◌then◌else◌, arith}
 use Rattle.cad_rings.specs.Surgery.{sides_of_chain}
 use Rattle.half_table.specs.declared.half.Half.{Half}
-use Rattle.half_table.specs.Half.{twin}
 use Rattle.half_table.specs.Count.{ticked}
 use Rattle.half_table.specs.Cycle.{holds}
 use Rattle.half_table.specs.Rows.{face, cycle}
-use Rattle.half_paths.specs.Path.{last_of, AreElsewhere}
-use Rattle.half_paths.specs.Strung.{IsStrung}
 use Rattle.half_paths.specs.Loose.{AreLoose}
 use Rattle.half_paths.proofs.Along.{ticked-add}
 use Rattle.map_parts.specs.Relabelled.{cycles_length}
 use Rattle.map_parts.proofs.KeptShown.{local-kept}
 use Rattle.map_parts.proofs.RelabelledEach.{in-relabelled}
-use Rattle.map_parts.proofs.IslandFits.{side-same, along-same}
+use Rattle.map_parts.proofs.IslandFits.{along-same}
+use Rattle.map_parts.proofs.ChainAcross.{tied-kept}
 use Rattle.map_parts.proofs.ChainFaces.{cycles-of_loose, length-of_loose}
 use Rattle.map_parts.proofs.edits.divide.take_left.Goals as goal
 
 pub relabel-requires : goal.relabel-requires
 relabel-requires g c = c.requires.within.0
 
-pub take_chain-requires-clause-within : goal.take_chain-requires-clause-within
-take_chain-requires-clause-within g c =
-    in-relabelled c.args.table.now.rows c.relabel.new.self.rows (c.args.first.now ∷ c.args.rest.now) c.relabel.ensures.relabels.has c.requires.within
-
-pub take_chain-requires-clause-strung : goal.take_chain-requires-clause-strung
-take_chain-requires-clause-strung g c =
-    subst (λ (n : Half → Half). IsStrung n c.args.first.now c.args.rest.now) (λ i h. sym (c.relabel.ensures.relabels.next h) i) c.requires.strung
-
-pub take_chain-requires-clause-on_away : goal.take_chain-requires-clause-on_away
-take_chain-requires-clause-on_away g c =
-    subst (λ (h : Half). AreElsewhere h (c.args.first.now ∷ c.args.rest.now)) (sym (c.relabel.ensures.relabels.next (last_of c.args.first.now c.args.rest.now))) c.requires.on_away
-
-pub take_chain-requires-clause-back_away : goal.take_chain-requires-clause-back_away
-take_chain-requires-clause-back_away g c =
-    subst (λ (h : Half). AreElsewhere h (c.args.first.now ∷ c.args.rest.now)) (sym (c.relabel.ensures.relabels.next (twin c.args.first.now))) c.requires.back_away
+pub take_chain-requires : goal.take_chain-requires
+take_chain-requires g c =
+    let labels = c.relabel.ensures.relabels in
+    record {
+      linked = c.relabel.ensures.linked;
+      within = in-relabelled c.args.table.now.rows c.relabel.new.self.rows (c.args.first.now ∷ c.args.rest.now) labels.has c.requires.within;
+      different = c.requires.different;
+      tied = tied-kept c.args.table.now.rows c.relabel.new.self.rows labels.next c.requires.tied;
+    }
 
 pub relabel_path-requires-clause-within : goal.relabel_path-requires-clause-within
 relabel_path-requires-clause-within g c =
@@ -57,11 +49,10 @@ returns g c =
       faces = λ h.
           let was : face out h ≡ (if holds (cycle old a) h then outer else face old h) = taken.halves.face h ∙ labels.face h in
           each.face h ∙ (λ i. if cycles-of_loose out taken.linked (a ∷ rest) within taken.loose h i then inner else was i);
-      local = λ whole parted chain fc lc parts long law more along first_side last_side local.
+      local = λ whole parted chain fc lc parts long law more along local.
           let before = local-kept parted old one (λ h shown. labels.has h) (λ h shown. labels.next h) (λ h shown. labels.origin h) c.relabel.ensures.linked local in
           local-kept whole out new (λ h shown. each.has h) (λ h shown. each.next h) (λ h shown. each.origin h) c.relabel_path.ensures.linked
-          (taken.local whole parted chain fc lc parts long law more (along-same old one labels.origin (a ∷ rest) (sides_of_chain chain) along)
-          (side-same old one labels.origin a ∙ first_side) (side-same old one labels.origin (last_of a rest) ∙ last_side) before);
+          (taken.local whole parted chain fc lc parts long law more (along-same old one labels.origin (a ∷ rest) (sides_of_chain chain) along) before);
       loose = subst (λ (n : Half → Half). AreLoose n (a ∷ rest)) (λ i h. sym (each.next h) i) taken.loose;
       has = λ h. each.has h ∙ taken.halves.has h ∙ labels.has h;
       origin = λ h. each.origin h ∙ taken.halves.origin h ∙ labels.origin h;

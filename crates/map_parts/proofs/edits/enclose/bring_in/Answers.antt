@@ -47,7 +47,7 @@ returns-clause-capacity g c = λ n.
     ∙ c.hand_over.ensures.capacity n
 
 pub returns-clause-island : goal.returns-clause-island
-returns-clause-island g c = λ whole parted ring left right others rings parts it two none more along ends of fits keeps.
+returns-clause-island g c = λ whole parted ring left right others rings parts it two none more along ends of goes.
     let outer : ℕ = face_place c.args.outer.now in
     let inner : ℕ = face_place c.args.inner.now in
     let old = c.args.table.now.rows in
@@ -59,7 +59,7 @@ returns-clause-island g c = λ whole parted ring left right others rings parts i
     let path = first ∷ c.args.rest.now in
     let is_inner = c.face_place-inner_key.ensures in
     let is_outer = c.face_place-outer_key.ensures in
-    let fits_new : FitsTable parted new = c.bring_island.ensures.island whole parted ring left right others rings parts it more along ends of fits in
+    let fits_new : FitsTable parted new = c.bring_island.ensures.island whole parted ring left right others rings parts it more along ends of goes.0 in
     let on = first-on whole parted c.args.outer.now c.args.inner.now ring left right others it parts first c.args.rest.now more c.args.moved.now new
     (along-same old new c.bring_island.ensures.origin path (sides_of ring) along) in
     let far_inner : ¬ (c.face_place-outer_key.result ≡ inner) = λ e. c.requires.faces (sym is_outer ∙ e) in
@@ -71,7 +71,7 @@ returns-clause-island g c = λ whole parted ring left right others rings parts i
     subst (λ (k : ℕ). items_at now k ≡ items_at one k ++ c.twin-back.result ∷ []) is_outer c.put-2.ensures.items
     ∙ (λ i. items-of c.face_place-inner_key.result outer mid one c.put.ensures.others far_outer i ++ c.twin-back.ensures.is i ∷ []) in (
       fits_new,
-      island-kept whole parted c.args.outer.now c.args.inner.now ring left right others it rings parts two old new c.args.kept.now mid now first keeps c.hand_over.ensures.hands at_inner at_outer
+      island-kept whole parted c.args.outer.now c.args.inner.now ring left right others it rings parts two old new c.args.kept.now mid now first goes.1 c.hand_over.ensures.hands at_inner at_outer
           (λ n away far.
           items-of c.face_place-outer_key.result n one now c.put-2.ensures.others (λ e. away (sym is_outer ∙ e))
           ∙ items-of c.face_place-inner_key.result n mid one c.put.ensures.others (λ e. far (sym is_inner ∙ e)))
