@@ -6,6 +6,7 @@ ghost use Rattle.map_parts.specs.Merging.{CanComeBack, CanEnd, HaveGone, HaveRoo
 ghost use Rattle.map_parts.specs.Rows.{map_in};
 ghost use Rattle.map_parts.specs.Splitting.{AreStarsOf};
 
+use crate::edits::merging_tried::EndedParcel;
 use crate::edits::placed_strings::{PlacedString, put_placed, take_placed};
 use crate::edits::retired::{retire, unretire};
 use crate::map_rows::MapRows;
@@ -14,27 +15,32 @@ use cad_rows::{ParcelNo, ParcelRow, StringNo};
 use key_lists::KeyLists;
 
 /// Takes a parcel and strings out of the rows, and the strings' halves out of the stars. The parcel's
-/// number is retired, its row is given with its place, and the strings' are listed with theirs. It
-/// takes no memory, and neither does the way back.
+/// number is retired. Its row is given with its place, and so are the strings', in a list that has
+/// room for them. It takes no memory, and neither does the way back.
 pub(crate) fn take_ended(
     rows: &mut MapRows,
     stars: &mut KeyLists<Spoke>,
     ended: ParcelNo,
     strings: &[StringNo],
-    gone: &mut Vec<PlacedString>,
-) -> (usize, ParcelRow)
+    mut gone: Vec<PlacedString>,
+) -> EndedParcel
     requires can { CanEnd ended strings.now rows.old stars.old }
-    requires none { gone.old.items ≡ [] }
-    requires room { vec_len gone.old + length strings.now ≤ vec_capacity gone.old }
+    requires none { gone.items ≡ [] }
+    requires room { vec_len gone + length strings.now ≤ vec_capacity gone }
     ensures rows { map_in rows.new ≡ without_ended ended strings.now (map_in rows.old) }
     ensures stars { AreStarsOf (map_in rows.new).strings stars.new }
-    ensures gone { HaveGone (map_in rows.old) ended strings.now result.1 result.0 gone.new.items }
-    ensures back { HaveRoomBack result.1 gone.new.items rows.new stars.new }
+    ensures gone { HaveGone (map_in rows.old) ended strings.now result.row result.place
+        result.strings.items }
+    ensures back { HaveRoomBack result.row result.strings.items rows.new stars.new }
     ensures capacity { (p : ℕ) → capacity_at stars.new p ≡ capacity_at stars.old p }
 {
-    let taken = retire(rows, ended);
-    take_placed(rows, stars, strings, gone);
-    taken
+    let (place, row) = retire(rows, ended);
+    take_placed(rows, stars, strings, &mut gone);
+    EndedParcel {
+        row,
+        place,
+        strings: gone,
+    }
 }
 
 /// Puts a parcel and strings that went back where they stood, and the strings' halves into the stars.

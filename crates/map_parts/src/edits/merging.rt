@@ -74,22 +74,10 @@ pub fn begin_merge_along<T: Tally>(
         + (length (cycle table.old.rows first.now) + (length rest.now + 2)
         + (2 + 2 * length rest.now))) table.old.work) }
 {
-    let mut gone = make_merge_room(rows, kept, keeper, ended, strings.len())?;
-    take_across(
-        table,
-        kept,
-        first,
-        rest,
-        keeper,
-        &Face::Parcel(ended),
-        moved,
-    );
-    let (place, row) = take_ended(rows, stars, ended, strings, &mut gone);
-    Ok(EndedParcel {
-        row,
-        place,
-        strings: gone,
-    })
+    let gone = make_merge_room(rows, kept, keeper, ended, strings.len())?;
+    let inner = Face::Parcel(ended);
+    take_across(table, kept, first, rest, keeper, &inner, moved);
+    Ok(take_ended(rows, stars, ended, strings, gone))
 }
 
 /// Takes a merger along a chain back: the strings and the parcel come back where they stood, and

@@ -73,22 +73,10 @@ pub fn begin_merge_island<T: Tally>(
         + (length (cycle table.old.rows (twin first.now)) + (length rest.now + 1)))
         table.old.work) }
 {
-    let mut gone = make_merge_room(rows, kept, keeper, ended, strings.len())?;
-    take_out(
-        table,
-        kept,
-        first,
-        rest,
-        keeper,
-        &Face::Parcel(ended),
-        moved,
-    );
-    let (place, row) = take_ended(rows, stars, ended, strings, &mut gone);
-    Ok(EndedParcel {
-        row,
-        place,
-        strings: gone,
-    })
+    let gone = make_merge_room(rows, kept, keeper, ended, strings.len())?;
+    let inner = Face::Parcel(ended);
+    take_out(table, kept, first, rest, keeper, &inner, moved);
+    Ok(take_ended(rows, stars, ended, strings, gone))
 }
 
 /// Takes a merger round an island back: the strings and the parcel come back where they stood, and

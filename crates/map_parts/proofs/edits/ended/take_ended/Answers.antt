@@ -6,8 +6,8 @@ use Rattle.map_parts.proofs.edits.ended.take_ended.Goals as goal
 
 pub take_placed-requires-clause-can : goal.take_placed-requires-clause-can
 take_placed-requires-clause-can c =
-    take-same c.retire-taken.new.rows (ap (λ (q : Map). q.strings) c.retire-taken.ensures.rows) c.requires.can.take
+    take-same c.retire-place.new.rows (ap (λ (q : Map). q.strings) c.retire-place.ensures.rows) c.requires.can.take
 
 pub returns-clause-rows : goal.returns-clause-rows
 returns-clause-rows c =
-    c.take_placed.ensures.rows ∙ ap (λ (q : Map). record q { strings = without_rows c.args.strings.now q.strings }) c.retire-taken.ensures.rows
+    c.take_placed.ensures.rows ∙ ap (λ (q : Map). record q { strings = without_rows c.args.strings.now q.strings }) c.retire-place.ensures.rows
