@@ -1,5 +1,5 @@
 //! Rows in order of entry that go and come without memory.
-ghost use Rattle.std.specs.Prelude.{◌≡◌, ◌≤◌, ◌++◌, ◌∷◌, [], ℕ, None, Some, length, insert, slice_get, is_some, IsSome, IfSome, IfNone, IfOk, OnOk, OnErr, OnSome};
+ghost use Rattle.std.specs.Prelude.{◌≡◌, ◌≢◌, ◌≤◌, ◌++◌, ◌∷◌, [], ℕ, None, Some, length, insert, slice_get, is_some, IsSome, IfSome, IfNone, IfOk, OnOk, OnErr, OnSome};
 ghost use Rattle.std.specs.Option.{option_copied};
 ghost use Rattle.entry_list.specs.Slots.{HasSlot, KeepsSlots};
 ghost use Rattle.cad_map.specs.Table.{row_with, without_row, with_row};
@@ -157,6 +157,31 @@ impl<R: Numbered> Rows<R> {
         ensures slots { KeepsSlots self.old self.new }
     {
         self.take(number).unwrap()
+    }
+
+    /// Takes the rows with two different numbers out, which are there, and gives each with its place,
+    /// the second's as it is where the first is out. It takes no memory, and neither do rows of these
+    /// numbers that are put in.
+    pub(crate) fn take_both(&mut self, first: u32, second: u32) -> ((usize, R), (usize, R))
+        requires first { IsSome (row_with R.number_of first (rows_in self.old)) }
+        requires second { IsSome (row_with R.number_of second (rows_in self.old)) }
+        requires differ { first ≢ second }
+        ensures first_row { slice_get (rows_in self.old) result.0.0 ≡ Some result.0.1 }
+        ensures first_found { row_with R.number_of first (rows_in self.old) ≡ Some result.0.1 }
+        ensures first_slot { HasSlot self.new (R.number_of result.0.1) }
+        ensures second_row { slice_get (without_row R.number_of first (rows_in self.old)) result.1.0
+            ≡ Some result.1.1 }
+        ensures second_found { row_with R.number_of second (rows_in self.old) ≡ Some result.1.1 }
+        ensures second_slot { HasSlot self.new (R.number_of result.1.1) }
+        ensures rows { rows_in self.new ≡ without_row R.number_of second
+            (without_row R.number_of first (rows_in self.old)) }
+        ensures absent { (n : ℕ) → row_with R.number_of n (rows_in self.old) ≡ None
+            → row_with R.number_of n (rows_in self.new) ≡ None }
+        ensures slots { KeepsSlots self.old self.new }
+    {
+        let first_taken = self.take_there(first);
+        let second_taken = self.take_there(second);
+        (first_taken, second_taken)
     }
 
     /// Puts a row in the place of the one with its number, and gives that one. It takes no memory.

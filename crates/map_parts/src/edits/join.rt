@@ -20,6 +20,7 @@ ghost use Rattle.map_parts.specs.Splitting.{FitMap};
 
 use crate::edits::passing::{Passing, go_past, go_through};
 use crate::edits::rooms::{add_path, add_string};
+use crate::edits::split::forward;
 use crate::edits::spokes::{join_spokes, part_spokes};
 use crate::map_rows::MapRows;
 use crate::stars::Spoke;
@@ -66,10 +67,7 @@ fn path(first: &StringRow, second: &StringRow, point: &PointNo, whole: &StringNo
     Passing {
         first: half_to(first, point),
         second: half_from(second, point),
-        whole: Half {
-            string: *whole,
-            forward: true,
-        },
+        whole: forward(whole),
     }
 }
 
@@ -103,8 +101,9 @@ fn join_rows(
     ensures first_slot { HasSlot rows.new.strings result.first.number }
     ensures second_slot { HasSlot rows.new.strings result.second.number }
 {
-    let (first_place, first) = rows.strings.take_there(first.get());
-    let (second_place, second) = rows.strings.take_there(second.get());
+    let ((first_place, first), (second_place, second)) = rows
+        .strings
+        .take_both(first.get(), second.get());
     let (point_place, point) = rows.points.take_there(point.get());
     rows.strings.put_last(row);
     JoinedRows {

@@ -145,8 +145,7 @@ fn unsplit_rows(
           (without_row (λ r. r.number) second (map_in rows.old).strings)) place row;
     } }
 {
-    rows.strings.take_there(second.get());
-    rows.strings.take_there(first.get());
+    rows.strings.take_both(second.get(), first.get());
     rows.strings.put_at(row, place);
     rows.points.take_there(point.get());
 }
