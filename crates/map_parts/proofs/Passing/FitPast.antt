@@ -29,8 +29,8 @@ use Rattle.map_parts.proofs.Passing.Between as between
 use Rattle.map_parts.proofs.Passing.Between.{LeadBetween, IsThrough, IsPast, IsOther, other-half}
 use Rattle.map_parts.proofs.Passing.Routes.{IsPastNow}
 use Rattle.map_parts.proofs.Passing.Past as past_point
-use Rattle.map_parts.proofs.Passing.KeptAlong.{IsKeptOn, kept-made}
-use Rattle.map_parts.proofs.Passing.Relabelled.{relabelled-local, relabelled-ends, on-cycle_faced, still-faced}
+use Rattle.map_parts.proofs.Passing.KeptAlong.{IsKeptOn, kept-at, kept-made}
+use Rattle.map_parts.proofs.Passing.Relabelled.{AreBothFaced, both-faced}
 use Rattle.map_parts.proofs.Passing.InPlace.{in-place-here, in-place-other, same-face, kept-moved}
 
 module _ (through past : Map) (p a b : ℕ) (passing : Passing)
@@ -99,42 +99,18 @@ module _ (through past : Map) (p a b : ℕ) (passing : Passing)
     tz-shown : IsShown past (twin passing.whole)
     tz-shown = between.whole-shown through past p a b passing it (twin passing.whole) refl
 
-    mid-local : IsLocal past mid
-    mid-local = relabelled-local past it.rings_past new local ends passing.whole z-shown left left-past mid mid_linked one
-
-    mid-ends : AllByRecursion (HasHalves mid) past.strings
-    mid-ends = relabelled-ends past it.rings_past new local ends passing.whole z-shown left left-past mid mid_linked one
-
-    right-mid : HasSide past right (side_by mid (twin passing.whole))
-    right-mid =
-        subst (HasSide past right) (sym (λ i. (one.origin (twin passing.whole) i, one.origin (twin (twin passing.whole)) i))) right-past
-
-    onward : (h : Half) → HasSide past (face mid h) (side_by mid h) → HasSide past (face done h) (side_by done h)
-    onward h was =
-        still-faced past it.rings_past mid mid-local mid-ends (twin passing.whole) tz-shown right right-mid done done_linked two h was
-
-    whole-faced : HasSide past (face done passing.whole) (side_by done passing.whole)
-    whole-faced =
-        onward passing.whole (on-cycle_faced past it.rings_past new local ends passing.whole z-shown left left-past mid mid_linked one passing.whole (Contains-first passing.whole _))
-
-    whole_back-faced : HasSide past (face done (twin passing.whole)) (side_by done (twin passing.whole))
-    whole_back-faced =
-        on-cycle_faced past it.rings_past mid mid-local mid-ends (twin passing.whole) tz-shown right right-mid done done_linked two (twin passing.whole) (Contains-first (twin passing.whole) _)
-
-    other-faced : (h : Half) → Other h → HasSide past (face done h) (side_by done h)
-    other-faced h k =
-        onward h (still-faced past it.rings_past new local ends passing.whole z-shown left left-past mid mid_linked one h (elsewhere-faced h k))
+    labelled : AreBothFaced past new mid done passing.whole (twin passing.whole)
+    labelled = both-faced past it.rings_past new local ends passing.whole z-shown left left-past (twin passing.whole) tz-shown right right-past mid done mid_linked done_linked one two
 
     faced : (h : Half) → IsShown past h → HasSide past (face done h) (side_by done h)
     faced h shown = elim (between.past-half through past p a b passing it h shown) [
-      | IsPast.is_whole e ↦ subst (λ (g : Half). HasSide past (face done g) (side_by done g)) (sym e) whole-faced
-      | IsPast.is_whole_back e ↦ subst (λ (g : Half). HasSide past (face done g) (side_by done g)) (sym e) whole_back-faced
-      | IsPast.is_elsewhere k ↦ other-faced h k
+      | IsPast.is_whole e ↦ subst (λ (g : Half). HasSide past (face done g) (side_by done g)) (sym e) (labelled.first passing.whole (Contains-first passing.whole _))
+      | IsPast.is_whole_back e ↦ subst (λ (g : Half). HasSide past (face done g) (side_by done g)) (sym e) (labelled.second (twin passing.whole) (Contains-first (twin passing.whole) _))
+      | IsPast.is_elsewhere k ↦ labelled.stays h (elsewhere-faced h k)
     ]
 
     done-side : (h : Half) → side_by done h ≡ side_by rows h
-    done-side h =
-        (λ i. (two.origin h i, two.origin (twin h) i)) ∙ (λ i. (one.origin h i, one.origin (twin h) i)) ∙ new-side h
+    done-side h = labelled.sides h ∙ new-side h
 
     -- ---- One half of each ring
 
@@ -221,14 +197,7 @@ module _ (through past : Map) (p a b : ℕ) (passing : Passing)
       kept-on : (h : Half) → moved (face_place k.0) k.1 ≡ h → IsShown past h
           → Contains (sides_of (drop c).ring) (side_by rows h)
           → IsKeptOn past done it.rings_past (k.0, moved (face_place k.0) k.1) (drop c)
-      kept-on h e shown side = record {
-        shown = subst (IsShown past) (sym e) shown;
-        there = made-there;
-        side =
-            subst (λ (g : Half). Contains (sides_of (drop c).ring) (side_by done g)) (sym e)
-            (subst (Contains (sides_of (drop c).ring)) (sym (done-side h)) side);
-        face = isk.face;
-      }
+      kept-on = kept-at past done it.rings_past rows done-side k.0 (moved (face_place k.0) k.1) (drop c) made-there isk.face
 
       -- the face of a half of the path, by its side
       mine : (f : Face) (s : Side) → side_by rows k.1 ≡ s → HasSide through f s → f ≡ k.0
@@ -316,8 +285,8 @@ module _ (through past : Map) (p a b : ℕ) (passing : Passing)
 
       pub fit-past : FitTable past done then_held
       fit-past = record {
-        local = relabelled-local past it.rings_past mid mid-local mid-ends (twin passing.whole) tz-shown right right-mid done done_linked two;
-        ends = relabelled-ends past it.rings_past mid mid-local mid-ends (twin passing.whole) tz-shown right right-mid done done_linked two;
+        local = labelled.local;
+        ends = labelled.ends;
         faces = faced;
         kept = keeps-rings;
         no_face = λ f none.

@@ -29,8 +29,8 @@ use Rattle.map_parts.proofs.Passing.Between.{LeadBetween, IsThrough, IsPast, IsO
 use Rattle.map_parts.proofs.Passing.Routes.{IsThroughNow}
 use Rattle.map_parts.proofs.Passing.Local.{string-half_side}
 use Rattle.map_parts.proofs.Passing.Through as through_point
-use Rattle.map_parts.proofs.Passing.KeptAlong.{IsKeptOn, kept-back}
-use Rattle.map_parts.proofs.Passing.Relabelled.{relabelled-local, relabelled-ends, on-cycle_faced, still-faced}
+use Rattle.map_parts.proofs.Passing.KeptAlong.{IsKeptOn, kept-at, kept-back}
+use Rattle.map_parts.proofs.Passing.Relabelled.{AreBothFaced, both-faced}
 use Rattle.map_parts.proofs.Passing.InPlace.{in-place-here, in-place-other, same-face, kept-moved}
 
 module _ (through past : Map) (p a b : ℕ) (passing : Passing)
@@ -119,61 +119,32 @@ module _ (through past : Map) (p a b : ℕ) (passing : Passing)
     ty-shown : IsShown through (twin passing.second)
     ty-shown = between.second-shown through past p a b passing it (twin passing.second) refl
 
-    mid-local : IsLocal through mid
-    mid-local = relabelled-local through it.rings new local ends passing.first x-shown left left-through mid mid_linked one
-
-    mid-ends : AllByRecursion (HasHalves mid) through.strings
-    mid-ends = relabelled-ends through it.rings new local ends passing.first x-shown left left-through mid mid_linked one
-
-    right-mid : HasSide through right (side_by mid (twin passing.second))
-    right-mid =
-        subst (HasSide through right) (sym (λ i. (one.origin (twin passing.second) i, one.origin (twin (twin passing.second)) i))) right-through
-
-    in-first : (h : Half) → Contains (cycle new passing.first) h → HasSide through (face mid h) (side_by mid h)
-    in-first h among = on-cycle_faced through it.rings new local ends passing.first x-shown left left-through mid mid_linked one h among
-
-    in-second : (h : Half) → Contains (cycle mid (twin passing.second)) h → HasSide through (face done h) (side_by done h)
-    in-second h among =
-        on-cycle_faced through it.rings mid mid-local mid-ends (twin passing.second) ty-shown right right-mid done done_linked two h among
-
-    onward : (h : Half) → HasSide through (face mid h) (side_by mid h) → HasSide through (face done h) (side_by done h)
-    onward h was =
-        still-faced through it.rings mid mid-local mid-ends (twin passing.second) ty-shown right right-mid done done_linked two h was
-
-    first-faced : HasSide through (face done passing.first) (side_by done passing.first)
-    first-faced = onward passing.first (in-first passing.first (Contains-first passing.first _))
+    labelled : AreBothFaced through new mid done passing.first (twin passing.second)
+    labelled = both-faced through it.rings new local ends passing.first x-shown left left-through (twin passing.second) ty-shown right right-through mid done mid_linked done_linked one two
 
     second-faced : HasSide through (face done passing.second) (side_by done passing.second)
     second-faced =
-        onward passing.second (in-first passing.second
+        labelled.first passing.second
         (subst (Contains (cycle new passing.first)) now.first
-        (cycle-next new linked passing.first (local.there passing.first x-shown) passing.first (Contains-first passing.first _))))
-
-    second_back-faced : HasSide through (face done (twin passing.second)) (side_by done (twin passing.second))
-    second_back-faced = in-second (twin passing.second) (Contains-first (twin passing.second) _)
+        (cycle-next new linked passing.first (local.there passing.first x-shown) passing.first (Contains-first passing.first _)))
 
     first_back-faced : HasSide through (face done (twin passing.first)) (side_by done (twin passing.first))
     first_back-faced =
-        in-second (twin passing.first)
+        labelled.second (twin passing.first)
         (subst (Contains (cycle mid (twin passing.second))) (one.next (twin passing.second) ∙ now.second_back)
-        (cycle-next mid mid_linked (twin passing.second) (mid-local.there (twin passing.second) ty-shown) (twin passing.second) (Contains-first (twin passing.second) _)))
-
-    other-faced : (h : Half) → Other h → HasSide through (face done h) (side_by done h)
-    other-faced h k =
-        onward h (still-faced through it.rings new local ends passing.first x-shown left left-through mid mid_linked one h (elsewhere-faced h k))
+        (cycle-next mid mid_linked (twin passing.second) (one.has (twin passing.second) ∙ local.there (twin passing.second) ty-shown) (twin passing.second) (Contains-first (twin passing.second) _)))
 
     faced : (h : Half) → IsShown through h → HasSide through (face done h) (side_by done h)
     faced h shown = elim (between.through-half through past p a b passing it h shown) [
-      | IsThrough.is_first e ↦ subst (λ (g : Half). HasSide through (face done g) (side_by done g)) (sym e) first-faced
+      | IsThrough.is_first e ↦ subst (λ (g : Half). HasSide through (face done g) (side_by done g)) (sym e) (labelled.first passing.first (Contains-first passing.first _))
       | IsThrough.is_first_back e ↦ subst (λ (g : Half). HasSide through (face done g) (side_by done g)) (sym e) first_back-faced
       | IsThrough.is_second e ↦ subst (λ (g : Half). HasSide through (face done g) (side_by done g)) (sym e) second-faced
-      | IsThrough.is_second_back e ↦ subst (λ (g : Half). HasSide through (face done g) (side_by done g)) (sym e) second_back-faced
-      | IsThrough.is_other k ↦ other-faced h k
+      | IsThrough.is_second_back e ↦ subst (λ (g : Half). HasSide through (face done g) (side_by done g)) (sym e) (labelled.second (twin passing.second) (Contains-first (twin passing.second) _))
+      | IsThrough.is_other k ↦ labelled.stays h (elsewhere-faced h k)
     ]
 
     done-side : (h : Half) → side_by done h ≡ side_by rows h
-    done-side h =
-        (λ i. (two.origin h i, two.origin (twin h) i)) ∙ (λ i. (one.origin h i, one.origin (twin h) i)) ∙ new-side h
+    done-side h = labelled.sides h ∙ new-side h
 
     -- ---- One half of each ring
 
@@ -206,14 +177,7 @@ module _ (through past : Map) (p a b : ℕ) (passing : Passing)
       kept-on : (h : Half) → moved (face_place k.0) k.1 ≡ h → IsShown through h
           → Contains (sides_of c.ring) (side_by rows h)
           → IsKeptOn through done it.rings (k.0, moved (face_place k.0) k.1) c
-      kept-on h e shown side = record {
-        shown = subst (IsShown through) (sym e) shown;
-        there = there;
-        side =
-            subst (λ (g : Half). Contains (sides_of c.ring) (side_by done g)) (sym e)
-            (subst (Contains (sides_of c.ring)) (sym (done-side h)) side);
-        face = of-face;
-      }
+      kept-on = kept-at through done it.rings rows done-side k.0 (moved (face_place k.0) k.1) c there of-face
 
       none : (u v : ℕ) → u ≢ v → side_by rows k.1 ≡ (u, v) → side_by rows k.1 ≡ (v, u) → ⊥
       none u v apart one two = apart (ap (λ (s : Side). s.0) (sym one ∙ two))
@@ -301,8 +265,8 @@ module _ (through past : Map) (p a b : ℕ) (passing : Passing)
 
       pub fit-through : FitTable through done then_held
       fit-through = record {
-        local = relabelled-local through it.rings mid mid-local mid-ends (twin passing.second) ty-shown right right-mid done done_linked two;
-        ends = relabelled-ends through it.rings mid mid-local mid-ends (twin passing.second) ty-shown right right-mid done done_linked two;
+        local = labelled.local;
+        ends = labelled.ends;
         faces = faced;
         kept = keeps-rings;
         no_face = λ f none.

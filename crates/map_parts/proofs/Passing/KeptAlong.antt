@@ -46,6 +46,16 @@ module _ (m : Map) (rows : HalfRows) (whole : HasWholeRings m) where
     pub side : Contains (sides_of c.ring) (side_by rows k.1)
     pub face : c.face ≡ k.0
 
+  -- so it is with a half that is one along the ring, by the sides of another table
+  pub kept-at : (old : HalfRows) → ((h : Half) → side_by rows h ≡ side_by old h) → (f : Face) (g : Half) (c : Boundary) → Contains m.boundaries c → c.face ≡ f
+      → (h : Half) → g ≡ h → IsShown m h → Contains (sides_of c.ring) (side_by old h) → IsKeptOn (f, g) c
+  kept-at old same f g c there face h is shown side = record {
+    shown = subst (IsShown m) (sym is) shown;
+    there = there;
+    side = subst (λ (k : Half). Contains (sides_of c.ring) (side_by rows k)) (sym is) (subst (Contains (sides_of c.ring)) (sym (same h)) side);
+    face = face;
+  }
+
   -- so it is with each of these, ring by ring
   abbrev pub AreKeptOn : List (Face × Half) → List Boundary → Type 0
   AreKeptOn [] [] = ⊤

@@ -1,11 +1,12 @@
 -- What the two steps at a point between two others ask of the table, and what they leave of it.
 use Rattle.std.proofs.Common.{◌≡◌, ◌+◌, ℕ, sym, ap, ◌∙◌, [], ◌∷◌, ◌++◌, length, true, false, nat_eq, arith}
 use Rattle.std.specs.List.{IsDistinct}
+use Rattle.cad_rows.specs.declared.names.Face.{Face}
 use Rattle.half_table.specs.declared.half.Half.{Half}
 use Rattle.half_table.specs.Count.{ticked}
 use Rattle.half_table.specs.Half.{twin}
-use Rattle.half_table.specs.Cycle.{orbit}
-use Rattle.half_table.specs.Rows.{HalfRows, strings, has, next, prev, halves_of, cycle}
+use Rattle.half_table.specs.Rows.{HalfRows, has, next, prev, cycle}
+use Rattle.half_table.specs.Surgery.{Relabels}
 use Rattle.half_table.proofs.Loose.{nat_eq-symm}
 use Rattle.half_paths.proofs.Along.{ticked-add}
 use Rattle.half_paths.specs.Path.{AreDifferent}
@@ -15,22 +16,29 @@ use Rattle.key_lists.specs.Held.{Held}
 use Rattle.map_parts.specs.Parts.{HasHalves}
 use Rattle.map_parts.specs.Passing.{CanGoThrough, CanGoPast}
 use Rattle.map_parts.specs.declared.edits.passing.Passing.{Passing}
+use Rattle.map_parts.proofs.RelabelledEach.{cycle-same}
 use Rattle.map_parts.proofs.Passing.Between as between
 use Rattle.map_parts.proofs.Passing.Routes.{IsThroughNow, IsPastNow, through-now, past-now}
 use Rattle.map_parts.proofs.Passing.Through as through_point
 use Rattle.map_parts.proofs.Passing.Past as past_point
 
--- a cycle is the same where the same halves follow
-pub same-cycle : (old new : HalfRows) → strings new ≡ strings old
-    → ((g : Half) → next new g ≡ next old g) → (h : Half) → cycle new h ≡ cycle old h
-same-cycle old new same on h =
-    λ i. h ∷ orbit (λ g. on g i) (length (halves_of (same i))) h (on h i)
-
 -- three numbers of ticks
-pub ticked-three : (n m k w : ℕ) → ticked n (ticked m (ticked k w)) ≡ ticked (m + n + k) w
+ticked-three : (n m k w : ℕ) → ticked n (ticked m (ticked k w)) ≡ ticked (m + n + k) w
 ticked-three n m k w =
     sym (ticked-add m n (ticked k w)) ∙ sym (ticked-add k (m + n) w)
     ∙ (let e : k + (m + n) ≡ m + n + k = omega arith in ap (λ (j : ℕ). ticked j w) e)
+
+-- two cycles that get a face, one after the other, and five ticks before: as many as there are then
+pub both-work : (new mid done : HalfRows) (h k g : Half) (f e : Face) → Relabels (cycle new h) f new mid → Relabels (cycle mid g) e mid done → g ≡ k
+    → (w w_new w_mid w_done : ℕ) → w_new ≡ ticked 5 w → w_mid ≡ ticked (length (cycle new h)) w_new → w_done ≡ ticked (length (cycle mid g)) w_mid
+    → w_done ≡ ticked (length (cycle done h) + length (cycle done k) + 5) w
+both-work new mid done h k g f e one two is w w_new w_mid w_done first then last =
+    let again : cycle done ≡ cycle mid = cycle-same mid done two.strings two.next in
+    let own : cycle done h ≡ cycle new h = λ i. (again ∙ cycle-same new mid one.strings one.next) i h in
+    let other : cycle done k ≡ cycle mid g = λ i. again i (sym is i) in
+    last ∙ ap (ticked (length (cycle mid g))) (then ∙ ap (ticked (length (cycle new h))) first)
+    ∙ ticked-three (length (cycle mid g)) (length (cycle new h)) 5 w
+    ∙ (λ j. ticked (length (sym own j) + length (sym other j) + 5) w)
 
 module _ (passing : Passing) (rows : HalfRows) (held : Held Half) (can : CanGoThrough passing rows held) where
   whole_there : HasHalves rows can.between.whole_row

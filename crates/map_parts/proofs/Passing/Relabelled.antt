@@ -1,4 +1,4 @@
--- A cycle that gets the face of its ring, in a table that is local to a map.
+-- A cycle that gets the face of its ring, in a table that is local to a map, and two of them.
 use Rattle.std.proofs.Common.{◌≡◌, ◌≢◌, refl, sym, ap, subst, ◌∙◌, Bool, true, false, if◌then◌else◌}
 use Rattle.std.specs.List.{AllByRecursion, Contains}
 use Rattle.cad_rows.specs.declared.names.Face.{Face}
@@ -46,7 +46,7 @@ module _ (m : Map) (whole : HasWholeRings m) (rows : HalfRows) (local : IsLocal 
   on : IsOnRing m rows home.boundary h
   on = record { shown = shown; side = home.has }
 
-  pub same-side : (g : Half) → side_by new g ≡ side_by rows g
+  same-side : (g : Half) → side_by new g ≡ side_by rows g
   same-side g = λ i. (labels.origin g i, labels.origin (twin g) i)
 
   pub relabelled-local : IsLocal m new
@@ -88,3 +88,33 @@ module _ (m : Map) (whole : HasWholeRings m) (rows : HalfRows) (local : IsLocal 
           labels.face g ∙ ap (λ (t : Bool). if t then f else face rows g) held in
           subst (λ (k : Face). HasSide m k (side_by new g)) (sym e)
           (subst (HasSide m (face rows g)) (sym (same-side g)) was)
+
+-- ---- Two cycles, one after the other
+
+-- the table goes with the map still, and the halves of both cycles have the faces of their sides
+pub record AreBothFaced (m : Map) (old mid new : HalfRows) (h k : Half) : Type 0 where
+  pub local : IsLocal m new
+  pub ends : AllByRecursion (HasHalves new) m.strings
+  pub sides : (g : Half) → side_by new g ≡ side_by old g
+  pub first : (g : Half) → Contains (cycle old h) g → HasSide m (face new g) (side_by new g)
+  pub second : (g : Half) → Contains (cycle mid k) g → HasSide m (face new g) (side_by new g)
+  -- and so have the others, where they had them
+  pub stays : (g : Half) → HasSide m (face old g) (side_by old g) → HasSide m (face new g) (side_by new g)
+
+pub both-faced : (m : Map) (whole : HasWholeRings m) (old : HalfRows) → IsLocal m old → AllByRecursion (HasHalves old) m.strings
+    → (h : Half) → IsShown m h → (f : Face) → HasSide m f (side_by old h) → (k : Half) → IsShown m k → (e : Face) → HasSide m e (side_by old k)
+    → (mid new : HalfRows) → IsLinked mid → IsLinked new → Relabels (cycle old h) f old mid → Relabels (cycle mid k) e mid new → AreBothFaced m old mid new h k
+both-faced m whole old local ends h h_shown f h_has k k_shown e k_has mid new mid_linked linked one two =
+    let mid_local = relabelled-local m whole old local ends h h_shown f h_has mid mid_linked one in
+    let mid_ends = relabelled-ends m whole old local ends h h_shown f h_has mid mid_linked one in
+    let mid_side = same-side m whole old local ends h h_shown f h_has mid mid_linked one in
+    let mid_has = subst (HasSide m e) (sym (mid_side k)) k_has in
+    let onward = still-faced m whole mid mid_local mid_ends k k_shown e mid_has new linked two in
+    record {
+      local = relabelled-local m whole mid mid_local mid_ends k k_shown e mid_has new linked two;
+      ends = relabelled-ends m whole mid mid_local mid_ends k k_shown e mid_has new linked two;
+      sides = λ g. same-side m whole mid mid_local mid_ends k k_shown e mid_has new linked two g ∙ mid_side g;
+      first = λ g among. onward g (on-cycle_faced m whole old local ends h h_shown f h_has mid mid_linked one g among);
+      second = on-cycle_faced m whole mid mid_local mid_ends k k_shown e mid_has new linked two;
+      stays = λ g was. onward g (still-faced m whole old local ends h h_shown f h_has mid mid_linked one g was);
+    }

@@ -1,8 +1,7 @@
-use Rattle.std.proofs.Common.{◌≡◌, ◌+◌, ◌∙◌, ℕ, ap, sym, subst, map, length}
+use Rattle.std.proofs.Common.{◌≡◌, ◌∙◌, ℕ, ap, subst, map}
 use Rattle.cad_map.specs.Boundaries.{face_place}
 use Rattle.cad_rows.specs.declared.names.Face.{Face}
 use Rattle.half_table.specs.declared.half.Half.{Half}
-use Rattle.half_table.specs.Count.{ticked}
 use Rattle.half_table.specs.Half.{twin}
 use Rattle.half_table.specs.Rows.{next, face, cycle}
 use Rattle.half_table.specs.Surgery.{Relabels}
@@ -10,7 +9,7 @@ use Rattle.key_lists.specs.Held.{items_at}
 use Rattle.map_parts.specs.Passing.{in_place_at}
 use Rattle.map_parts.proofs.CycleRings.{map-map}
 use Rattle.map_parts.proofs.Passing.FitPast.{fit-past}
-use Rattle.map_parts.proofs.Passing.Ready.{past-whole_in, past-first_in, past-second_in, past-different, past-can, past-then, same-cycle, ticked-three}
+use Rattle.map_parts.proofs.Passing.Ready.{past-whole_in, past-first_in, past-second_in, past-different, past-can, past-then, both-work}
 use Rattle.map_parts.proofs.edits.passing.go_past.Goals as goal
 
 pub face-requires : goal.face-requires
@@ -119,18 +118,6 @@ returns-clause-origin g c = λ h.
 
 pub returns-clause-work : goal.returns-clause-work
 returns-clause-work g c =
-    let new = c.reroute.new.table.rows in
-    let mid = c.relabel.new.self.rows in
-    let done = c.relabel-2.new.self.rows in
-    let z : Half = c.args.passing.now.whole in
-    let first : cycle done z ≡ cycle new z =
-    same-cycle mid done c.relabel-2.ensures.relabels.strings c.relabel-2.ensures.relabels.next z
-    ∙ same-cycle new mid c.relabel.ensures.relabels.strings c.relabel.ensures.relabels.next z in
-    let second : cycle done (twin z) ≡ cycle mid c.twin-3.result =
-    same-cycle mid done c.relabel-2.ensures.relabels.strings c.relabel-2.ensures.relabels.next (twin z)
-    ∙ ap (cycle mid) (sym c.twin-3.ensures.is) in
-    c.relabel-2.ensures.work
-    ∙ ap (ticked (length (cycle mid c.twin-3.result)))
-    (c.relabel.ensures.work ∙ ap (ticked (length (cycle new z))) c.reroute.ensures.work)
-    ∙ ticked-three (length (cycle mid c.twin-3.result)) (length (cycle new z)) 5 c.args.table.now.work
-    ∙ (λ j. ticked (length (sym first j) + length (sym second j) + 5) c.args.table.now.work)
+    both-work c.reroute.new.table.rows c.relabel.new.self.rows c.relabel-2.new.self.rows c.args.passing.now.whole (twin c.args.passing.now.whole) c.twin-3.result c.face.result c.face-2.result
+    c.relabel.ensures.relabels c.relabel-2.ensures.relabels c.twin-3.ensures.is c.args.table.now.work c.reroute.new.table.work c.relabel.new.self.work c.relabel-2.new.self.work
+    c.reroute.ensures.work c.relabel.ensures.work c.relabel-2.ensures.work

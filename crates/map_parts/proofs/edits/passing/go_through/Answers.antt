@@ -1,8 +1,7 @@
-use Rattle.std.proofs.Common.{◌≡◌, ◌+◌, ◌∙◌, ap, sym, subst, map, length}
+use Rattle.std.proofs.Common.{◌≡◌, ◌∙◌, ap, subst, map}
 use Rattle.cad_map.specs.Boundaries.{face_place}
 use Rattle.cad_rows.specs.declared.names.Face.{Face}
 use Rattle.half_table.specs.declared.half.Half.{Half}
-use Rattle.half_table.specs.Count.{ticked}
 use Rattle.half_table.specs.Half.{twin}
 use Rattle.half_table.specs.Rows.{next, face, cycle}
 use Rattle.half_table.specs.Surgery.{Relabels}
@@ -10,7 +9,7 @@ use Rattle.key_lists.specs.Held.{items_at}
 use Rattle.map_parts.specs.Passing.{in_place_at}
 use Rattle.map_parts.proofs.CycleRings.{map-map}
 use Rattle.map_parts.proofs.Passing.FitThrough.{fit-through}
-use Rattle.map_parts.proofs.Passing.Ready.{through-whole_in, through-first_in, through-second_in, through-can, through-then, same-cycle, ticked-three}
+use Rattle.map_parts.proofs.Passing.Ready.{through-whole_in, through-first_in, through-second_in, through-can, through-then, both-work}
 use Rattle.map_parts.proofs.edits.passing.go_through.Goals as goal
 
 pub face-requires : goal.face-requires
@@ -93,19 +92,6 @@ returns-clause-origin g c = λ h.
 
 pub returns-clause-work : goal.returns-clause-work
 returns-clause-work g c =
-    let new = c.reroute.new.table.rows in
-    let mid = c.relabel.new.self.rows in
-    let done = c.relabel-2.new.self.rows in
-    let x : Half = c.args.passing.now.first in
-    let first : cycle done x ≡ cycle new x =
-    same-cycle mid done c.relabel-2.ensures.relabels.strings c.relabel-2.ensures.relabels.next x
-    ∙ same-cycle new mid c.relabel.ensures.relabels.strings c.relabel.ensures.relabels.next x in
-    let second : cycle done (twin c.args.passing.now.second) ≡ cycle mid c.twin-2.result =
-    same-cycle mid done c.relabel-2.ensures.relabels.strings c.relabel-2.ensures.relabels.next
-    (twin c.args.passing.now.second)
-    ∙ ap (cycle mid) (sym c.twin-2.ensures.is) in
-    c.relabel-2.ensures.work
-    ∙ ap (ticked (length (cycle mid c.twin-2.result)))
-    (c.relabel.ensures.work ∙ ap (ticked (length (cycle new x))) c.reroute.ensures.work)
-    ∙ ticked-three (length (cycle mid c.twin-2.result)) (length (cycle new x)) 5 c.args.table.now.work
-    ∙ (λ j. ticked (length (sym first j) + length (sym second j) + 5) c.args.table.now.work)
+    both-work c.reroute.new.table.rows c.relabel.new.self.rows c.relabel-2.new.self.rows c.args.passing.now.first (twin c.args.passing.now.second) c.twin-2.result c.face.result c.face-2.result
+    c.relabel.ensures.relabels c.relabel-2.ensures.relabels c.twin-2.ensures.is c.args.table.now.work c.reroute.new.table.work c.relabel.new.self.work c.relabel-2.new.self.work
+    c.reroute.ensures.work c.relabel.ensures.work c.relabel-2.ensures.work
