@@ -52,6 +52,11 @@ pub record HaveCome (m now : Map) (numbers : List ℕ) (added : List StringRow) 
   pub rows_now : record now { boundaries = [] } ≡ record m { strings = m.strings ++ added; parcels = m.parcels ++ row ∷ []; boundaries = [] }
 
 module _ {m now : Map} {numbers : List ℕ} {added : List StringRow} {row : ParcelRow} {path : List Half} (come : HaveCome m now numbers added row path) where
+  -- so it is with the row as it is given
+  pub given-come : (given : ParcelRow) → given.number ≡ row.number → given.label ≡ row.label → given.sources ≡ row.sources → HaveCome m now numbers added given path
+  given-come given number label sources =
+      subst (λ (r : ParcelRow). HaveCome m now numbers added r path) (λ i. record { number = sym number i; label = sym label i; sources = sym sources i }) come
+
   pub strings-are : now.strings ≡ m.strings ++ added
   strings-are = ap (λ (q : Map). q.strings) come.rows_now
 

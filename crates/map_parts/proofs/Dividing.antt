@@ -1,6 +1,6 @@
 -- A division of a map on half-edges that is made in place, and taken back.
-use Rattle.std.proofs.Common.{◌≡◌, ◌≢◌, ℕ, ◌≤◌, false, refl, sym, ap, subst, arith, ◌∙◌, List, [], ◌∷◌, ◌++◌, map, length, is_some, nat_eq}
-use Rattle.std.specs.List.{AllByRecursion, IsDistinct}
+use Rattle.std.proofs.Common.{◌≡◌, ◌≢◌, ℕ, ◌≤◌, false, refl, sym, ap, arith, ◌∙◌, List, [], ◌∷◌, ◌++◌, map, length, is_some}
+use Rattle.std.specs.List.{AllByRecursion}
 use Rattle.cad_rows.specs.declared.edits.Edit.TheVariants.{Divide}
 use Rattle.cad_rows.specs.declared.names.Face.{Face}
 use Rattle.cad_rows.specs.declared.names.Face.TheVariants.{Parcel}
@@ -118,10 +118,6 @@ module _ (m : Map) (face : Face) (numbers : List ℕ) (added : List StringRow) (
   pub added-ends : (rows : HalfRows) → AllByRecursion (HasHalves rows) now.strings → AllByRecursion (HasHalves rows) m.strings × AllByRecursion (HasHalves rows) added
   added-ends = added_map.added-ends come
 
-  -- a parcel's row with that number, label and source
-  pub row-is : (given : ParcelRow) → given.number ≡ parcel → given.label ≡ is.label → given.sources ≡ is.source ∷ [] → row ≡ given
-  row-is given number label sources = λ i. record { number = sym number i; label = sym label i; sources = sym sources i }
-
 -- ---- It is made
 
 module _ {face : Face} {added : List StringRow} {parcel : ParcelRow} {first : Half} {rest : List Half} {start end : Half} {moved : List Half} {rows : MapRows} {table : HalfRows}
@@ -142,12 +138,7 @@ module _ {face : Face} {added : List StringRow} {parcel : ParcelRow} {first : Ha
   long = chain-long m face ns added parcel.number path c.is
 
   pub made-come : HaveCome m (divided c.is) ns added parcel path
-  made-come =
-      subst (λ (r : ParcelRow). HaveCome m (divided c.is) ns added r path) (row-is m face ns added parcel.number path c.is parcel refl c.label_is c.sources_are)
-      (come m face ns added parcel.number path c.is)
-
-  pub begun-differ : IsDistinct nat_eq (numbers_of added)
-  begun-differ = added_map.numbers-differ made-come
+  made-come = added_map.given-come (come m face ns added parcel.number path c.is) parcel refl c.label_is c.sources_are
 
   module _ {more_rows : MapRows} {new : HalfRows} {wide : Held Half} {filled : Held Spoke} (seen : IsSeenAs rows more_rows held wide stars filled)
       (room : HasRoomToCome added face parcel.number more_rows wide filled) (adds : AddsStrings added table new) (linked : IsLinked new) where

@@ -1,7 +1,9 @@
 -- A merger along a chain that is taken back with the room that it takes and its strings in the table.
 use Rattle.std.proofs.Common.{◌≡◌, ◌≢◌, ℕ, ◌≤◌, ◌==◌, Bool, true, false, refl, sym, ap, subst, ◌∙◌, List, [], ◌∷◌, ◌++◌, map, length, nat_eq, if◌then◌else◌, arith}
+use Rattle.std.specs.Prelude.{IsPermutation}
 use Rattle.std.specs.List.{AllByRecursion, IsDistinct}
 use Rattle.std.proofs.lemmas.List.{length-append, length-map}
+use Rattle.cad_rows.specs.declared.edits.Edit.TheVariants.{Merge}
 use Rattle.cad_rows.specs.declared.names.Face.{Face}
 use Rattle.cad_rows.specs.declared.names.Face.TheVariants.{Outside, Parcel}
 use Rattle.cad_rows.specs.declared.rows.ParcelRow.{ParcelRow}
@@ -10,6 +12,7 @@ use Rattle.cad_rings.specs.Cycle.{Ring, opposite, sides_of}
 use Rattle.cad_rings.specs.Surgery.{sides_of_chain}
 use Rattle.cad_map.specs.Chain.{leaving}
 use Rattle.cad_map.specs.Map.{Map, side_of}
+use Rattle.cad_laws.specs.Counts.{shared_strings}
 use Rattle.cad_map.specs.Valid.{EachPair}
 use Rattle.half_table.specs.declared.half.Half.{Half}
 use Rattle.half_table.specs.Half.{twin, half_of}
@@ -19,6 +22,7 @@ use Rattle.half_paths.specs.Loose.{AddsStrings, AreNew, HasEnds, numbers_of, is_
 use Rattle.entry_list.specs.Slots.{HasSlot}
 use Rattle.key_lists.specs.Held.{Held}
 use Rattle.cad_laws.specs.Local.{side_by}
+use Rattle.cad_laws.specs.Tried.{IsTried}
 use Rattle.map_parts.specs.declared.edits.placed_strings.PlacedString.{PlacedString}
 use Rattle.map_parts.specs.declared.map_rows.MapRows.{MapRows}
 use Rattle.map_parts.specs.declared.stars.Spoke.{Spoke}
@@ -181,6 +185,15 @@ pub as-many : (path : List Half) (gone : List PlacedString) → strings_of path 
 as-many path gone named =
     sym (length-map (rows_gone gone) (λ (s : StringRow). s.number)) ∙ ap length (sym named) ∙ length-map path (λ (h : Half). h.string)
 
+-- the strings that went are those of the path, so they differ
+pub gone-different : (m : Map) (keeper : Face) (ended : ℕ) (path : List Half) → IsTried m (Merge keeper (Parcel ended)) → IsPermutation (numbers_of (shared_strings m keeper (Parcel ended))) (strings_of path)
+    → (gone : List PlacedString) → numbers_placed gone ≡ strings_of path → IsDistinct nat_eq (numbers_placed gone)
+gone-different m keeper ended path tried shared gone are =
+    subst (IsDistinct nat_eq) (sym are) (numbers-distinct (strings_of path) (rows_of.distinct m keeper ended path tried shared))
+
+pub gone-named : (path : List Half) (gone : List PlacedString) → numbers_placed gone ≡ strings_of path → strings_of path ≡ numbers_of (rows_gone gone)
+gone-named path gone are = sym (placed-numbers gone ∙ are)
+
 -- what holds of each row that went
 each-gone : (P : StringRow → Type 0) (gone : List PlacedString) → AllByRecursion P (rows_gone gone) → AllByRecursion (λ (g : PlacedString). P g.row) gone
 each-gone P [] all = tt
@@ -199,16 +212,11 @@ module _ {keeper : Face} {row : ParcelRow} {place : ℕ} {path : List Half} {sta
   abbrev pub last : Map
   last = merged c.is
 
-  pub undo-different : IsDistinct nat_eq (numbers_placed gone)
-  undo-different = subst (IsDistinct nat_eq) (sym c.numbers_are) (numbers-distinct (strings_of path) (rows_of.distinct c.map keeper row.number path c.is.tried c.is.shared))
-
-  pub named : strings_of path ≡ numbers_of (rows_gone gone)
-  named = sym (placed-numbers gone ∙ c.numbers_are)
-
   abbrev pub undo-can : {more : MapRows} {new : HalfRows} {wide : Held Half} {filled : Held Spoke} → IsSeenAs rows more held wide stars filled
       → HasRoomToCome (rows_gone gone) keeper row.number more wide filled → AddsStrings (rows_gone gone) table new → IsLinked new
       → CanUnmerge keeper row place path start end moved gone more new wide filled
   undo-can {new = new} {filled = filled} seen room adds linked =
+      let named = gone-named path gone c.numbers_are in
       let chain = merging.chain-open c.map keeper row.number path c.is in
       let it =
       ready last (rows_gone gone) keeper row.number path c.fits c.new named

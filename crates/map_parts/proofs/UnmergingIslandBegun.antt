@@ -1,6 +1,5 @@
 -- A merger round an island that is taken back with the room that it takes and its strings in the table.
-use Rattle.std.proofs.Common.{◌≡◌, ℕ, sym, subst, ◌∙◌, List, nat_eq, arith}
-use Rattle.std.specs.List.{IsDistinct}
+use Rattle.std.proofs.Common.{ℕ, sym, ◌∙◌, List, arith}
 use Rattle.cad_rows.specs.declared.names.Face.{Face}
 use Rattle.cad_rows.specs.declared.names.Face.TheVariants.{Parcel}
 use Rattle.cad_rows.specs.declared.rows.ParcelRow.{ParcelRow}
@@ -8,8 +7,7 @@ use Rattle.cad_map.specs.Boundaries.{bounding}
 use Rattle.cad_map.specs.Map.{Map}
 use Rattle.half_table.specs.declared.half.Half.{Half}
 use Rattle.half_table.specs.Rows.{HalfRows, IsLinked}
-use Rattle.half_paths.specs.Path.{strings_of}
-use Rattle.half_paths.specs.Loose.{AddsStrings, numbers_of}
+use Rattle.half_paths.specs.Loose.{AddsStrings}
 use Rattle.key_lists.specs.Held.{Held}
 use Rattle.map_parts.specs.declared.edits.placed_strings.PlacedString.{PlacedString}
 use Rattle.map_parts.specs.declared.map_rows.MapRows.{MapRows}
@@ -17,29 +15,21 @@ use Rattle.map_parts.specs.declared.stars.Spoke.{Spoke}
 use Rattle.map_parts.specs.Adding.{HasRoomToCome, IsSeenAs}
 use Rattle.map_parts.specs.Merging.{rows_gone}
 use Rattle.map_parts.specs.MergingIsland.{without_island, rings_apart, CanBeginUnmergeIsland, CanUnmergeIsland}
-use Rattle.map_parts.specs.PlacedStrings.{numbers_placed}
-use Rattle.map_parts.proofs.AddedStrings.{numbers-distinct}
 use Rattle.map_parts.proofs.IslandPoints.{points-differ}
-use Rattle.map_parts.proofs.MergedRows as rows_of
 use Rattle.map_parts.proofs.MergingIsland as merging
 use Rattle.map_parts.proofs.RoomMade.{ready, of-still}
-use Rattle.map_parts.proofs.UnmergingBegun.{placed-numbers, ring-ends_room, rows-led, as-many, ready-there, ready-room}
+use Rattle.map_parts.proofs.UnmergingBegun.{gone-named, ring-ends_room, rows-led, as-many, ready-there, ready-room}
 
 module _ {keeper : Face} {row : ParcelRow} {place : ℕ} {path moved : List Half} {gone : List PlacedString} {rows : MapRows} {table : HalfRows} {held : Held Half} {stars : Held Spoke}
     (c : CanBeginUnmergeIsland keeper row place path moved gone rows table held stars) where
   abbrev pub last : Map
   last = without_island c.is
 
-  pub undo-different : IsDistinct nat_eq (numbers_placed gone)
-  undo-different = subst (IsDistinct nat_eq) (sym c.numbers_are) (numbers-distinct (strings_of path) (rows_of.distinct c.map keeper row.number path c.is.tried c.is.shared))
-
-  pub named : strings_of path ≡ numbers_of (rows_gone gone)
-  named = sym (placed-numbers gone ∙ c.numbers_are)
-
   abbrev pub undo-can : {more : MapRows} {new : HalfRows} {wide : Held Half} {filled : Held Spoke} → IsSeenAs rows more held wide stars filled
       → HasRoomToCome (rows_gone gone) keeper row.number more wide filled → AddsStrings (rows_gone gone) table new → IsLinked new
       → CanUnmergeIsland keeper row place path moved gone more new wide filled
   undo-can {new = new} {filled = filled} seen room adds linked =
+      let named = gone-named path gone c.numbers_are in
       let law = merging.island c.map keeper row.number c.points path c.is in
       let long = merging.long c.map keeper row.number c.points path c.is in
       let each = points-differ last c.map c.is.tried.valid keeper (Parcel row.number) c.points (bounding (Parcel row.number) c.is.ended_ring) (bounding keeper c.is.kept_ring) (rings_apart c.is) law long in

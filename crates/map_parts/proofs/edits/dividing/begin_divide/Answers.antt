@@ -34,7 +34,7 @@ add_with_room-requires g c =
     record {
       linked = c.requires.fits.fits.local.linked;
       new = subst (AreNew c.args.table.now.rows) is c.requires.new;
-      different = subst (λ (l : List StringRow). IsDistinct nat_eq (numbers_of l)) is (it.begun-differ c.requires);
+      different = subst (λ (l : List StringRow). IsDistinct nat_eq (numbers_of l)) is (added_map.numbers-differ (it.made-come c.requires));
     }
 
 pub bring_across-requires : goal.bring_across-requires

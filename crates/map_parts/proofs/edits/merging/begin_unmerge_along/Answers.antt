@@ -1,11 +1,11 @@
-use Rattle.std.proofs.Common.{ℕ, ◌+◌, ◌*◌, ◌∙◌, List, length, sym, ap, subst, if◌then◌else◌, true}
+use Rattle.std.proofs.Common.{◌∷◌, ℕ, ◌+◌, ◌*◌, ◌∙◌, List, length, sym, ap, subst, if◌then◌else◌, true}
 use Rattle.half_table.specs.Count.{ticked}
 use Rattle.half_table.specs.Rows.{HalfRows, has, cycle}
 use Rattle.half_paths.specs.Loose.{is_of}
 use Rattle.map_parts.specs.Relabelled.{cycles_length}
 use Rattle.map_parts.specs.Splitting.{FitMap}
 use Rattle.map_parts.proofs.RoomMade.{on-err, fit-seen, still-origin}
-use Rattle.map_parts.proofs.UnmergingBegun.{placed-numbers}
+use Rattle.map_parts.proofs.UnmergingBegun.{gone-different, placed-numbers}
 use Rattle.map_parts.proofs.UnmergingBegun as begun
 use Rattle.map_parts.proofs.edits.merging.begin_unmerge_along.Goals as goal
 
@@ -13,7 +13,8 @@ pub make_unmerge_room-requires : goal.make_unmerge_room-requires
 make_unmerge_room-requires g c = record {
   linked = c.requires.fits.fits.local.linked;
   new = c.requires.new;
-  different = begun.undo-different c.requires;
+  different =
+      gone-different c.requires.map c.args.keeper.now c.args.gone.row.number (c.args.first.now ∷ c.args.rest.now) c.requires.is.tried c.requires.is.shared c.args.gone.strings.items c.requires.numbers_are;
 }
 
 pub unmerge_along-requires : goal.unmerge_along-requires
