@@ -29,7 +29,7 @@ use Rattle.map_parts.specs.Paths.{AreAlong, HasStringsMore}
 use Rattle.map_parts.specs.Islands.{AreOfRings}
 use Rattle.map_parts.specs.Chains.{IsChainOf}
 use Rattle.map_parts.specs.Labels.{IsAlong}
-use Rattle.map_parts.specs.FaceChanges.{CanBringAcross, CanTakeAcross, GoesWith, GoesWithChain, GoesWithoutChain}
+use Rattle.map_parts.specs.FaceChanges.{CanBringAcross, CanTakeAcross, GoesWith, GoesWithChain, GoesWithoutChain, HasChainMore}
 use Rattle.map_parts.specs.Handing.{HaveTwoFaces}
 use Rattle.map_parts.specs.Dividing.{IsDividing, divided, rings_beside, CanBeginDivide, CanBeginUndivide, CanUndivide}
 use Rattle.map_parts.proofs.AddedMap as added_map
@@ -118,6 +118,26 @@ module _ (m : Map) (face : Face) (numbers : List ℕ) (added : List StringRow) (
   pub added-ends : (rows : HalfRows) → AllByRecursion (HasHalves rows) now.strings → AllByRecursion (HasHalves rows) m.strings × AllByRecursion (HasHalves rows) added
   added-ends = added_map.added-ends come
 
+  -- in a table with the path along the chain, it has the chain more
+  abbrev pub across : (table : HalfRows) (moved : List Half) → AreAlong table path (sides_of_chain is.chain) → AreOfRings now table moved inner (rings_beside is) → HasChainMore m now face inner path moved table
+  across table moved along of = record {
+    chain = is.chain;
+    first_corner = is.first;
+    last_corner = is.last;
+    one = is.divided.cut;
+    left = left_ring;
+    right = right_ring;
+    others = rings_beside is;
+    rings = whole;
+    parts = parts;
+    long = chain-long;
+    is = chain-of;
+    two = two;
+    more = more;
+    along = along;
+    of = of;
+  }
+
 -- ---- It is made
 
 module _ {face : Face} {added : List StringRow} {parcel : ParcelRow} {first : Half} {rest : List Half} {start end : Half} {moved : List Half} {rows : MapRows} {table : HalfRows}
@@ -181,9 +201,8 @@ module _ {face : Face} {added : List StringRow} {parcel : ParcelRow} {first : Ha
     -- so the table goes with the map after it
     pub made-table : (done : HalfRows) (put : Held Half) → GoesWithChain path start end face new_face moved new wide done put → GoesWith (divided c.is) done put
     made-table done put brings =
-        brings m (divided c.is) c.is.chain c.is.first c.is.last c.is.divided.cut (left_ring m face ns added parcel.number path c.is) (right_ring m face ns added parcel.number path c.is) (rings_beside c.is)
-        made-come.whole made-come.parts long law (two m face ns added parcel.number path c.is) (none m face ns added parcel.number path c.is) more_are along_is
-        (added_map.made-ends made-come made-ready) start_on end_on made-moved (added_map.made-table made-come made-ready, added_map.made-keeps made-come made-ready)
+        brings m (divided c.is) (across m face ns added parcel.number path c.is new moved along_is made-moved) (none m face ns added parcel.number path c.is)
+        (added_map.made-ends made-come made-ready) start_on end_on (added_map.made-table made-come made-ready, added_map.made-keeps made-come made-ready)
 
 -- ---- It is taken back
 
@@ -228,9 +247,8 @@ module _ {face : Face} {ns : List ℕ} {parcel : ℕ} {first : Half} {rest moved
   -- the table goes with the map before it
   pub gone-table : (wide : HalfRows) (put : Held Half) → GoesWithoutChain gone_path face gone_face moved table held wide put → GoesWith old wide put
   gone-table wide put takes =
-      takes old last c.is.chain c.is.first c.is.last c.is.divided.cut (left_ring old face ns c.added parcel gone_path c.is) (right_ring old face ns c.added parcel gone_path c.is) (rings_beside c.is)
-      gone-come.whole gone-come.parts gone_long gone_law (two old face ns c.added parcel gone_path c.is) gone_more gone_along
-      (added_map.gone-ends gone-come c.fits).0 c.moved_are (added_map.gone-table gone-come c.fits, added_map.gone-keeps gone-come c.fits)
+      takes old last (across old face ns c.added parcel gone_path c.is table moved gone_along c.moved_are)
+      (added_map.gone-ends gone-come c.fits).0 (added_map.gone-table gone-come c.fits, added_map.gone-keeps gone-come c.fits)
 
 -- room to exchange kept halves is room for the way back
 module _ {face : Face} {ns : List ℕ} {parcel : ℕ} {path moved : List Half} {rows : MapRows} {table : HalfRows} {held : Held Half} {stars : Held Spoke}

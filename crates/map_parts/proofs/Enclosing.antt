@@ -29,7 +29,7 @@ use Rattle.map_parts.specs.Adding.{HasRoomToCome, HasRoomToExchange, IsSeenAs}
 use Rattle.map_parts.specs.Parts.{HasHalves}
 use Rattle.map_parts.specs.Paths.{AreAlong, HasStringsMore}
 use Rattle.map_parts.specs.Islands.{AreOfRings, IsIslandOf}
-use Rattle.map_parts.specs.FaceChanges.{CanBring, CanTakeOut, GoesWith, GoesWithIsland, GoesWithoutIsland}
+use Rattle.map_parts.specs.FaceChanges.{CanBring, CanTakeOut, GoesWith, GoesWithIsland, GoesWithoutIsland, HasIslandMore}
 use Rattle.map_parts.specs.Handing.{HaveTwoFaces}
 use Rattle.map_parts.specs.Enclosing.{IsEnclosing, enclosed, rings_placed, CanBeginEnclose, CanBeginOpen, CanOpen}
 use Rattle.map_parts.proofs.AddedMap as added_map
@@ -120,6 +120,22 @@ module _ (m : Map) (face : Face) (numbers : List ℕ) (added : List StringRow) (
   pub added-ends : (rows : HalfRows) → AllByRecursion (HasHalves rows) now.strings → AllByRecursion (HasHalves rows) m.strings × AllByRecursion (HasHalves rows) added
   added-ends = added_map.added-ends come
 
+  -- in a table with the path round it, it has the island more
+  abbrev pub inside : (table : HalfRows) (moved : List Half) → AreAlong table path (sides_of is.points) → AreOfRings now table moved inner (rings_placed is) → HasIslandMore m now face inner path moved table
+  inside table moved along of = record {
+    ring = is.points;
+    left = canonical_form (bounding inner is.points);
+    right = canonical_form (bounding face (reverse is.points));
+    others = rings_placed is;
+    rings = whole;
+    parts = parts;
+    is = island;
+    two = two;
+    more = more;
+    along = along;
+    of = of;
+  }
+
 -- ---- It is made
 
 module _ {face : Face} {added : List StringRow} {parcel : ParcelRow} {first : Half} {rest moved : List Half} {rows : MapRows} {table : HalfRows}
@@ -165,10 +181,9 @@ module _ {face : Face} {added : List StringRow} {parcel : ParcelRow} {first : Ha
     -- so the table goes with the map after it
     pub made-table : (done : HalfRows) (put : Held Half) → GoesWithIsland all_path face new_face moved new wide done put → GoesWith (enclosed c.is) done put
     made-table done put brings =
-        brings m (enclosed c.is) c.is.points (canonical_form (bounding new_face c.is.points)) (canonical_form (bounding face (reverse c.is.points))) (rings_placed c.is)
-        made-come.whole made-come.parts (island m face ns added parcel.number all_path c.is)
-        (two m face ns added parcel.number all_path c.is) (none m face ns added parcel.number all_path c.is) (added_map.more made-come)
-        (along m face ns added parcel.number all_path c.is new made-ready.there) (added_map.made-ends made-come made-ready) made-moved
+        brings m (enclosed c.is)
+        (inside m face ns added parcel.number all_path c.is new moved (along m face ns added parcel.number all_path c.is new made-ready.there) made-moved)
+        (none m face ns added parcel.number all_path c.is) (added_map.made-ends made-come made-ready)
         (added_map.made-table made-come made-ready, added_map.made-keeps made-come made-ready)
 
 -- ---- It is taken back
@@ -209,10 +224,8 @@ module _ {face : Face} {ns : List ℕ} {parcel : ℕ} {first : Half} {rest moved
   -- the table goes with the map before it
   pub gone-table : (wide : HalfRows) (put : Held Half) → GoesWithoutIsland path face gone_face moved table held wide put → GoesWith old wide put
   gone-table wide put takes =
-      takes old last c.is.points (canonical_form (bounding gone_face c.is.points)) (canonical_form (bounding face (reverse c.is.points))) (rings_placed c.is)
-      gone-come.whole gone-come.parts long gone_island (two old face ns c.added parcel path c.is)
-      (added_map.more gone-come) gone_along (added_map.gone-ends gone-come c.fits).0 c.moved_are
-      (added_map.gone-table gone-come c.fits, added_map.gone-keeps gone-come c.fits)
+      takes old last (inside old face ns c.added parcel path c.is table moved gone_along c.moved_are) long
+      (added_map.gone-ends gone-come c.fits).0 (added_map.gone-table gone-come c.fits, added_map.gone-keeps gone-come c.fits)
 
 -- room to exchange kept halves is room for the way back
 module _ {face : Face} {ns : List ℕ} {parcel : ℕ} {path moved : List Half} {rows : MapRows} {table : HalfRows} {held : Held Half} {stars : Held Spoke}

@@ -9,7 +9,7 @@ use Rattle.cad_rows.specs.declared.names.Face.{Face}
 use Rattle.cad_rows.specs.declared.names.Face.TheVariants.{Parcel}
 use Rattle.cad_rows.specs.declared.rows.ParcelRow.{ParcelRow}
 use Rattle.cad_rings.specs.Cycle.{turned}
-use Rattle.cad_rings.specs.Surgery.{chain_from, joined}
+use Rattle.cad_rings.specs.Surgery.{chain_from, joined, sides_of_chain}
 use Rattle.cad_map.specs.declared.boundary.Boundary.{Boundary}
 use Rattle.cad_map.specs.Boundaries.{bounding, canonical_form}
 use Rattle.cad_map.specs.Chain.{start_of, end_of}
@@ -23,13 +23,14 @@ use Rattle.cad_map.proofs.CallerLemmas.{IsFound, found, along-passed, pairs-from
 use Rattle.half_table.specs.declared.half.Half.{Half}
 use Rattle.half_table.specs.Rows.{HalfRows}
 use Rattle.key_lists.specs.Held.{Held, IsSame}
+use Rattle.map_parts.specs.Islands.{AreOfRings}
 use Rattle.map_parts.specs.declared.edits.placed_strings.PlacedString.{PlacedString}
 use Rattle.map_parts.specs.declared.map_rows.MapRows.{MapRows}
 use Rattle.map_parts.specs.declared.stars.Spoke.{Spoke}
 use Rattle.map_parts.specs.Adding.{HasRoomToExchange}
-use Rattle.map_parts.specs.Paths.{HasStringsMore}
+use Rattle.map_parts.specs.Paths.{AreAlong, HasStringsMore}
 use Rattle.map_parts.specs.Chains.{IsChainOf}
-use Rattle.map_parts.specs.FaceChanges.{CanBringAcross, CanTakeAcross, GoesWith, GoesWithChain, GoesWithoutChain}
+use Rattle.map_parts.specs.FaceChanges.{CanBringAcross, CanTakeAcross, GoesWith, GoesWithChain, GoesWithoutChain, HasChainMore}
 use Rattle.map_parts.specs.Splitting.{FitMap}
 use Rattle.map_parts.specs.Merging.{IsMerging, merged, shared_chain, first_corner, last_corner, rings_past, CanBeginMerge, CanUnmerge}
 use Rattle.map_parts.proofs.ChainAcross.{chain-place, chain-tied, two-last, ends-last}
@@ -111,6 +112,27 @@ module _ (m : Map) (keeper : Face) (ended : ℕ) (path : List Half) (is : IsMerg
   pub more : HasStringsMore (merged is) m path
   more = rows_of.more m keeper ended path is.tried is.shared
 
+  -- in a table with the path along the chain, the map before it has the chain more
+  abbrev pub across : (table : HalfRows) (moved : List Half) → AreAlong table path (sides_of_chain (shared_chain is)) → AreOfRings m table moved (Parcel ended) (rings_past is)
+      → HasChainMore (merged is) m keeper (Parcel ended) path moved table
+  across table moved leads of = record {
+    chain = shared_chain is;
+    first_corner = first_corner is;
+    last_corner = last_corner is;
+    one = one_ring;
+    left = bounding (Parcel ended) is.ended_ring;
+    right = bounding keeper is.kept_ring;
+    others = rings_past is;
+    rings = parts;
+    parts = whole;
+    long = chain-open.long;
+    is = chain-of;
+    two = rows_of.two m keeper ended path is.tried is.shared;
+    more = more;
+    along = leads;
+    of = of;
+  }
+
 -- ---- It is made
 
 module _ {keeper : Face} {ended : ℕ} {strings : List ℕ} {first : Half} {rest moved : List Half} {rows : MapRows} {table : HalfRows}
@@ -151,9 +173,8 @@ module _ {keeper : Face} {ended : ℕ} {strings : List ℕ} {first : Half} {rest
   -- the table goes with the map after it
   pub made-table : (done : HalfRows) (put : Held Half) → GoesWithoutChain path keeper (Parcel ended) moved table wide done put → GoesWith (merged c.is) done put
   made-table done put takes =
-      takes (merged c.is) m chain (first_corner c.is) (last_corner c.is) (one_ring m keeper ended path c.is) (bounding (Parcel ended) c.is.ended_ring) (bounding keeper c.is.kept_ring) (rings_past c.is)
-      (parts m keeper ended path c.is) whole_is open_is.long law (rows_of.two m keeper ended path c.is.tried c.is.shared) more_is c.leads
-      (rows_of.ends-left m keeper ended path c.is.tried c.is.shared table c.fits.fits.ends) c.moved_are
+      takes (merged c.is) m (across m keeper ended path c.is table moved c.leads c.moved_are)
+      (rows_of.ends-left m keeper ended path c.is.tried c.is.shared table c.fits.fits.ends)
       (rows_of.made-table m keeper ended first rest c.is.tried c.is.shared fit, rows_of.made-keeps m keeper ended first rest c.is.tried c.is.shared fit)
 
 -- ---- It is taken back
@@ -195,7 +216,6 @@ module _ {keeper : Face} {row : ParcelRow} {place : ℕ} {first : Half} {rest : 
   -- the table goes with the map before it
   pub back-table : (wide : HalfRows) (put : Held Half) → GoesWithChain gone_path start end keeper gone_face moved table held wide put → GoesWith old wide put
   back-table wide put brings =
-      brings last old gone_chain (first_corner c.is) (last_corner c.is) (one_ring old keeper row.number gone_path c.is) (bounding gone_face c.is.ended_ring) (bounding keeper c.is.kept_ring) (rings_past c.is)
-      (parts old keeper row.number gone_path c.is) (whole old keeper row.number gone_path c.is) gone_open.long gone_law (rows_of.two old keeper row.number gone_path c.is.tried c.is.shared) (rows_of.none old keeper row.number gone_path c.is.tried c.is.shared) gone_more c.leads
-      (rows_of.all-back old keeper first rest c.is.tried c.is.shared c.went c.fits c.there) c.start_on c.end_on c.moved_are
+      brings last old (across old keeper row.number gone_path c.is table moved c.leads c.moved_are) (rows_of.none old keeper row.number gone_path c.is.tried c.is.shared)
+      (rows_of.all-back old keeper first rest c.is.tried c.is.shared c.went c.fits c.there) c.start_on c.end_on
       (rows_of.last-table old keeper first rest c.is.tried c.is.shared c.went c.fits c.there, rows_of.last-keeps old keeper first rest c.is.tried c.is.shared c.went c.fits c.there)

@@ -15,13 +15,14 @@ use Rattle.half_table.specs.Rows.{HalfRows}
 use Rattle.key_lists.specs.Held.{Held, IsSame}
 use Rattle.cad_laws.specs.Local.{IsShown}
 use Rattle.cad_laws.proofs.CallerLemmas.{two-sides}
+use Rattle.cad_rings.specs.Cycle.{sides_of}
 use Rattle.map_parts.specs.declared.edits.placed_strings.PlacedString.{PlacedString}
 use Rattle.map_parts.specs.declared.map_rows.MapRows.{MapRows}
 use Rattle.map_parts.specs.declared.stars.Spoke.{Spoke}
 use Rattle.map_parts.specs.Adding.{HasRoomToExchange}
-use Rattle.map_parts.specs.Paths.{HasStringsMore}
-use Rattle.map_parts.specs.Islands.{IsIslandOf}
-use Rattle.map_parts.specs.FaceChanges.{CanBring, CanTakeOut, GoesWith, GoesWithIsland, GoesWithoutIsland}
+use Rattle.map_parts.specs.Paths.{AreAlong, HasStringsMore}
+use Rattle.map_parts.specs.Islands.{IsIslandOf, AreOfRings}
+use Rattle.map_parts.specs.FaceChanges.{CanBring, CanTakeOut, GoesWith, GoesWithIsland, GoesWithoutIsland, HasIslandMore}
 use Rattle.map_parts.specs.Splitting.{FitMap}
 use Rattle.map_parts.specs.MergingIsland.{IsMergingIsland, without_island, rings_apart, CanBeginMergeIsland, CanUnmergeIsland}
 use Rattle.map_parts.proofs.AlongPaths.{ring-round}
@@ -44,6 +45,23 @@ module _ (m : Map) (keeper : Face) (ended : ℕ) (points : List ℕ) (path : Lis
   long =
       let two = All-at_each (λ b. 2 ≤ length b.ring) m.boundaries (bounding (Parcel ended) is.ended_ring) (two-sides m is.tried.valid) ring-there in
       subst (λ (n : ℕ). 2 ≤ n) (IsSameRing-length points is.ended_ring is.leads) two
+
+  -- in a table with the path round it, the map before it has the island more
+  abbrev pub inside : (table : HalfRows) (moved : List Half) → AreAlong table path (sides_of points) → AreOfRings m table moved (Parcel ended) (rings_apart is)
+      → HasIslandMore (without_island is) m keeper (Parcel ended) path moved table
+  inside table moved along of = record {
+    ring = points;
+    left = bounding (Parcel ended) is.ended_ring;
+    right = bounding keeper is.kept_ring;
+    others = rings_apart is;
+    rings = rows_of.parts m keeper ended path is.tried is.shared;
+    parts = rows_of.whole m keeper ended path is.tried is.shared;
+    is = island;
+    two = rows_of.two m keeper ended path is.tried is.shared;
+    more = rows_of.more m keeper ended path is.tried is.shared;
+    along = along;
+    of = of;
+  }
 
 -- ---- It is made
 
@@ -78,10 +96,8 @@ module _ {keeper : Face} {ended : ℕ} {strings : List ℕ} {first : Half} {rest
   -- the table goes with the map after it
   pub made-table : (done : HalfRows) (put : Held Half) → GoesWithoutIsland path keeper (Parcel ended) moved table wide done put → GoesWith (without_island c.is) done put
   made-table done put takes =
-      takes (without_island c.is) m c.points (bounding (Parcel ended) c.is.ended_ring) (bounding keeper c.is.kept_ring) (rings_apart c.is)
-      (rows_of.parts m keeper ended path c.is.tried c.is.shared) whole_is (long m keeper ended c.points path c.is) law
-      (rows_of.two m keeper ended path c.is.tried c.is.shared) more_is c.along
-      (rows_of.ends-left m keeper ended path c.is.tried c.is.shared table c.fits.fits.ends) c.moved_are
+      takes (without_island c.is) m (inside m keeper ended c.points path c.is table moved c.along c.moved_are) (long m keeper ended c.points path c.is)
+      (rows_of.ends-left m keeper ended path c.is.tried c.is.shared table c.fits.fits.ends)
       (rows_of.made-table m keeper ended first rest c.is.tried c.is.shared fit, rows_of.made-keeps m keeper ended first rest c.is.tried c.is.shared fit)
 
 -- ---- It is taken back
@@ -106,9 +122,6 @@ module _ {keeper : Face} {row : ParcelRow} {place : ℕ} {first : Half} {rest mo
   -- the table goes with the map before it
   pub back-table : (wide : HalfRows) (put : Held Half) → GoesWithIsland gone_path keeper gone_face moved table held wide put → GoesWith old wide put
   back-table wide put brings =
-      brings last old c.points (bounding gone_face c.is.ended_ring) (bounding keeper c.is.kept_ring) (rings_apart c.is)
-      (rows_of.parts old keeper row.number gone_path c.is.tried c.is.shared) (rows_of.whole old keeper row.number gone_path c.is.tried c.is.shared) (island old keeper row.number c.points gone_path c.is)
-      (rows_of.two old keeper row.number gone_path c.is.tried c.is.shared) (rows_of.none old keeper row.number gone_path c.is.tried c.is.shared)
-      (rows_of.more old keeper row.number gone_path c.is.tried c.is.shared) c.along
-      (rows_of.all-back old keeper first rest c.is.tried c.is.shared c.went c.fits c.there) c.moved_are
+      brings last old (inside old keeper row.number c.points gone_path c.is table moved c.along c.moved_are) (rows_of.none old keeper row.number gone_path c.is.tried c.is.shared)
+      (rows_of.all-back old keeper first rest c.is.tried c.is.shared c.went c.fits c.there)
       (rows_of.last-table old keeper first rest c.is.tried c.is.shared c.went c.fits c.there, rows_of.last-keeps old keeper first rest c.is.tried c.is.shared c.went c.fits c.there)

@@ -129,51 +129,65 @@ IsLocalWithoutChain path old new =
 abbrev pub GoesWith : Map → HalfRows → Held Half → Type 0
 GoesWith m table held = FitsTable m table × KeepsEach m table held
 
+-- The second map has a chain more, across a ring of the outer face: the path leads along it, and the
+-- moved halves are of the inner face's other rings.
+pub record HasChainMore (whole parted : Map) (outer inner : Face) (path moved : List Half) (table : HalfRows) : Type 0 where
+  pub chain : List ℕ
+  pub first_corner : Corner
+  pub last_corner : Corner
+  pub one : Boundary
+  pub left : Boundary
+  pub right : Boundary
+  pub others : List Boundary
+  pub rings : HasWholeRings whole
+  pub parts : HasWholeRings parted
+  pub long : 2 ≤ length chain
+  pub is : IsChainOf whole parted outer inner chain first_corner last_corner one left right others
+  pub two : HaveTwoFaces whole parted outer inner
+  pub more : HasStringsMore whole parted path
+  pub along : AreAlong table path (sides_of_chain chain)
+  pub of : AreOfRings parted table moved inner others
+
+-- The second map has an island more, in the outer face: the path leads round it, and the moved halves
+-- are of the inner face's other rings.
+pub record HasIslandMore (whole parted : Map) (outer inner : Face) (path moved : List Half) (table : HalfRows) : Type 0 where
+  pub ring : Ring
+  pub left : Boundary
+  pub right : Boundary
+  pub others : List Boundary
+  pub rings : HasWholeRings whole
+  pub parts : HasWholeRings parted
+  pub is : IsIslandOf whole parted outer inner ring left right others
+  pub two : HaveTwoFaces whole parted outer inner
+  pub more : HasStringsMore whole parted path
+  pub along : AreAlong table path (sides_of ring)
+  pub of : AreOfRings parted table moved inner others
+
 -- A table and kept halves that go with a map go with the map that has the chain more.
 abbrev pub GoesWithChain : List Half → Half → Half → Face → Face → List Half → HalfRows → Held Half → HalfRows → Held Half → Type 0
 GoesWithChain path start end outer inner moved old held new put =
-    (whole parted : Map) (chain : List ℕ) (first_corner last_corner : Corner) (one left right : Boundary) (others : List Boundary)
-    → HasWholeRings whole → HasWholeRings parted → 2 ≤ length chain
-    → IsChainOf whole parted outer inner chain first_corner last_corner one left right others
-    → HaveTwoFaces whole parted outer inner → has_face whole inner ≡ false
-    → HasStringsMore whole parted path → AreAlong old path (sides_of_chain chain)
-    → AllByRecursion (HasHalves old) parted.strings
-    → IsAlong whole old (leaving first_corner) start → IsAlong whole old (leaving last_corner) end
-    → AreOfRings parted old moved inner others
+    (whole parted : Map) (its : HasChainMore whole parted outer inner path moved old)
+    → has_face whole inner ≡ false → AllByRecursion (HasHalves old) parted.strings
+    → IsAlong whole old (leaving its.first_corner) start → IsAlong whole old (leaving its.last_corner) end
     → GoesWith whole old held → GoesWith parted new put
 
 -- Those that go with a map with a chain more go with the map without it.
 abbrev pub GoesWithoutChain : List Half → Face → Face → List Half → HalfRows → Held Half → HalfRows → Held Half → Type 0
 GoesWithoutChain path outer inner moved old held new put =
-    (whole parted : Map) (chain : List ℕ) (first_corner last_corner : Corner) (one left right : Boundary) (others : List Boundary)
-    → HasWholeRings whole → HasWholeRings parted → 2 ≤ length chain
-    → IsChainOf whole parted outer inner chain first_corner last_corner one left right others
-    → HaveTwoFaces whole parted outer inner
-    → HasStringsMore whole parted path → AreAlong old path (sides_of_chain chain)
+    (whole parted : Map) → HasChainMore whole parted outer inner path moved old
     → AllByRecursion (HasHalves old) whole.strings
-    → AreOfRings parted old moved inner others
     → GoesWith parted old held → GoesWith whole new put
 
 -- A table and kept halves that go with a map go with that map and the island.
 abbrev pub GoesWithIsland : List Half → Face → Face → List Half → HalfRows → Held Half → HalfRows → Held Half → Type 0
 GoesWithIsland path outer inner moved old held new put =
-    (whole parted : Map) (ring : Ring) (left right : Boundary) (others : List Boundary)
-    → HasWholeRings whole → HasWholeRings parted
-    → IsIslandOf whole parted outer inner ring left right others
-    → HaveTwoFaces whole parted outer inner → has_face whole inner ≡ false
-    → HasStringsMore whole parted path → AreAlong old path (sides_of ring)
-    → AllByRecursion (HasHalves old) parted.strings
-    → AreOfRings parted old moved inner others
+    (whole parted : Map) → HasIslandMore whole parted outer inner path moved old
+    → has_face whole inner ≡ false → AllByRecursion (HasHalves old) parted.strings
     → GoesWith whole old held → GoesWith parted new put
 
 -- Those that go with a map and an island go with the map without it.
 abbrev pub GoesWithoutIsland : List Half → Face → Face → List Half → HalfRows → Held Half → HalfRows → Held Half → Type 0
 GoesWithoutIsland path outer inner moved old held new put =
-    (whole parted : Map) (ring : Ring) (left right : Boundary) (others : List Boundary)
-    → HasWholeRings whole → HasWholeRings parted → 2 ≤ length ring
-    → IsIslandOf whole parted outer inner ring left right others
-    → HaveTwoFaces whole parted outer inner
-    → HasStringsMore whole parted path → AreAlong old path (sides_of ring)
-    → AllByRecursion (HasHalves old) whole.strings
-    → AreOfRings parted old moved inner others
+    (whole parted : Map) (its : HasIslandMore whole parted outer inner path moved old)
+    → 2 ≤ length its.ring → AllByRecursion (HasHalves old) whole.strings
     → GoesWith parted old held → GoesWith whole new put

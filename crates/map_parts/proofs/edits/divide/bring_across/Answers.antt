@@ -106,7 +106,7 @@ returns-clause-work g c =
     c.relabel_each.ensures.work ∙ ap (ticked q) c.bring_left.ensures.work ∙ sym (ticked-add (n + r) q w) ∙ ap (λ k. ticked k w) turn ∙ (λ i. ticked (n + (is_r i + is_q i)) w)
 
 pub returns-clause-chain : goal.returns-clause-chain
-returns-clause-chain g c = λ whole parted chain fc lc one left right others rings parts long it two none more along ends start_on end_on of goes.
+returns-clause-chain g c = λ whole parted its none ends start_on end_on goes.
     let outer = c.args.outer.now in
     let inner = c.args.inner.now in
     let first : Half = c.args.first.now in
@@ -118,20 +118,20 @@ returns-clause-chain g c = λ whole parted chain fc lc one left right others rin
     let labels = c.relabel_each.ensures.relabels in
     let left_one = c.bring_left.ensures in
     let fits = goes.0 in
-    let first_side = first-along (side_by old) first rest chain long along in
-    let last_side = last-along (side_by old) first rest chain long along in
-    let local = left_one.local whole parted chain fc lc rings parts long it.corners more along ends start_on end_on fits.local in
+    let first_side = first-along (side_by old) first rest its.chain its.long its.along in
+    let last_side = last-along (side_by old) first rest its.chain its.long its.along in
+    let local = left_one.local whole parted its.chain its.first_corner its.last_corner its.rings its.parts its.long its.is.corners its.more its.along ends start_on end_on fits.local in
     let fits_new : FitsTable parted new =
-    fits-across whole parted outer inner chain fc lc one left right others it rings parts long first rest more moved old mid new left_one.has left_one.origin left_one.faces
-    local labels c.relabel_each.ensures.linked along first_side last_side ends of fits in
+    fits-across whole parted outer inner its.chain its.first_corner its.last_corner its.one its.left its.right its.others its.is its.rings its.parts its.long first rest its.more moved old mid new left_one.has left_one.origin left_one.faces
+    local labels c.relabel_each.ensures.linked its.along first_side last_side ends its.of fits in
     let two_mid =
-    two-mid whole parted outer inner chain fc lc one left right others it rings parts long first rest more moved old mid new left_one.has left_one.origin left_one.faces
-    local labels c.relabel_each.ensures.linked along first_side last_side ends of fits in
+    two-mid whole parted outer inner its.chain its.first_corner its.last_corner its.one its.left its.right its.others its.is its.rings its.parts its.long first rest its.more moved old mid new left_one.has left_one.origin left_one.faces
+    local labels c.relabel_each.ensures.linked its.along first_side last_side ends its.of fits in
     let along_mid =
-    along-mid whole parted outer inner chain fc lc one left right others it rings parts long first rest more moved old mid new left_one.has left_one.origin left_one.faces
-    local labels c.relabel_each.ensures.linked along first_side last_side ends of fits in
+    along-mid whole parted outer inner its.chain its.first_corner its.last_corner its.one its.left its.right its.others its.is its.rings its.parts its.long first rest its.more moved old mid new left_one.has left_one.origin left_one.faces
+    local labels c.relabel_each.ensures.linked its.along first_side last_side ends its.of fits in
     let both = subst (λ (h : Half). KeepsBoth (face_place inner) (face_place outer) first h c.hand_over.new.kept c.keep_both.new.kept) c.twin-back.ensures.is c.keep_both.ensures.both in (
       fits_new,
-      chain-kept whole parted outer inner chain fc lc one left right others it rings parts long two none first rest more old mid new left_one.origin labels.origin fits local two_mid fits_new along_mid
+      chain-kept whole parted outer inner its.chain its.first_corner its.last_corner its.one its.left its.right its.others its.is its.rings its.parts its.long its.two none first rest its.more old mid new left_one.origin labels.origin fits local two_mid fits_new along_mid
           left_one.faces c.args.kept.now c.hand_over.new.kept c.keep_both.new.kept c.hand_over-2.new.kept goes.1 c.hand_over.ensures.hands both c.hand_over-2.ensures.hands,
     )

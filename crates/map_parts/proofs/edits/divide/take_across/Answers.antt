@@ -126,7 +126,7 @@ returns-clause-work g c =
     c.take_left.ensures.work ∙ ap (ticked (r + n + p)) c.relabel_each.ensures.work ∙ sym (ticked-add q (r + n + p) w) ∙ (λ i. ticked (q + (is_r i + n + p)) w)
 
 pub returns-clause-chain : goal.returns-clause-chain
-returns-clause-chain g c = λ whole parted chain fc lc one left right others rings parts long it two more along ends of goes.
+returns-clause-chain g c = λ whole parted its ends goes.
     let outer = c.args.outer.now in
     let inner = c.args.inner.now in
     let first : Half = c.args.first.now in
@@ -138,20 +138,20 @@ returns-clause-chain g c = λ whole parted chain fc lc one left right others rin
     let labels = c.relabel_each.ensures.relabels in
     let key = c.face_place.ensures in
     let fits = goes.0 in
-    let first_side = first-along (side_by old) first rest chain long along in
-    let last_side = last-along (side_by old) first rest chain long along in
+    let first_side = first-along (side_by old) first rest its.chain its.long its.along in
+    let last_side = last-along (side_by old) first rest its.chain its.long its.along in
     let origins : (h : Half) → _ = (returns-clause-halves g c).origin in
     let faces_new : (h : Half) → face new h ≡ (if is_of (strings_of (first ∷ rest)) h then inner else if holds (cycle old first) h then outer else if on_cycles old moved h then outer else face old h) =
     λ h. c.take_left.ensures.faces h ∙ (λ i. if is_of (strings_of (first ∷ rest)) h then inner else if holds (cycle-same old back labels.strings labels.next i first) h then outer else labels.face h i) in
     let local_back = local-kept parted old back (λ h shown. labels.has h) (λ h shown. labels.next h) (λ h shown. labels.origin h) c.relabel_each.ensures.linked fits.local in
-    let local = c.take_left.ensures.local whole parted chain fc lc parts long it.corners more (along-same old back labels.origin (first ∷ rest) (sides_of_chain chain) along) local_back in
+    let local = c.take_left.ensures.local whole parted its.chain its.first_corner its.last_corner its.parts its.long its.is.corners its.more (along-same old back labels.origin (first ∷ rest) (sides_of_chain its.chain) its.along) local_back in
     let is_start : c.next-start.result ≡ next old (twin first) = c.next-start.ensures.is ∙ labels.next c.twin-back.result ∙ ap (next old) c.twin-back.ensures.is in
-    let on = start-on whole parted outer inner chain fc lc one left right others it rings parts long first rest more moved old new origins fits of along first_side last_side faces_new c.requires.tied.back_away in
+    let on = start-on whole parted outer inner its.chain its.first_corner its.last_corner its.one its.left its.right its.others its.is its.rings its.parts its.long first rest its.more moved old new origins fits its.of its.along first_side last_side faces_new c.requires.tied.back_away in
     let one_kept = subst (λ (h : Half). KeepsOne (face_place inner) (face_place outer) h c.hand_over-2.new.kept c.keep_one.new.kept) is_start c.keep_one.ensures.one in (
-      fits-cut whole parted outer inner chain fc lc one left right others it rings parts long first rest more moved old new origins fits of along first_side last_side faces_new
+      fits-cut whole parted outer inner its.chain its.first_corner its.last_corner its.one its.left its.right its.others its.is its.rings its.parts its.long first rest its.more moved old new origins fits its.of its.along first_side last_side faces_new
           local (returns-clause-halves g c).has ends,
-      chain-gone whole parted outer inner chain fc lc one left right others it rings parts long first rest more moved old new origins fits of along first_side last_side faces_new
-          two back labels.face c.args.kept.now c.hand_over.new.kept c.clear.new.kept c.hand_over-2.new.kept c.keep_one.new.kept (next old (twin first)) goes.1 c.hand_over.ensures.hands
+      chain-gone whole parted outer inner its.chain its.first_corner its.last_corner its.one its.left its.right its.others its.is its.rings its.parts its.long first rest its.more moved old new origins fits its.of its.along first_side last_side faces_new
+          its.two back labels.face c.args.kept.now c.hand_over.new.kept c.clear.new.kept c.hand_over-2.new.kept c.keep_one.new.kept (next old (twin first)) goes.1 c.hand_over.ensures.hands
           (subst (λ (k : ℕ). items_at c.clear.new.kept k ≡ []) key c.clear.ensures.none)
           (λ n away. items-of c.face_place.result n c.hand_over.new.kept c.clear.new.kept c.clear.ensures.others (λ e. away (sym key ∙ e)))
           c.hand_over-2.ensures.hands one_kept on.1,

@@ -47,7 +47,7 @@ returns-clause-capacity g c = λ n.
     ∙ c.hand_over.ensures.capacity n
 
 pub returns-clause-island : goal.returns-clause-island
-returns-clause-island g c = λ whole parted ring left right others rings parts it two none more along ends of goes.
+returns-clause-island g c = λ whole parted its none ends goes.
     let outer : ℕ = face_place c.args.outer.now in
     let inner : ℕ = face_place c.args.inner.now in
     let old = c.args.table.now.rows in
@@ -59,9 +59,9 @@ returns-clause-island g c = λ whole parted ring left right others rings parts i
     let path = first ∷ c.args.rest.now in
     let is_inner = c.face_place-inner_key.ensures in
     let is_outer = c.face_place-outer_key.ensures in
-    let fits_new : FitsTable parted new = c.bring_island.ensures.island whole parted ring left right others rings parts it more along ends of goes.0 in
-    let on = first-on whole parted c.args.outer.now c.args.inner.now ring left right others it parts first c.args.rest.now more c.args.moved.now new
-    (along-same old new c.bring_island.ensures.origin path (sides_of ring) along) in
+    let fits_new : FitsTable parted new = c.bring_island.ensures.island whole parted its.ring its.left its.right its.others its.rings its.parts its.is its.more its.along ends its.of goes.0 in
+    let on = first-on whole parted c.args.outer.now c.args.inner.now its.ring its.left its.right its.others its.is its.parts first c.args.rest.now its.more c.args.moved.now new
+    (along-same old new c.bring_island.ensures.origin path (sides_of its.ring) its.along) in
     let far_inner : ¬ (c.face_place-outer_key.result ≡ inner) = λ e. c.requires.faces (sym is_outer ∙ e) in
     let far_outer : ¬ (c.face_place-inner_key.result ≡ outer) = λ e. c.requires.faces (sym (sym is_inner ∙ e)) in
     let at_inner : items_at now inner ≡ items_at mid inner ++ first ∷ [] =
@@ -71,11 +71,11 @@ returns-clause-island g c = λ whole parted ring left right others rings parts i
     subst (λ (k : ℕ). items_at now k ≡ items_at one k ++ c.twin-back.result ∷ []) is_outer c.put-2.ensures.items
     ∙ (λ i. items-of c.face_place-inner_key.result outer mid one c.put.ensures.others far_outer i ++ c.twin-back.ensures.is i ∷ []) in (
       fits_new,
-      island-kept whole parted c.args.outer.now c.args.inner.now ring left right others it rings parts two old new c.args.kept.now mid now first goes.1 c.hand_over.ensures.hands at_inner at_outer
+      island-kept whole parted c.args.outer.now c.args.inner.now its.ring its.left its.right its.others its.is its.rings its.parts its.two old new c.args.kept.now mid now first goes.1 c.hand_over.ensures.hands at_inner at_outer
           (λ n away far.
           items-of c.face_place-outer_key.result n one now c.put-2.ensures.others (λ e. away (sym is_outer ∙ e))
           ∙ items-of c.face_place-inner_key.result n mid one c.put.ensures.others (λ e. far (sym is_inner ∙ e)))
-          none on.0 on.1 (home-comes whole parted c.args.outer.now c.args.inner.now ring left right others it parts path more old new c.bring_island.ensures.origin fits_new),
+          none on.0 on.1 (home-comes whole parted c.args.outer.now c.args.inner.now its.ring its.left its.right its.others its.is its.parts path its.more old new c.bring_island.ensures.origin fits_new),
     )
 
 pub returns-clause-count : goal.returns-clause-count

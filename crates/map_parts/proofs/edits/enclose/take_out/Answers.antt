@@ -57,7 +57,7 @@ returns-clause-kept g c =
     }
 
 pub returns-clause-island : goal.returns-clause-island
-returns-clause-island g c = λ whole parted ring left right others rings parts long it two more along ends of goes.
+returns-clause-island g c = λ whole parted its long ends goes.
     let old = c.args.table.now.rows in
     let new = c.take_island.new.table.rows in
     let first : Half = c.args.first.now in
@@ -67,14 +67,14 @@ returns-clause-island g c = λ whole parted ring left right others rings parts l
     let moved = c.args.moved.now in
     let key = c.face_place.ensures in
     let fits = goes.0 in
-    let fits_new : FitsTable whole new = c.take_island.ensures.island whole parted ring left right others parts long it more along ends of fits in
-    let on = first-on whole parted outer inner ring left right others it parts first c.args.rest.now more moved old along in
-    let differ = half-two (bare parted old) fits.ends (two-ends parted parts) in (
+    let fits_new : FitsTable whole new = c.take_island.ensures.island whole parted its.ring its.left its.right its.others its.parts long its.is its.more its.along ends its.of fits in
+    let on = first-on whole parted outer inner its.ring its.left its.right its.others its.is its.parts first c.args.rest.now its.more moved old its.along in
+    let differ = half-two (bare parted old) fits.ends (two-ends parted its.parts) in (
       fits_new,
-      island-gone whole parted outer inner ring left right others it rings parts two old new c.args.kept.now c.hand_over.new.kept c.hand_over-2.new.kept c.clear.new.kept goes.1
+      island-gone whole parted outer inner its.ring its.left its.right its.others its.is its.rings its.parts its.two old new c.args.kept.now c.hand_over.new.kept c.hand_over-2.new.kept c.clear.new.kept goes.1
           c.hand_over.ensures.hands c.hand_over-2.ensures.hands (subst (λ (k : ℕ). items_at c.clear.new.kept k ≡ []) key c.clear.ensures.none)
           (λ n away. items-of c.face_place.result n c.hand_over-2.new.kept c.clear.new.kept c.clear.ensures.others (λ e. away (sym key ∙ e)))
-          (λ h b there here. c.take_island.ensures.faces h ∙ faces-told whole parted outer inner ring left right others it parts path more old fits differ first on.1 moved of h b there here)
-          (other-home whole parted outer inner ring left right others it parts path more old fits differ first on.1 moved of rings new c.take_island.ensures.origin fits_new.ends)
-          (others-apart whole parted outer inner ring left right others it parts),
+          (λ h b there here. c.take_island.ensures.faces h ∙ faces-told whole parted outer inner its.ring its.left its.right its.others its.is its.parts path its.more old fits differ first on.1 moved its.of h b there here)
+          (other-home whole parted outer inner its.ring its.left its.right its.others its.is its.parts path its.more old fits differ first on.1 moved its.of its.rings new c.take_island.ensures.origin fits_new.ends)
+          (others-apart whole parted outer inner its.ring its.left its.right its.others its.is its.parts),
     )
