@@ -5,6 +5,7 @@ use Rattle.std.specs.List.{Contains}
 use Rattle.std.proofs.lemmas.List.{reverse-append}
 use Rattle.std.proofs.lemmas.Option.{same_Some}
 use Rattle.cad_rows.specs.declared.rows.StringRow.{StringRow}
+use Rattle.cad_rows.specs.declared.names.Face.{Face}
 use Rattle.cad_rings.specs.Cycle.{Side, Corner}
 use Rattle.cad_rings.specs.Surgery.{both_ways, sides_of_chain}
 use Rattle.cad_map.specs.Chain.{start_of, next_of, end_of, last_but_one, leaving}
@@ -22,7 +23,7 @@ use Rattle.cad_laws.specs.Local.{IsShown, side_by, IsLocal}
 use Rattle.cad_laws.specs.Parting.{IsParted}
 use Rattle.cad_laws.specs.Tables.{GoesOnWhole}
 use Rattle.cad_laws.proofs.CallerLemmas.{goes-on_whole}
-use Rattle.map_parts.specs.FaceChanges.{IsPlaceFor, IsTied}
+use Rattle.map_parts.specs.FaceChanges.{HasChainMore, IsPlaceFor, IsTied}
 use Rattle.map_parts.specs.Labels.{IsAlong}
 use Rattle.map_parts.specs.Paths.{AreAlong, HasStringsMore}
 use Rattle.map_parts.proofs.AlongPaths.{on-path, elsewhere-of, chain-strung, first-of, tail-of, last-there}
@@ -118,7 +119,7 @@ tied-kept old new same {first} {rest} it = record {
 
 module _ (whole parted : Map) (path : List Half) (more : HasStringsMore whole parted path) (rows : HalfRows) (chain : List ℕ) (fc lc : Corner) (law : IsParted whole parted chain fc lc)
     (apart : start_of chain ≢ end_of chain) (start end : Half) (start_on : IsAlong whole rows (leaving fc) start) (end_on : IsAlong whole rows (leaving lc) end) where
-  pub chain-place : IsPlaceFor path start end rows
+  chain-place : IsPlaceFor path start end rows
   chain-place = record {
     start_in = start_on.there;
     end_in = end_on.there;
@@ -189,9 +190,20 @@ module _ (whole parted : Map) (parts : HasWholeRings parted) (chain : List ℕ) 
   on-away : AreElsewhere (next rows last) path
   on-away = leaves-away lc (law.free lc law.last_there) (next rows last) last-leaves
 
-  pub chain-tied : IsTied first rest rows
+  chain-tied : IsTied first rest rows
   chain-tied = record {
     strung = path-strung;
     on_away = on-away;
     back_away = leaves-away fc (law.free fc law.first_there) (next rows (twin first)) first-leaves;
   }
+
+-- ---- Of a map that has a chain more
+
+module _ {whole parted : Map} {outer inner : Face} {first : Half} {rest moved : List Half} {rows : HalfRows} (its : HasChainMore whole parted outer inner (first ∷ rest) moved rows) where
+  pub place-across : start_of its.chain ≢ end_of its.chain → {start end : Half} → IsAlong whole rows (leaving its.first_corner) start → IsAlong whole rows (leaving its.last_corner) end
+      → IsPlaceFor (first ∷ rest) start end rows
+  place-across apart {start} {end} start_on end_on =
+      chain-place whole parted (first ∷ rest) its.more rows its.chain its.first_corner its.last_corner its.is.corners apart start end start_on end_on
+
+  pub tied-across : IsLocal parted rows → IsTied first rest rows
+  tied-across local = chain-tied whole parted its.parts its.chain its.long its.first_corner its.last_corner its.is.corners first rest its.more rows local its.along

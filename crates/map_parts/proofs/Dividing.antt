@@ -34,7 +34,7 @@ use Rattle.map_parts.specs.Handing.{HaveTwoFaces}
 use Rattle.map_parts.specs.Dividing.{IsDividing, divided, rings_beside, CanBeginDivide, CanBeginUndivide, CanUndivide}
 use Rattle.map_parts.proofs.AddedMap as added_map
 use Rattle.map_parts.proofs.AddedMap.{HaveCome}
-use Rattle.map_parts.proofs.ChainAcross.{chain-place, chain-tied}
+use Rattle.map_parts.proofs.ChainAcross.{place-across, tied-across}
 use Rattle.map_parts.proofs.ChainRoom.{chain_ends-room}
 use Rattle.map_parts.proofs.DividedChain.{tried-chain, tried-faces}
 use Rattle.map_parts.proofs.KeptEach.{place-same}
@@ -177,22 +177,13 @@ module _ {face : Face} {added : List StringRow} {parcel : ParcelRow} {first : Ha
     end_on : IsAlong m new (leaving c.is.last) end
     end_on = along-still c.new adds m (leaving c.is.last) end c.end_on
 
-    more_are : HasStringsMore m (divided c.is) path
-    more_are = added_map.more made-come
-
-    law : IsChainOf m (divided c.is) face new_face c.is.chain c.is.first c.is.last c.is.divided.cut (left_ring m face ns added parcel.number path c.is) (right_ring m face ns added parcel.number path c.is) (rings_beside c.is)
-    law = chain-of m face ns added parcel.number path c.is
-
-    apart : start_of c.is.chain ≢ end_of c.is.chain
-    apart = chain-apart m face ns added parcel.number path c.is
-
-    along_is : AreAlong new path (sides_of_chain c.is.chain)
-    along_is = along m face ns added parcel.number path c.is new made-ready.there
+    abbrev with_chain : HasChainMore m (divided c.is) face new_face path moved new
+    with_chain = across m face ns added parcel.number path c.is new moved (along m face ns added parcel.number path c.is new made-ready.there) made-moved
 
     pub made-can : CanBringAcross first rest start end face new_face moved new wide
     made-can = record {
       path = added_map.can-bring made-come made-ready moved (rings_beside c.is) made-moved (places-differ m face ns added parcel.number path c.is);
-      place = chain-place m (divided c.is) path more_are new c.is.chain c.is.first c.is.last law.corners apart start end start_on end_on;
+      place = place-across with_chain (chain-apart m face ns added parcel.number path c.is) start_on end_on;
     }
 
     pub made-none : items_at wide (face_place new_face) ≡ []
@@ -201,7 +192,7 @@ module _ {face : Face} {added : List StringRow} {parcel : ParcelRow} {first : Ha
     -- so the table goes with the map after it
     pub made-table : (done : HalfRows) (put : Held Half) → GoesWithChain path start end face new_face moved new wide done put → GoesWith (divided c.is) done put
     made-table done put brings =
-        brings m (divided c.is) (across m face ns added parcel.number path c.is new moved along_is made-moved) (none m face ns added parcel.number path c.is)
+        brings m (divided c.is) with_chain (none m face ns added parcel.number path c.is)
         (added_map.made-ends made-come made-ready) start_on end_on (added_map.made-table made-come made-ready, added_map.made-keeps made-come made-ready)
 
 -- ---- It is taken back
@@ -223,31 +214,23 @@ module _ {face : Face} {ns : List ℕ} {parcel : ℕ} {first : Half} {rest moved
   pub gone-come : HaveCome old last ns c.added (row old face ns c.added parcel gone_path c.is) gone_path
   gone-come = come old face ns c.added parcel gone_path c.is
 
-  gone_more : HasStringsMore old last gone_path
-  gone_more = added_map.more gone-come
-
-  gone_law : IsChainOf old last face gone_face c.is.chain c.is.first c.is.last c.is.divided.cut (left_ring old face ns c.added parcel gone_path c.is) (right_ring old face ns c.added parcel gone_path c.is) (rings_beside c.is)
-  gone_law = chain-of old face ns c.added parcel gone_path c.is
-
-  gone_long : 2 ≤ length c.is.chain
-  gone_long = chain-long old face ns c.added parcel gone_path c.is
-
-  gone_along : AreAlong table gone_path (sides_of_chain c.is.chain)
-  gone_along = along old face ns c.added parcel gone_path c.is table (added_map.gone-ends gone-come c.fits).1
+  chain_gone : HasChainMore old last face gone_face gone_path moved table
+  chain_gone =
+      across old face ns c.added parcel gone_path c.is table moved (along old face ns c.added parcel gone_path c.is table (added_map.gone-ends gone-come c.fits).1) c.moved_are
 
   pub gone-can : CanTakeAcross first rest face gone_face moved table held
   gone-can = record {
     path =
         added_map.can-take gone-come c.fits face moved (rings_beside c.is) c.moved_are (places-differ old face ns c.added parcel gone_path c.is) c.inner_room
         (let more = c.outer_room in omega (arith, more));
-    tied = chain-tied old last gone-come.parts c.is.chain gone_long c.is.first c.is.last gone_law.corners first rest gone_more table c.fits.fits.local gone_along;
+    tied = tied-across chain_gone c.fits.fits.local;
     one_more = c.outer_room;
   }
 
   -- the table goes with the map before it
   pub gone-table : (wide : HalfRows) (put : Held Half) → GoesWithoutChain gone_path face gone_face moved table held wide put → GoesWith old wide put
   gone-table wide put takes =
-      takes old last (across old face ns c.added parcel gone_path c.is table moved gone_along c.moved_are)
+      takes old last chain_gone
       (added_map.gone-ends gone-come c.fits).0 (added_map.gone-table gone-come c.fits, added_map.gone-keeps gone-come c.fits)
 
 -- room to exchange kept halves is room for the way back

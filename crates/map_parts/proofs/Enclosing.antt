@@ -15,7 +15,7 @@ use Rattle.cad_map.specs.Chain.{start_of}
 use Rattle.cad_map.specs.Effects.{after}
 use Rattle.cad_map.specs.Map.{Map, side_of, has_face}
 use Rattle.cad_map.specs.Rings.{HasWholeRings}
-use Rattle.cad_map.proofs.CallerLemmas.{CanEnclose as IsAllowed, can-enclose, allowed, whole_valid, All-from_each, numbers-strings_along, sides-strings_along, pairs-from_distinct}
+use Rattle.cad_map.proofs.CallerLemmas.{CanEnclose as IsAllowed, can-enclose, allowed, whole_valid, numbers-strings_along, sides-strings_along, pairs-from_distinct}
 use Rattle.half_table.specs.declared.half.Half.{Half}
 use Rattle.half_table.specs.Rows.{HalfRows, IsLinked}
 use Rattle.half_paths.specs.Path.{AreDifferent}
@@ -34,10 +34,10 @@ use Rattle.map_parts.specs.Handing.{HaveTwoFaces}
 use Rattle.map_parts.specs.Enclosing.{IsEnclosing, enclosed, rings_placed, CanBeginEnclose, CanBeginOpen, CanOpen}
 use Rattle.map_parts.proofs.AddedMap as added_map
 use Rattle.map_parts.proofs.AddedMap.{HaveCome}
-use Rattle.map_parts.proofs.AlongPaths.{ring-round}
 use Rattle.map_parts.proofs.ChainRoom.{ring_ends-room}
 use Rattle.map_parts.proofs.EnclosedIsland.{tried-island, tried-faces}
-use Rattle.map_parts.proofs.IslandTable.{more-new, more-old}
+use Rattle.map_parts.proofs.IslandFits.{round-inside}
+use Rattle.map_parts.proofs.IslandTable.{more-old}
 use Rattle.map_parts.proofs.KeptEach.{place-same}
 use Rattle.map_parts.proofs.PlacedHalves.{holes-placed}
 use Rattle.map_parts.proofs.RoomMade.{AreReady, ready, fit-grown, still-side}
@@ -205,11 +205,8 @@ module _ {face : Face} {ns : List ℕ} {parcel : ℕ} {first : Half} {rest moved
   pub gone-come : HaveCome old last ns c.added (row old face ns c.added parcel path c.is) path
   gone-come = come old face ns c.added parcel path c.is
 
-  gone_along : AreAlong table path (sides_of c.is.points)
-  gone_along = along old face ns c.added parcel path c.is table (added_map.gone-ends gone-come c.fits).1
-
-  gone_island : IsIslandOf old last face gone_face c.is.points (canonical_form (bounding gone_face c.is.points)) (canonical_form (bounding face (reverse c.is.points))) (rings_placed c.is)
-  gone_island = island old face ns c.added parcel path c.is
+  abbrev island_gone : HasIslandMore old last face gone_face path moved table
+  island_gone = inside old face ns c.added parcel path c.is table moved (along old face ns c.added parcel path c.is table (added_map.gone-ends gone-come c.fits).1) c.moved_are
 
   long : 2 ≤ length c.is.points
   long = let three = (can old face ns c.added parcel path c.is).long in omega (arith, three)
@@ -217,14 +214,13 @@ module _ {face : Face} {ns : List ℕ} {parcel : ℕ} {first : Half} {rest moved
   pub gone-can : CanTakeOut first rest face gone_face moved table held
   gone-can = record {
     path = added_map.can-take gone-come c.fits face moved (rings_placed c.is) c.moved_are (places-differ old face ns c.added parcel path c.is) c.inner_room c.outer_room;
-    round = ring-round last gone-come.parts table c.fits.fits.local first rest c.is.points long gone_along
-        (All-from_each (IsShown last) path (λ h among. more-new old last path (added_map.more gone-come) h among)) gone_island.corners.along gone_island.corners.back;
+    round = round-inside island_gone long c.fits.fits.local;
   }
 
   -- the table goes with the map before it
   pub gone-table : (wide : HalfRows) (put : Held Half) → GoesWithoutIsland path face gone_face moved table held wide put → GoesWith old wide put
   gone-table wide put takes =
-      takes old last (inside old face ns c.added parcel path c.is table moved gone_along c.moved_are) long
+      takes old last island_gone long
       (added_map.gone-ends gone-come c.fits).0 (added_map.gone-table gone-come c.fits, added_map.gone-keeps gone-come c.fits)
 
 -- room to exchange kept halves is room for the way back

@@ -10,7 +10,7 @@ use Rattle.cad_map.specs.Map.{Map}
 use Rattle.cad_map.specs.Merger.{handed_over}
 use Rattle.cad_map.specs.Rings.{HasWholeRings}
 use Rattle.cad_map.specs.Views.{HasSide}
-use Rattle.cad_map.proofs.CallerLemmas.{Contains-first, Contains-map, All-follows}
+use Rattle.cad_map.proofs.CallerLemmas.{Contains-first, Contains-map, All-follows, All-from_each}
 use Rattle.half_table.specs.declared.half.Half.{Half}
 use Rattle.half_table.specs.Half.{twin, forward_of, backward_of}
 use Rattle.half_table.specs.Cycle.{holds}
@@ -24,7 +24,9 @@ use Rattle.map_parts.specs.Parts.{HasHalves}
 use Rattle.map_parts.specs.Labels.{IsAlong, IsOnRing}
 use Rattle.map_parts.specs.Paths.{AreAlong, HasStringsMore}
 use Rattle.map_parts.specs.Relabelled.{on_cycles, RelabelsEach}
+use Rattle.map_parts.specs.FaceChanges.{HasIslandMore}
 use Rattle.map_parts.specs.Islands.{FitsTable, AreOfRings, IsIslandOf}
+use Rattle.map_parts.proofs.AlongPaths.{ring-round}
 use Rattle.map_parts.proofs.WholeStrings.{two-ends}
 use Rattle.map_parts.proofs.PartsRings.{half-two}
 use Rattle.map_parts.proofs.KeptShown.{local-kept, bare}
@@ -173,3 +175,10 @@ module _ (whole parted : Map) (outer inner : Face) (ring : Ring) (left right : B
           (ring-has_side whole (handed_over outer inner at.0) (side_by new h) (handed-there whole parted outer inner ring left right others it at.0 at.1)
           (subst (λ (r : Ring). Contains (sides_of r) (side_by new h)) (sym (handed-ring outer inner at.0)) (on-same old new went_origins parted at.0 h at.2).side));
     }
+
+-- the path round an island that a map has more is tied together
+pub round-inside : {whole parted : Map} {outer inner : Face} {first : Half} {rest moved : List Half} {rows : HalfRows} (its : HasIslandMore whole parted outer inner (first ∷ rest) moved rows)
+    → 2 ≤ length its.ring → IsLocal parted rows → IsRound (next rows) first rest
+round-inside {whole} {parted} {first = first} {rest = rest} {rows = rows} its long local =
+    ring-round parted its.parts rows local first rest its.ring long its.along
+    (All-from_each (IsShown parted) (first ∷ rest) (λ h among. more-new whole parted (first ∷ rest) its.more h among)) its.is.corners.along its.is.corners.back

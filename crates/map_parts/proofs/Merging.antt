@@ -33,7 +33,7 @@ use Rattle.map_parts.specs.Chains.{IsChainOf}
 use Rattle.map_parts.specs.FaceChanges.{CanBringAcross, CanTakeAcross, GoesWith, GoesWithChain, GoesWithoutChain, HasChainMore}
 use Rattle.map_parts.specs.Splitting.{FitMap}
 use Rattle.map_parts.specs.Merging.{IsMerging, merged, shared_chain, first_corner, last_corner, rings_past, CanBeginMerge, CanUnmerge}
-use Rattle.map_parts.proofs.ChainAcross.{chain-place, chain-tied, two-last, ends-last}
+use Rattle.map_parts.proofs.ChainAcross.{place-across, tied-across, two-last, ends-last}
 use Rattle.map_parts.proofs.MergedRows as rows_of
 use Rattle.map_parts.proofs.RoomMade.{fit-grown}
 
@@ -144,36 +144,23 @@ module _ {keeper : Face} {ended : ℕ} {strings : List ℕ} {first : Half} {rest
   abbrev path : List Half
   path = first ∷ rest
 
-  abbrev chain : List ℕ
-  chain = shared_chain c.is
-
-  law : IsChainOf (merged c.is) m keeper (Parcel ended) chain (first_corner c.is) (last_corner c.is) (one_ring m keeper ended path c.is) (bounding (Parcel ended) c.is.ended_ring)
-      (bounding keeper c.is.kept_ring) (rings_past c.is)
-  law = chain-of m keeper ended path c.is
-
-  whole_is : HasWholeRings m
-  whole_is = whole m keeper ended path c.is
-
   fit : FitMap m rows table wide stars
   fit = fit-grown m c.fits refl alike
 
-  open_is : IsOpenChain chain
-  open_is = chain-open m keeper ended path c.is
-
-  more_is : HasStringsMore (merged c.is) m path
-  more_is = more m keeper ended path c.is
+  chain_there : HasChainMore (merged c.is) m keeper (Parcel ended) path moved table
+  chain_there = across m keeper ended path c.is table moved c.leads c.moved_are
 
   pub made-can : CanTakeAcross first rest keeper (Parcel ended) moved table wide
   made-can = record {
     path = rows_of.can-take m keeper ended first rest c.is.tried c.is.shared fit moved (rings_past c.is) c.moved_are room;
-    tied = chain-tied (merged c.is) m whole_is chain open_is.long (first_corner c.is) (last_corner c.is) law.corners first rest more_is table c.fits.fits.local c.leads;
+    tied = tied-across chain_there c.fits.fits.local;
     one_more = room.outer;
   }
 
   -- the table goes with the map after it
   pub made-table : (done : HalfRows) (put : Held Half) → GoesWithoutChain path keeper (Parcel ended) moved table wide done put → GoesWith (merged c.is) done put
   made-table done put takes =
-      takes (merged c.is) m (across m keeper ended path c.is table moved c.leads c.moved_are)
+      takes (merged c.is) m chain_there
       (rows_of.ends-left m keeper ended path c.is.tried c.is.shared table c.fits.fits.ends)
       (rows_of.made-table m keeper ended first rest c.is.tried c.is.shared fit, rows_of.made-keeps m keeper ended first rest c.is.tried c.is.shared fit)
 
@@ -193,29 +180,19 @@ module _ {keeper : Face} {row : ParcelRow} {place : ℕ} {first : Half} {rest : 
   abbrev gone_face : Face
   gone_face = Parcel row.number
 
-  abbrev gone_chain : List ℕ
-  gone_chain = shared_chain c.is
-
-  gone_law : IsChainOf last old keeper gone_face gone_chain (first_corner c.is) (last_corner c.is) (one_ring old keeper row.number gone_path c.is) (bounding gone_face c.is.ended_ring)
-      (bounding keeper c.is.kept_ring) (rings_past c.is)
-  gone_law = chain-of old keeper row.number gone_path c.is
-
-  gone_more : HasStringsMore last old gone_path
-  gone_more = more old keeper row.number gone_path c.is
-
-  gone_open : IsOpenChain gone_chain
-  gone_open = chain-open old keeper row.number gone_path c.is
+  abbrev chain_back : HasChainMore last old keeper gone_face gone_path moved table
+  chain_back = across old keeper row.number gone_path c.is table moved c.leads c.moved_are
 
   pub back-can : CanBringAcross first rest start end keeper gone_face moved table held
   back-can = record {
     path =
         rows_of.can-bring old keeper first rest c.is.tried c.is.shared c.went c.fits c.there moved (rings_past c.is) c.moved_are c.loose c.inner_room c.outer_room;
-    place = chain-place last old gone_path gone_more table gone_chain (first_corner c.is) (last_corner c.is) gone_law.corners gone_open.apart start end c.start_on c.end_on;
+    place = place-across chain_back (chain-open old keeper row.number gone_path c.is).apart c.start_on c.end_on;
   }
 
   -- the table goes with the map before it
   pub back-table : (wide : HalfRows) (put : Held Half) → GoesWithChain gone_path start end keeper gone_face moved table held wide put → GoesWith old wide put
   back-table wide put brings =
-      brings last old (across old keeper row.number gone_path c.is table moved c.leads c.moved_are) (rows_of.none old keeper row.number gone_path c.is.tried c.is.shared)
+      brings last old chain_back (rows_of.none old keeper row.number gone_path c.is.tried c.is.shared)
       (rows_of.all-back old keeper first rest c.is.tried c.is.shared c.went c.fits c.there) c.start_on c.end_on
       (rows_of.last-table old keeper first rest c.is.tried c.is.shared c.went c.fits c.there, rows_of.last-keeps old keeper first rest c.is.tried c.is.shared c.went c.fits c.there)

@@ -8,25 +8,22 @@ use Rattle.cad_rows.specs.declared.rows.ParcelRow.{ParcelRow}
 use Rattle.cad_rings.proofs.CallerLemmas.{IsSameRing-length}
 use Rattle.cad_map.specs.Boundaries.{bounding}
 use Rattle.cad_map.specs.Map.{Map}
-use Rattle.cad_map.specs.Rings.{HasWholeRings}
-use Rattle.cad_map.proofs.CallerLemmas.{All-from_each, All-at_each, Contains-first}
+use Rattle.cad_map.proofs.CallerLemmas.{All-at_each, Contains-first}
 use Rattle.half_table.specs.declared.half.Half.{Half}
 use Rattle.half_table.specs.Rows.{HalfRows}
 use Rattle.key_lists.specs.Held.{Held, IsSame}
-use Rattle.cad_laws.specs.Local.{IsShown}
 use Rattle.cad_laws.proofs.CallerLemmas.{two-sides}
 use Rattle.cad_rings.specs.Cycle.{sides_of}
 use Rattle.map_parts.specs.declared.edits.placed_strings.PlacedString.{PlacedString}
 use Rattle.map_parts.specs.declared.map_rows.MapRows.{MapRows}
 use Rattle.map_parts.specs.declared.stars.Spoke.{Spoke}
 use Rattle.map_parts.specs.Adding.{HasRoomToExchange}
-use Rattle.map_parts.specs.Paths.{AreAlong, HasStringsMore}
+use Rattle.map_parts.specs.Paths.{AreAlong}
 use Rattle.map_parts.specs.Islands.{IsIslandOf, AreOfRings}
 use Rattle.map_parts.specs.FaceChanges.{CanBring, CanTakeOut, GoesWith, GoesWithIsland, GoesWithoutIsland, HasIslandMore}
 use Rattle.map_parts.specs.Splitting.{FitMap}
 use Rattle.map_parts.specs.MergingIsland.{IsMergingIsland, without_island, rings_apart, CanBeginMergeIsland, CanUnmergeIsland}
-use Rattle.map_parts.proofs.AlongPaths.{ring-round}
-use Rattle.map_parts.proofs.IslandTable.{more-new}
+use Rattle.map_parts.proofs.IslandFits.{round-inside}
 use Rattle.map_parts.proofs.MergedRows as rows_of
 use Rattle.map_parts.proofs.RoomMade.{fit-grown}
 
@@ -74,29 +71,22 @@ module _ {keeper : Face} {ended : ℕ} {strings : List ℕ} {first : Half} {rest
   abbrev path : List Half
   path = first ∷ rest
 
-  law : IsIslandOf (without_island c.is) m keeper (Parcel ended) c.points (bounding (Parcel ended) c.is.ended_ring) (bounding keeper c.is.kept_ring) (rings_apart c.is)
-  law = island m keeper ended c.points path c.is
-
-  whole_is : HasWholeRings m
-  whole_is = rows_of.whole m keeper ended path c.is.tried c.is.shared
-
   fit : FitMap m rows table wide stars
   fit = fit-grown m c.fits refl alike
 
-  more_is : HasStringsMore (without_island c.is) m path
-  more_is = rows_of.more m keeper ended path c.is.tried c.is.shared
+  abbrev island_there : HasIslandMore (without_island c.is) m keeper (Parcel ended) path moved table
+  island_there = inside m keeper ended c.points path c.is table moved c.along c.moved_are
 
   pub made-can : CanTakeOut first rest keeper (Parcel ended) moved table wide
   made-can = record {
     path = rows_of.can-take m keeper ended first rest c.is.tried c.is.shared fit moved (rings_apart c.is) c.moved_are room;
-    round = ring-round m whole_is table c.fits.fits.local first rest c.points (long m keeper ended c.points path c.is) c.along
-        (All-from_each (IsShown m) path (λ h among. more-new (without_island c.is) m path more_is h among)) law.corners.along law.corners.back;
+    round = round-inside island_there (long m keeper ended c.points path c.is) c.fits.fits.local;
   }
 
   -- the table goes with the map after it
   pub made-table : (done : HalfRows) (put : Held Half) → GoesWithoutIsland path keeper (Parcel ended) moved table wide done put → GoesWith (without_island c.is) done put
   made-table done put takes =
-      takes (without_island c.is) m (inside m keeper ended c.points path c.is table moved c.along c.moved_are) (long m keeper ended c.points path c.is)
+      takes (without_island c.is) m island_there (long m keeper ended c.points path c.is)
       (rows_of.ends-left m keeper ended path c.is.tried c.is.shared table c.fits.fits.ends)
       (rows_of.made-table m keeper ended first rest c.is.tried c.is.shared fit, rows_of.made-keeps m keeper ended first rest c.is.tried c.is.shared fit)
 
