@@ -74,6 +74,10 @@ module _ (m : Map) {rows : MapRows} {table : HalfRows} {held : Held Half} {stars
   pub fit-grown : {more : MapRows} {wide : Held Half} → map_in more ≡ map_in rows → IsSame held wide → FitMap m more table wide stars
   fit-grown same alike = fit-seen (record { same_rows = same; same_kept = alike; same_stars = λ p. refl })
 
+  -- nor does it where the table is the one that it was
+  pub fit-kept : {more : MapRows} {new : HalfRows} {wide : Held Half} {filled : Held Spoke} → IsSeenAs rows more held wide stars filled → new ≡ table → FitMap m more new wide filled
+  fit-kept {more} {new} {wide} {filled} seen same = subst (λ (t : HalfRows). FitMap m more t wide filled) (sym same) (fit-seen seen)
+
   -- nor do strings that the table has more
   pub added-fit : (added : List StringRow) (new : HalfRows) → AreNew table added → AddsStrings added table new → IsLinked new → FitMap m rows new held stars
   added-fit added new fresh adds linked = record {

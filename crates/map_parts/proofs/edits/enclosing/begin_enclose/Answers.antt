@@ -6,29 +6,17 @@ use Rattle.cad_rows.specs.declared.rows.StringRow.{StringRow}
 use Rattle.cad_map.specs.Boundaries.{face_place}
 use Rattle.half_table.specs.Count.{ticked}
 use Rattle.half_table.specs.Half.{twin}
-use Rattle.half_table.specs.Rows.{HalfRows, has, cycle}
+use Rattle.half_table.specs.Rows.{has, cycle}
 use Rattle.half_paths.proofs.Along.{ticked-add}
-use Rattle.half_paths.specs.Loose.{AddsStrings, AreNew, numbers_of, is_of}
-use Rattle.map_parts.specs.Adding.{HasRoomToCome}
+use Rattle.half_paths.specs.Loose.{AreNew, numbers_of, is_of}
 use Rattle.map_parts.specs.Enclosing.{enclosed, rings_placed}
 use Rattle.map_parts.specs.Relabelled.{cycles_length}
-use Rattle.map_parts.specs.Splitting.{FitMap}
 use Rattle.map_parts.proofs.AddedMap as added_map
 use Rattle.map_parts.proofs.Enclosing as it
 use Rattle.map_parts.proofs.IslandFits.{of-same, side-same}
-use Rattle.map_parts.proofs.RoomMade.{on-err, fit-seen}
+use Rattle.map_parts.proofs.RoomMade.{on-err, fit-kept}
 use Rattle.map_parts.proofs.edits.enclosing.begin_enclose.Goals.{In_ok-add_with_room}
 use Rattle.map_parts.proofs.edits.enclosing.begin_enclose.Goals as goal
-
--- the strings' rows as they were given
-room : (g : _) (c : goal.In_ok-add_with_room g) → HasRoomToCome c.args.strings.items c.args.face.now c.args.parcel.number c.add_with_room.new.rows c.add_with_room.new.kept c.add_with_room.new.stars
-room g c =
-    subst (λ (l : List StringRow). HasRoomToCome l c.args.face.now c.args.parcel.number c.add_with_room.new.rows c.add_with_room.new.kept c.add_with_room.new.stars)
-    c.as_slice.ensures.value c.in_ok-add_with_room.ensures.room
-
-adds : (g : _) (c : goal.In_ok-add_with_room g) → AddsStrings c.args.strings.items c.args.table.now.rows c.add_with_room.new.table.rows
-adds g c =
-    subst (λ (l : List StringRow). AddsStrings l c.args.table.now.rows c.add_with_room.new.table.rows) c.as_slice.ensures.value c.in_ok-add_with_room.ensures.adds
 
 pub add_with_room-requires : goal.add_with_room-requires
 add_with_room-requires g c =
@@ -41,16 +29,18 @@ add_with_room-requires g c =
 
 pub bring_in-requires : goal.bring_in-requires
 bring_in-requires g c =
-    let at = (goal.at.bring_in-requires g c).In_ok-add_with_room in
+    let is = c.as_slice.ensures.value in
+    let ok = c.in_ok-add_with_room.ensures in
     let made = c.add_with_room.ensures in
-    it.made-can c.requires made.seen (room g at) (adds g at) made.linked
+    it.made-can c.requires made.seen (rw is at ok.room) (rw is at ok.adds) made.linked
 
 pub put_added-requires : goal.put_added-requires
 put_added-requires g c =
-    let at = (goal.at.put_added-requires g c).In_ok-add_with_room in
+    let is = c.as_slice.ensures.value in
+    let ok = c.in_ok-add_with_room.ensures in
     let made = c.add_with_room.ensures in
     let come = it.made-come c.requires in
-    let ready = it.made-ready c.requires made.seen (room g at) (adds g at) made.linked in
+    let ready = it.made-ready c.requires made.seen (rw is at ok.room) (rw is at ok.adds) made.linked in
     record {
       strings = added_map.made-put come ready;
       slot = ready.parcel_slot;
@@ -58,11 +48,7 @@ put_added-requires g c =
     }
 
 pub returns-in_err-add_with_room-clause-err : goal.returns-in_err-add_with_room-clause-err
-returns-in_err-add_with_room-clause-err g c = λ can.
-    let made = c.add_with_room in
-    on-err _
-    (subst (λ (t : HalfRows). FitMap can.map made.new.rows t made.new.kept made.new.stars) (sym c.in_err-add_with_room.ensures.err)
-    (fit-seen can.map can.fits made.ensures.seen))
+returns-in_err-add_with_room-clause-err g c = λ can. on-err _ (fit-kept can.map can.fits c.add_with_room.ensures.seen c.in_err-add_with_room.ensures.err)
 
 pub returns-in_err-add_with_room-clause-err_work : goal.returns-in_err-add_with_room-clause-err_work
 returns-in_err-add_with_room-clause-err_work g c =
@@ -76,34 +62,37 @@ returns-in_err-add_with_room-clause-err_work g c =
 
 pub returns-clause-fits : goal.returns-clause-fits
 returns-clause-fits g c = λ can.
-    let at = (goal.at.returns-clause-fits g c).In_ok-add_with_room in
+    let is = c.as_slice.ensures.value in
+    let ok = c.in_ok-add_with_room.ensures in
     let made = c.add_with_room.ensures in
-    added_map.made-fits (it.made-come can) (it.made-ready can made.seen (room g at) (adds g at) made.linked)
-    (it.made-table can made.seen (room g at) (adds g at) made.linked c.bring_in.new.table.rows c.bring_in.new.kept c.bring_in.ensures.island)
+    added_map.made-fits (it.made-come can) (it.made-ready can made.seen (rw is at ok.room) (rw is at ok.adds) made.linked)
+    (it.made-table can made.seen (rw is at ok.room) (rw is at ok.adds) made.linked c.bring_in.new.table.rows c.bring_in.new.kept c.bring_in.ensures.island)
     c.put_added.ensures.rows c.put_added.ensures.stars
 
 pub returns-clause-moved : goal.returns-clause-moved
 returns-clause-moved g c = λ can.
-    let at = (goal.at.returns-clause-moved g c).In_ok-add_with_room in
+    let is = c.as_slice.ensures.value in
+    let ok = c.in_ok-add_with_room.ensures in
     let made = c.add_with_room in
     of-same made.new.table.rows c.bring_in.new.table.rows c.bring_in.ensures.halves.origin (enclosed can.is) c.args.moved.now (Parcel c.args.parcel.number) (rings_placed can.is)
-    (it.made-moved can made.ensures.seen (room g at) (adds g at) made.ensures.linked)
+    (it.made-moved can made.ensures.seen (rw is at ok.room) (rw is at ok.adds) made.ensures.linked)
 
 pub returns-clause-inner_room : goal.returns-clause-inner_room
 returns-clause-inner_room g c =
     let count = c.bring_in.ensures.count in
     let cap = c.bring_in.ensures.capacity (face_place (Parcel c.args.parcel.number)) in
-    let had = (room g (goal.at.returns-clause-inner_room g c).In_ok-add_with_room).inner_room in
+    let had = (rw c.as_slice.ensures.value at c.in_ok-add_with_room.ensures.room).inner_room in
     omega (arith, count, cap, had)
 
 pub returns-clause-outer_room : goal.returns-clause-outer_room
 returns-clause-outer_room g c =
-    let at = (goal.at.returns-clause-outer_room g c).In_ok-add_with_room in
+    let is = c.as_slice.ensures.value in
+    let ok = c.in_ok-add_with_room.ensures in
     let made = c.add_with_room.ensures in
     let count = c.bring_in.ensures.count in
     let cap = c.bring_in.ensures.capacity (face_place c.args.face.now) in
-    let had = (room g at).outer_room in
-    let none = ap length (it.made-none c.requires made.seen (room g at) (adds g at) made.linked) in
+    let had = (rw is at ok.room).outer_room in
+    let none = ap length (it.made-none c.requires made.seen (rw is at ok.room) (rw is at ok.adds) made.linked) in
     omega (arith, count, cap, had, none)
 
 pub returns-clause-has : goal.returns-clause-has
@@ -113,10 +102,11 @@ returns-clause-has g c = λ h.
 
 pub returns-clause-origin : goal.returns-clause-origin
 returns-clause-origin g c = λ can h shown.
-    let at = (goal.at.returns-clause-origin g c).In_ok-add_with_room in
+    let is = c.as_slice.ensures.value in
+    let ok = c.in_ok-add_with_room.ensures in
     let made = c.add_with_room in
     side-same made.new.table.rows c.bring_in.new.table.rows c.bring_in.ensures.halves.origin h
-    ∙ it.made-side can made.ensures.seen (room g at) (adds g at) made.ensures.linked h shown
+    ∙ it.made-side can made.ensures.seen (rw is at ok.room) (rw is at ok.adds) made.ensures.linked h shown
 
 pub returns-clause-work : goal.returns-clause-work
 returns-clause-work g c =

@@ -1,13 +1,12 @@
-use Rattle.std.proofs.Common.{◌+◌, ◌∙◌, ◌==◌, not, length, refl, sym, ap, subst}
+use Rattle.std.proofs.Common.{◌+◌, ◌∙◌, ◌==◌, not, length, refl, sym, ap}
 use Rattle.cad_rows.specs.declared.edits.Edit.TheVariants.{Join}
 use Rattle.cad_map.specs.Effects.{after}
 use Rattle.half_paths.proofs.Along.{ticked-add}
 use Rattle.half_table.specs.Count.{ticked}
 use Rattle.half_table.specs.Half.{twin}
-use Rattle.half_table.specs.Rows.{HalfRows, cycle}
+use Rattle.half_table.specs.Rows.{cycle}
 use Rattle.map_parts.specs.Passing.{path_at}
-use Rattle.map_parts.specs.Splitting.{FitMap}
-use Rattle.map_parts.proofs.RoomMade.{on-err, fit-seen}
+use Rattle.map_parts.proofs.RoomMade.{on-err, fit-kept}
 use Rattle.map_parts.proofs.Passing.Begun.{path-ready}
 use Rattle.map_parts.proofs.Passing.JoinBegun.{differ, back-can}
 use Rattle.map_parts.proofs.edits.join.begin_unjoin.Goals as goal
@@ -26,9 +25,7 @@ pub returns-in_err-add_path-clause-err : goal.returns-in_err-add_path-clause-err
 returns-in_err-add_path-clause-err g c = λ can.
     let added = c.add_path in
     let now = after can.map (Join c.args.joined.point.number c.args.string) in
-    on-err _
-    (subst (λ (t : HalfRows). FitMap now added.new.rows t c.args.kept.now added.new.stars) (sym c.in_err-add_path.ensures.err)
-    (fit-seen now can.fits (record { same_rows = added.ensures.rows; same_kept = λ n. refl; same_stars = added.ensures.stars })))
+    on-err _ (fit-kept now can.fits (record { same_rows = added.ensures.rows; same_kept = λ n. refl; same_stars = added.ensures.stars }) c.in_err-add_path.ensures.err)
 
 pub returns-clause-fits : goal.returns-clause-fits
 returns-clause-fits g c = λ can.

@@ -1,10 +1,9 @@
-use Rattle.std.proofs.Common.{◌∷◌, ℕ, ◌+◌, ◌*◌, ◌∙◌, List, length, sym, ap, subst, if◌then◌else◌, true}
+use Rattle.std.proofs.Common.{◌∷◌, ℕ, ◌+◌, ◌*◌, ◌∙◌, List, length, ap, if◌then◌else◌, true}
 use Rattle.half_table.specs.Count.{ticked}
-use Rattle.half_table.specs.Rows.{HalfRows, has, cycle}
+use Rattle.half_table.specs.Rows.{has, cycle}
 use Rattle.half_paths.specs.Loose.{is_of}
 use Rattle.map_parts.specs.Relabelled.{cycles_length}
-use Rattle.map_parts.specs.Splitting.{FitMap}
-use Rattle.map_parts.proofs.RoomMade.{on-err, fit-seen, still-origin}
+use Rattle.map_parts.proofs.RoomMade.{on-err, fit-kept, still-origin}
 use Rattle.map_parts.proofs.UnmergingBegun.{gone-different, placed-numbers}
 use Rattle.map_parts.proofs.UnmergingBegun as begun
 use Rattle.map_parts.proofs.edits.merging.begin_unmerge_along.Goals as goal
@@ -24,11 +23,7 @@ unmerge_along-requires g c =
     begun.undo-can c.requires made.seen ok.room ok.adds made.linked
 
 pub returns-in_err-make_unmerge_room-clause-err : goal.returns-in_err-make_unmerge_room-clause-err
-returns-in_err-make_unmerge_room-clause-err g c = λ can.
-    let made = c.make_unmerge_room in
-    on-err _
-    (subst (λ (t : HalfRows). FitMap (begun.last can) made.new.rows t made.new.kept made.new.stars) (sym c.in_err-make_unmerge_room.ensures.err)
-    (fit-seen (begun.last can) can.fits made.ensures.seen))
+returns-in_err-make_unmerge_room-clause-err g c = λ can. on-err _ (fit-kept (begun.last can) can.fits c.make_unmerge_room.ensures.seen c.in_err-make_unmerge_room.ensures.err)
 
 pub returns-clause-fits : goal.returns-clause-fits
 returns-clause-fits g c = λ can.

@@ -4,13 +4,13 @@ use Rattle.std.proofs.lemmas.Option.{same_Some}
 use Rattle.cad_rows.specs.declared.rows.StringRow.{StringRow}
 use Rattle.half_table.specs.Count.{ticked}
 use Rattle.half_table.specs.Half.{twin, forward_of, backward_of}
-use Rattle.half_table.specs.Rows.{HalfRows, cycle}
+use Rattle.half_table.specs.Rows.{cycle}
 use Rattle.half_paths.proofs.Along.{ticked-add}
 use Rattle.map_parts.specs.declared.edits.passing.Passing.{Passing}
 use Rattle.map_parts.specs.Passing.{CanGoThrough}
 use Rattle.map_parts.specs.Rows.{map_in}
-use Rattle.map_parts.specs.Splitting.{CanBeginSplit, CanPart, FitMap}
-use Rattle.map_parts.proofs.RoomMade.{on-err, fit-seen}
+use Rattle.map_parts.specs.Splitting.{CanBeginSplit, CanPart}
+use Rattle.map_parts.proofs.RoomMade.{on-err, fit-kept}
 use Rattle.map_parts.proofs.Passing.Begun.{IsPathReady, path-ready}
 use Rattle.map_parts.proofs.Passing.SplitMade as made
 use Rattle.map_parts.proofs.edits.split.begin_split.Goals.{In_ok-add_path}
@@ -58,9 +58,7 @@ split_rows-requires g c =
 pub returns-in_err-add_path-clause-err : goal.returns-in_err-add_path-clause-err
 returns-in_err-add_path-clause-err g c = λ can.
     let added = c.add_path in
-    on-err _
-    (subst (λ (t : HalfRows). FitMap can.map added.new.rows t c.args.kept.now added.new.stars) (sym c.in_err-add_path.ensures.err)
-    (fit-seen can.map can.fits (record { same_rows = added.ensures.rows; same_kept = λ n. refl; same_stars = added.ensures.stars })))
+    on-err _ (fit-kept can.map can.fits (record { same_rows = added.ensures.rows; same_kept = λ n. refl; same_stars = added.ensures.stars }) c.in_err-add_path.ensures.err)
 
 pub returns-clause-fits : goal.returns-clause-fits
 returns-clause-fits g c = λ can.
