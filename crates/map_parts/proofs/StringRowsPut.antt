@@ -17,7 +17,7 @@ use Rattle.map_parts.specs.Rows.{map_in, rows_in}
 use Rattle.half_table.specs.Half.{forward_of, backward_of}
 use Rattle.map_parts.specs.Stars.{spoke, spokes_of, spokes_at, AddsSpokes}
 use Rattle.map_parts.specs.Splitting.{AreStarsOf}
-use Rattle.map_parts.specs.StringRows.{CanPutStrings, CanTakeStrings}
+use Rattle.map_parts.specs.StringRows.{CanPutStrings, CanTakeStrings, KeepsRoom}
 use Rattle.map_parts.proofs.Passing.SplitBetween.{row-first}
 use Rattle.map_parts.proofs.Passing.SplitUndone.{kept-without}
 use Rattle.map_parts.proofs.Passing.StarsChanged.{stars-with, stars-without, room-after_put, length-spokes_at, star-from, star-to}
@@ -175,3 +175,15 @@ module _ (n : ℕ) (rest : List ℕ) (rows : MapRows) (stars : Held Spoke)
               (there-still (λ (r : StringRow). r.number) k n old others.0 all.0),
           still ns others.1 all.1,
         )
+
+-- ---- Slots and room stay
+
+pub keeps-none : {rows : MapRows} {stars : Held Spoke} → KeepsRoom rows rows stars stars
+keeps-none = record { strings = λ n h. h; parcels = λ n h. h; capacity = λ p. refl }
+
+pub keeps-then : {rows more last : MapRows} {stars filled put : Held Spoke} → KeepsRoom rows more stars filled → KeepsRoom more last filled put → KeepsRoom rows last stars put
+keeps-then it then = record {
+  strings = λ n h. then.strings n (it.strings n h);
+  parcels = λ n h. then.parcels n (it.parcels n h);
+  capacity = λ p. then.capacity p ∙ it.capacity p;
+}

@@ -5,8 +5,8 @@ use Rattle.cad_rows.specs.declared.rows.StringRow.{StringRow}
 use Rattle.cad_map.specs.Map.{string_of}
 use Rattle.cad_map.specs.Table.{without_row}
 use Rattle.cad_map.specs.Valid.{EachPair}
-use Rattle.entry_list.specs.Slots.{HasSlot}
-use Rattle.key_lists.specs.Held.{Held, HasRoomAt}
+use Rattle.entry_list.specs.Slots.{HasSlot, KeepsSlots}
+use Rattle.key_lists.specs.Held.{Held, HasRoomAt, capacity_at}
 use Rattle.map_parts.specs.declared.map_rows.MapRows.{MapRows}
 use Rattle.map_parts.specs.declared.stars.Spoke.{Spoke}
 use Rattle.map_parts.specs.Rows.{map_in}
@@ -37,3 +37,9 @@ pub record CanTakeStrings (numbers : List ℕ) (rows : MapRows) (stars : Held Sp
   pub numbers_differ : EachPair (λ a b. a ≢ b) (map (λ (s : StringRow). s.number) (map_in rows).strings)
   pub two : AllByRecursion (λ (s : StringRow). s.from ≢ s.to) (map_in rows).strings
   pub are : AreStarsOf (map_in rows).strings stars
+
+-- each string's number and each parcel's has its slot still, and each star the room that it had
+pub record KeepsRoom (rows more : MapRows) (stars filled : Held Spoke) : Type 0 where
+  pub strings : KeepsSlots rows.strings more.strings
+  pub parcels : KeepsSlots rows.parcels more.parcels
+  pub capacity : (p : ℕ) → capacity_at filled p ≡ capacity_at stars p

@@ -2,14 +2,13 @@
 ghost use Rattle.std.specs.Prelude.{◌≡◌, ◌≢◌, ◌+◌, ◌≤◌, [], ℕ, List, length, map};
 ghost use Rattle.std.specs.List.{AllByRecursion};
 ghost use Rattle.std.specs.Vec.{vec_len, vec_capacity};
-ghost use Rattle.entry_list.specs.Slots.{HasSlot, KeepsSlots};
-ghost use Rattle.key_lists.specs.Held.{capacity_at};
+ghost use Rattle.entry_list.specs.Slots.{HasSlot};
 ghost use Rattle.map_parts.specs.Rows.{map_in};
 ghost use Rattle.cad_rows.specs.declared.rows.StringRow.{StringRow as StringRowOf};
 ghost use Rattle.cad_map.specs.Valid.{EachPair};
 ghost use Rattle.map_parts.specs.PlacedStrings.{CanPutPlaced, numbers_placed, StoodIn};
 ghost use Rattle.map_parts.specs.Splitting.{AreStarsOf};
-ghost use Rattle.map_parts.specs.StringRows.{CanTakeStrings, HasRoomFor, without_rows};
+ghost use Rattle.map_parts.specs.StringRows.{CanTakeStrings, HasRoomFor, KeepsRoom, without_rows};
 
 use crate::edits::spokes::put_spokes;
 use crate::edits::string_rows::take_string;
@@ -40,9 +39,7 @@ pub(crate) fn take_placed(
       strings = without_rows strings.now (map_in rows.old).strings;
     } }
     ensures stars { AreStarsOf (map_in rows.new).strings stars.new }
-    ensures slots { KeepsSlots rows.old.strings rows.new.strings }
-    ensures parcels { KeepsSlots rows.old.parcels rows.new.parcels }
-    ensures capacity { (p : ℕ) → capacity_at stars.new p ≡ capacity_at stars.old p }
+    ensures keeps { KeepsRoom rows.old rows.new stars.old stars.new }
     ensures room { HasRoomFor (map (λ g. g.row) gone.new.items) stars.new }
     ensures numbers { numbers_placed gone.new.items ≡ strings.now }
     ensures stood { StoodIn (map_in rows.old).strings gone.new.items }
@@ -68,9 +65,7 @@ pub(crate) fn put_placed(
         → map_in rows.new ≡ record (map_in rows.old) { strings = before } }
     ensures stars { AreStarsOf (map_in rows.old).strings stars.old
         → AreStarsOf (map_in rows.new).strings stars.new }
-    ensures slots { KeepsSlots rows.old.strings rows.new.strings }
-    ensures parcels { KeepsSlots rows.old.parcels rows.new.parcels }
-    ensures capacity { (p : ℕ) → capacity_at stars.new p ≡ capacity_at stars.old p }
+    ensures keeps { KeepsRoom rows.old rows.new stars.old stars.new }
 {
     let count = gone.len();
     for step in 0..count {

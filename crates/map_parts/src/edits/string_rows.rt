@@ -1,12 +1,12 @@
 //! Several strings that come last among the rows, with their halves in the stars, and go again.
 ghost use Rattle.std.specs.Prelude.{◌≡◌, ◌++◌, ◌∷◌, [], ℕ, List, Some, slice_get, IsPermutation};
 ghost use Rattle.cad_map.specs.Table.{without_row};
-ghost use Rattle.entry_list.specs.Slots.{HasSlot, KeepsSlots};
-ghost use Rattle.key_lists.specs.Held.{capacity_at, items_at, HasRoomAt};
+ghost use Rattle.entry_list.specs.Slots.{HasSlot};
+ghost use Rattle.key_lists.specs.Held.{items_at, HasRoomAt};
 ghost use Rattle.map_parts.specs.Rows.{map_in};
 ghost use Rattle.map_parts.specs.Splitting.{AreStarsOf};
 ghost use Rattle.map_parts.specs.Stars.{spokes_of};
-ghost use Rattle.map_parts.specs.StringRows.{CanPutStrings, CanTakeStrings, without_rows};
+ghost use Rattle.map_parts.specs.StringRows.{CanPutStrings, CanTakeStrings, KeepsRoom, without_rows};
 
 use crate::edits::spokes::{put_spokes, take_spokes};
 use crate::map_rows::MapRows;
@@ -23,9 +23,7 @@ pub(crate) fn put_strings(rows: &mut MapRows, stars: &mut KeyLists<Spoke>, strin
     } }
     ensures stars { AreStarsOf (map_in rows.old).strings stars.old
         → AreStarsOf (map_in rows.new).strings stars.new }
-    ensures slots { KeepsSlots rows.old.strings rows.new.strings }
-    ensures parcels { KeepsSlots rows.old.parcels rows.new.parcels }
-    ensures capacity { (p : ℕ) → capacity_at stars.new p ≡ capacity_at stars.old p }
+    ensures keeps { KeepsRoom rows.old rows.new stars.old stars.new }
 {
     for string in strings {
         put_spokes(stars, &string);
@@ -54,9 +52,7 @@ pub(crate) fn take_string(
     ensures room_from { HasRoomAt stars.new result.1.from 1 }
     ensures room_to { HasRoomAt stars.new result.1.to 1 }
     ensures slot { HasSlot rows.new.strings result.1.number }
-    ensures slots { KeepsSlots rows.old.strings rows.new.strings }
-    ensures parcels { KeepsSlots rows.old.parcels rows.new.parcels }
-    ensures capacity { (p : ℕ) → capacity_at stars.new p ≡ capacity_at stars.old p }
+    ensures keeps { KeepsRoom rows.old rows.new stars.old stars.new }
 {
     let taken = rows.strings.take_there(string.get());
     take_spokes(stars, &taken.1);
@@ -71,9 +67,7 @@ pub(crate) fn take_strings(rows: &mut MapRows, stars: &mut KeyLists<Spoke>, stri
       strings = without_rows strings.now (map_in rows.old).strings;
     } }
     ensures stars { AreStarsOf (map_in rows.new).strings stars.new }
-    ensures slots { KeepsSlots rows.old.strings rows.new.strings }
-    ensures parcels { KeepsSlots rows.old.parcels rows.new.parcels }
-    ensures capacity { (p : ℕ) → capacity_at stars.new p ≡ capacity_at stars.old p }
+    ensures keeps { KeepsRoom rows.old rows.new stars.old stars.new }
 {
     for string in strings {
         take_string(rows, stars, *string);

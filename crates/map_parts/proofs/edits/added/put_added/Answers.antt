@@ -6,7 +6,7 @@ use Rattle.map_parts.proofs.edits.added.put_added.Goals as goal
 
 pub put_last-requires : goal.put_last-requires
 put_last-requires c = record {
-  slot = c.put_strings.ensures.parcels c.args.parcel.number c.requires.slot;
+  slot = c.put_strings.ensures.keeps.parcels c.args.parcel.number c.requires.slot;
   absent = ap (λ (q : Map). parcel_of q c.args.parcel.number) c.put_strings.ensures.rows ∙ c.requires.absent;
 }
 

@@ -14,7 +14,7 @@ unretire-requires c =
     record {
       absent = it.mid-absent can mid mid_is;
       place = it.mid-place can mid mid_is;
-      slot = c.put_placed.ensures.parcels c.args.row.number can.room.slot;
+      slot = c.put_placed.ensures.keeps.parcels c.args.row.number can.room.slot;
       gone = it.mid-retired can mid mid_is;
     }
 

@@ -6,6 +6,7 @@ use Rattle.map_parts.specs.declared.map_rows.MapRows.{MapRows}
 use Rattle.map_parts.specs.PlacedStrings.{CanPutPlaced, numbers_placed, StoodIn}
 use Rattle.map_parts.specs.Rows.{map_in, rows_in}
 use Rattle.map_parts.specs.StringRows.{without_rows}
+use Rattle.map_parts.proofs.StringRowsPut.{keeps-none, keeps-then}
 use Rattle.map_parts.proofs.Handed.{nothing-left}
 use Rattle.map_parts.proofs.StringsPlaced as placed
 use Rattle.map_parts.proofs.edits.placed_strings.put_placed.Goals.{After-take_last-last}
@@ -17,9 +18,7 @@ loop-step-init c = record {
   back = λ b differ stood left. (stood, left);
   beside = refl;
   stars = λ h. h;
-  slots = λ n h. h;
-  parcels = λ n h. h;
-  capacity = λ p. refl;
+  keeps = keeps-none;
   left = let len = c.len-count.ensures in omega (arith, len);
 }
 
@@ -76,9 +75,7 @@ loop-step-preserved c =
           );
       beside = ap (λ (m : Map). record m { strings = rows_in new.strings }) was.beside;
       stars = λ before. placed.put-stars gone g old c.loop-step.stars can new wide is c.put_spokes.ensures.adds (was.stars before);
-      slots = λ n h. c.put_at.ensures.slots n (was.slots n h);
-      parcels = was.parcels;
-      capacity = λ p. c.put_spokes.ensures.capacity p ∙ was.capacity p;
+      keeps = keeps-then was.keeps (record { strings = c.put_at.ensures.slots; parcels = λ n h. h; capacity = c.put_spokes.ensures.capacity });
       left =
           let left = was.left in
           let len = c.take_last-last.ensures.len in
@@ -99,7 +96,5 @@ returns c =
           ∙ ap (λ (l : List StringRow). record (map_in c.args.rows.now) { strings = l })
           (now.1 ∙ ap (λ (l : List PlacedString). without_rows (numbers_placed l) b) none);
       stars = was.stars;
-      slots = was.slots;
-      parcels = was.parcels;
-      capacity = was.capacity;
+      keeps = was.keeps;
     }

@@ -1,13 +1,11 @@
-use Rattle.std.proofs.Common.{◌≡◌, ◌≢◌, ◌+◌, ℕ, List, map}
+use Rattle.std.proofs.Common.{◌≡◌, ◌≢◌, ◌+◌, List, map}
 use Rattle.std.specs.Vec.{vec_len}
 use Rattle.cad_rows.specs.declared.rows.StringRow.{StringRow}
 use Rattle.cad_map.specs.Valid.{EachPair}
-use Rattle.entry_list.specs.Slots.{KeepsSlots}
-use Rattle.key_lists.specs.Held.{capacity_at}
 use Rattle.map_parts.specs.PlacedStrings.{CanPutPlaced, numbers_placed, StoodIn}
 use Rattle.map_parts.specs.Rows.{map_in, rows_in}
 use Rattle.map_parts.specs.Splitting.{AreStarsOf}
-use Rattle.map_parts.specs.StringRows.{without_rows}
+use Rattle.map_parts.specs.StringRows.{without_rows, KeepsRoom}
 use Rattle.map_parts.proofs.edits.placed_strings.put_placed.Given as goal
 
 -- the others can come back, to the list in which all stood
@@ -19,8 +17,6 @@ invariant-loop-step l = record {
       → StoodIn b l.gone.items × (rows_in l.rows.strings ≡ without_rows (numbers_placed l.gone.items) b);
   beside : map_in l.rows ≡ record (map_in l.fn.rows) { strings = rows_in l.rows.strings };
   stars : AreStarsOf (rows_in l.fn.rows.strings) l.fn.stars → AreStarsOf (rows_in l.rows.strings) l.stars;
-  slots : KeepsSlots l.fn.rows.strings l.rows.strings;
-  parcels : KeepsSlots l.fn.rows.parcels l.rows.parcels;
-  capacity : (p : ℕ) → capacity_at l.stars p ≡ capacity_at l.fn.stars p;
+  keeps : KeepsRoom l.fn.rows l.rows l.fn.stars l.stars;
   left : vec_len l.gone + l.step ≡ l.count;
 }

@@ -11,7 +11,7 @@ use Rattle.map_parts.specs.declared.map_rows.MapRows.{MapRows}
 use Rattle.map_parts.specs.PlacedStrings.{numbers_placed, StoodIn}
 use Rattle.map_parts.specs.Rows.{map_in, rows_in}
 use Rattle.map_parts.specs.StringRows.{CanTakeStrings, HasRoomFor, without_rows}
-use Rattle.map_parts.proofs.StringRowsPut.{take-one, next-of}
+use Rattle.map_parts.proofs.StringRowsPut.{keeps-none, keeps-then, take-one, next-of}
 use Rattle.map_parts.proofs.StringsPlaced.{without-last_of, stood-more, numbers-more, room-placed}
 use Rattle.map_parts.proofs.edits.placed_strings.take_placed.Goals.{After-string-item}
 use Rattle.map_parts.proofs.edits.placed_strings.take_placed.Goals as goal
@@ -23,9 +23,7 @@ loop-string-init c =
       can = c.requires.can;
       rows_are = ap (λ (l : List PlacedString). without_rows (numbers_placed l) (rows_in c.args.rows.now.strings)) (sym none);
       beside = refl;
-      slots = λ n h. h;
-      parcels = λ n h. h;
-      capacity = λ p. refl;
+      keeps = keeps-none;
       star_room = subst (λ (l : List PlacedString). HasRoomFor (map (λ (q : PlacedString). q.row) l) c.args.stars.now) (sym none) (λ p some. absurd (omega (arith, some)));
       numbers = ap (λ (l : List PlacedString). numbers_placed l ++ c.args.strings.now) none;
       stood = subst (λ (l : List PlacedString). StoodIn (rows_in c.args.rows.now.strings) l) (sym none) tt;
@@ -68,12 +66,10 @@ loop-string-preserved c =
           ∙ ap (λ (l : List PlacedString). without_rows (numbers_placed l) first) (sym pushed);
       beside = made.rows ∙ ap (λ (m : Map). record m { strings = without_row (λ (r : StringRow). r.number) n (rows_in old.strings) }) was.beside
           ∙ ap (λ (l : List StringRow). record (map_in c.args.rows.now) { strings = l }) (sym (ap (λ (m : Map). m.strings) made.rows));
-      slots = λ k h. made.slots k (was.slots k h);
-      parcels = λ k h. made.parcels k (was.parcels k h);
-      capacity = λ p. made.capacity p ∙ was.capacity p;
+      keeps = keeps-then was.keeps made.keeps;
       star_room =
           subst (λ (l : List PlacedString). HasRoomFor (map (λ (q : PlacedString). q.row) l) c.take_string-place.new.stars) (sym pushed)
-          (room-placed gone g c.loop-string.stars c.take_string-place.new.stars made.takes made.capacity made.room_from made.room_to was.star_room);
+          (room-placed gone g c.loop-string.stars c.take_string-place.new.stars made.takes made.keeps.capacity made.room_from made.room_to was.star_room);
       numbers =
           ap (λ (l : List PlacedString). numbers_placed l ++ tail) pushed ∙ numbers-more gone g tail
           ∙ ap (λ (k : ℕ). numbers_placed gone ++ k ∷ tail) made.number
@@ -85,7 +81,7 @@ loop-string-preserved c =
           subst (AllByRecursion (λ (q : PlacedString). HasSlot new.strings q.row.number)) (sym pushed)
           (All-push (λ (q : PlacedString). HasSlot new.strings q.row.number) gone g
           (All-follows (λ (q : PlacedString). HasSlot old.strings q.row.number) (λ (q : PlacedString). HasSlot new.strings q.row.number)
-          (λ q h. made.slots q.row.number h) gone was.kept) made.slot);
+          (λ q h. made.keeps.strings q.row.number h) gone was.kept) made.slot);
       room =
           let room = was.room in
           let long = ap length item in
@@ -108,9 +104,7 @@ returns c =
           ∙ ap (λ (l : List StringRow). record (map_in c.args.rows.now) { strings = l })
           (was.rows_are ∙ ap (λ (l : List ℕ). without_rows l (rows_in c.args.rows.now.strings)) all);
       stars = was.can.are;
-      slots = was.slots;
-      parcels = was.parcels;
-      capacity = was.capacity;
+      keeps = was.keeps;
       room = was.star_room;
       numbers = all;
       stood = was.stood;

@@ -1,11 +1,10 @@
-use Rattle.std.proofs.Common.{◌≡◌, ◌≤◌, ◌+◌, ◌++◌, ℕ, drop, length, map}
+use Rattle.std.proofs.Common.{◌≡◌, ◌≤◌, ◌+◌, ◌++◌, drop, length, map}
 use Rattle.std.specs.List.{AllByRecursion}
 use Rattle.std.specs.Vec.{vec_len, vec_capacity}
-use Rattle.entry_list.specs.Slots.{HasSlot, KeepsSlots}
-use Rattle.key_lists.specs.Held.{capacity_at}
+use Rattle.entry_list.specs.Slots.{HasSlot}
 use Rattle.map_parts.specs.Rows.{map_in, rows_in}
 use Rattle.map_parts.specs.PlacedStrings.{numbers_placed, StoodIn}
-use Rattle.map_parts.specs.StringRows.{CanTakeStrings, HasRoomFor, without_rows}
+use Rattle.map_parts.specs.StringRows.{CanTakeStrings, HasRoomFor, without_rows, KeepsRoom}
 use Rattle.map_parts.proofs.edits.placed_strings.take_placed.Given as goal
 
 -- those that went are listed, and the others can go
@@ -14,9 +13,7 @@ invariant-loop-string l = record {
   can : CanTakeStrings (drop l.string-index l.strings) l.rows l.stars;
   rows_are : rows_in l.rows.strings ≡ without_rows (numbers_placed l.gone.items) (rows_in l.initial.rows.strings);
   beside : map_in l.rows ≡ record (map_in l.initial.rows) { strings = rows_in l.rows.strings };
-  slots : KeepsSlots l.initial.rows.strings l.rows.strings;
-  parcels : KeepsSlots l.initial.rows.parcels l.rows.parcels;
-  capacity : (p : ℕ) → capacity_at l.stars p ≡ capacity_at l.initial.stars p;
+  keeps : KeepsRoom l.initial.rows l.rows l.initial.stars l.stars;
   star_room : HasRoomFor (map (λ g. g.row) l.gone.items) l.stars;
   numbers : numbers_placed l.gone.items ++ drop l.string-index l.strings ≡ l.strings;
   stood : StoodIn (rows_in l.initial.rows.strings) l.gone.items;

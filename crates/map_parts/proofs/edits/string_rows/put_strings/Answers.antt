@@ -4,6 +4,7 @@ use Rattle.cad_rows.specs.declared.rows.StringRow.{StringRow}
 use Rattle.map_parts.specs.declared.map_rows.MapRows.{MapRows}
 use Rattle.map_parts.specs.Rows.{map_in, rows_in}
 use Rattle.map_parts.specs.StringRows.{CanPutStrings}
+use Rattle.map_parts.proofs.StringRowsPut.{keeps-none, keeps-then}
 use Rattle.map_parts.proofs.StringRowsPut as put
 use Rattle.map_parts.proofs.Handed.{nothing-left}
 use Rattle.map_parts.proofs.edits.string_rows.put_strings.Goals as goal
@@ -15,9 +16,7 @@ loop-string-init c =
       can = subst (λ (l : List StringRow). CanPutStrings l c.args.rows.now c.args.stars.now) (sym gives.0) c.requires;
       whole = refl;
       stars = λ h. h;
-      slots = λ n h. h;
-      parcels = λ n h. h;
-      capacity = λ p. refl;
+      keeps = keeps-none;
       len = gives.1 ∙ c.args.strings.ok.0 ∙ ap length (sym gives.0);
     }
 
@@ -60,9 +59,7 @@ loop-string-preserved c =
           (ap (λ (l : List StringRow). l ++ rest) more ∙ append_assoc (rows_in old.strings) (s ∷ []) rest
           ∙ ap (λ (l : List StringRow). rows_in old.strings ++ l) (sym steps)) ∙ was.whole;
       stars = λ before. put.put-stars s rest old c.loop-string.stars can new wide more c.put_spokes.ensures.adds (was.stars before);
-      slots = λ n h. c.put_last.ensures.slots n (was.slots n h);
-      parcels = was.parcels;
-      capacity = λ p. c.put_spokes.ensures.capacity p ∙ was.capacity p;
+      keeps = keeps-then was.keeps (record { strings = c.put_last.ensures.slots; parcels = λ n h. h; capacity = c.put_spokes.ensures.capacity });
       len =
           let len = was.len in
           let gone = c.in-Some.ensures.steps.1 in
@@ -85,7 +82,5 @@ returns c =
           ∙ ap (λ (l : List StringRow). record (map_in c.args.rows.now) { strings = rows_in c.args.rows.now.strings ++ l })
           c.into_iter-string-iterator.ensures.into_iter_gives.0;
       stars = was.stars;
-      slots = was.slots;
-      parcels = was.parcels;
-      capacity = was.capacity;
+      keeps = was.keeps;
     }

@@ -1,10 +1,8 @@
-use Rattle.std.proofs.Common.{◌≡◌, ◌++◌, ℕ, length}
+use Rattle.std.proofs.Common.{◌≡◌, ◌++◌, length}
 use Rattle.std.specs.Vec.Iter.{into_iter_items, into_iter_len}
-use Rattle.entry_list.specs.Slots.{KeepsSlots}
-use Rattle.key_lists.specs.Held.{capacity_at}
 use Rattle.map_parts.specs.Rows.{map_in}
 use Rattle.map_parts.specs.Splitting.{AreStarsOf}
-use Rattle.map_parts.specs.StringRows.{CanPutStrings}
+use Rattle.map_parts.specs.StringRows.{CanPutStrings, KeepsRoom}
 use Rattle.map_parts.proofs.edits.string_rows.put_strings.Given as goal
 
 -- with the strings that are still to come it is all
@@ -14,8 +12,6 @@ invariant-loop-string l = record {
   whole : record (map_in l.rows) { strings = (map_in l.rows).strings ++ into_iter_items l.string-iterator }
       ≡ record (map_in l.initial.rows) { strings = (map_in l.initial.rows).strings ++ into_iter_items l.initial.string-iterator };
   stars : AreStarsOf (map_in l.initial.rows).strings l.initial.stars → AreStarsOf (map_in l.rows).strings l.stars;
-  slots : KeepsSlots l.initial.rows.strings l.rows.strings;
-  parcels : KeepsSlots l.initial.rows.parcels l.rows.parcels;
-  capacity : (p : ℕ) → capacity_at l.stars p ≡ capacity_at l.initial.stars p;
+  keeps : KeepsRoom l.initial.rows l.rows l.initial.stars l.stars;
   len : into_iter_len l.string-iterator ≡ length (into_iter_items l.string-iterator);
 }

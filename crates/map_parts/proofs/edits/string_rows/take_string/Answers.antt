@@ -46,7 +46,5 @@ returns c =
       room_from = c.take_spokes.ensures.room_from;
       room_to = c.take_spokes.ensures.room_to;
       slot = c.take_there-taken.ensures.slot;
-      slots = c.take_there-taken.ensures.slots;
-      parcels = λ n h. h;
-      capacity = c.take_spokes.ensures.capacity;
+      keeps = record { strings = c.take_there-taken.ensures.slots; parcels = λ n h. h; capacity = c.take_spokes.ensures.capacity };
     }

@@ -4,16 +4,14 @@ use Rattle.cad_map.specs.Map.{Map}
 use Rattle.map_parts.specs.declared.map_rows.MapRows.{MapRows}
 use Rattle.map_parts.specs.Rows.{map_in, rows_in}
 use Rattle.map_parts.specs.StringRows.{CanTakeStrings, without_rows}
-use Rattle.map_parts.proofs.StringRowsPut.{take-one, next-of}
+use Rattle.map_parts.proofs.StringRowsPut.{keeps-none, keeps-then, take-one, next-of}
 use Rattle.map_parts.proofs.edits.string_rows.take_strings.Goals as goal
 
 pub loop-string-init : goal.loop-string-init
 loop-string-init c = record {
   can = c.requires;
   whole = refl;
-  slots = λ n h. h;
-  parcels = λ n h. h;
-  capacity = λ p. refl;
+  keeps = keeps-none;
 }
 
 pub take_string-requires : goal.take_string-requires
@@ -33,9 +31,7 @@ loop-string-preserved c =
       whole =
           ap (λ (m : Map). record m { strings = without_rows tail m.strings }) c.take_string.ensures.rows
           ∙ ap (λ (l : List ℕ). record (map_in old) { strings = without_rows l (rows_in old.strings) }) (sym next) ∙ was.whole;
-      slots = λ n h. c.take_string.ensures.slots n (was.slots n h);
-      parcels = λ n h. c.take_string.ensures.parcels n (was.parcels n h);
-      capacity = λ p. c.take_string.ensures.capacity p ∙ was.capacity p;
+      keeps = keeps-then was.keeps c.take_string.ensures.keeps;
     }
 
 pub returns : goal.returns
@@ -47,7 +43,5 @@ returns c =
     record {
       rows = ap (λ (l : List ℕ). record (map_in old) { strings = without_rows l (rows_in old.strings) }) (sym none) ∙ was.whole;
       stars = was.can.are;
-      slots = was.slots;
-      parcels = was.parcels;
-      capacity = was.capacity;
+      keeps = was.keeps;
     }
