@@ -90,16 +90,8 @@ fn join_rows(
       strings = without_row (λ r. r.number) second
           (without_row (λ r. r.number) first (map_in rows.old).strings) ++ row ∷ [];
     } }
-    ensures point { slice_get (map_in rows.old).points result.point_place ≡ Some result.point }
-    ensures point_found { point_of (map_in rows.old) point ≡ Some result.point }
-    ensures first { slice_get (map_in rows.old).strings result.first_place ≡ Some result.first }
-    ensures first_found { string_of (map_in rows.old) first ≡ Some result.first }
-    ensures second { slice_get (without_row (λ r. r.number) first (map_in rows.old).strings)
-        result.second_place ≡ Some result.second }
-    ensures second_found { string_of (map_in rows.old) second ≡ Some result.second }
-    ensures point_slot { HasSlot rows.new.points result.point.number }
-    ensures first_slot { HasSlot rows.new.strings result.first.number }
-    ensures second_slot { HasSlot rows.new.strings result.second.number }
+    ensures taken { HaveJoined (map_in rows.old) point first second result }
+    ensures slots { CanBePutBack result rows.new }
 {
     let ((first_place, first), (second_place, second)) = rows
         .strings

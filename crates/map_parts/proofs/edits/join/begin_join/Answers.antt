@@ -88,13 +88,7 @@ returns-clause-fits g c = λ can.
     }
 
 pub returns-clause-taken : goal.returns-clause-taken
-returns-clause-taken g c =
-    let out = c.join_rows.ensures in
-    subst (λ (m : Map). HaveJoined m c.args.point c.args.first c.args.second c.join_rows.result) c.add_string.ensures.rows
-    (record { point_at = out.point; point_found = out.point_found; first_at = out.first; first_found = out.first_found; second_at = out.second; second_found = out.second_found })
-
-pub returns-clause-slots : goal.returns-clause-slots
-returns-clause-slots g c = record { point_slot = c.join_rows.ensures.point_slot; first_slot = c.join_rows.ensures.first_slot; second_slot = c.join_rows.ensures.second_slot }
+returns-clause-taken g c = subst (λ (m : Map). HaveJoined m c.args.point c.args.first c.args.second c.join_rows.result) c.add_string.ensures.rows c.join_rows.ensures.taken
 
 pub returns-clause-room : goal.returns-clause-room
 returns-clause-room g c =
@@ -106,12 +100,12 @@ returns-clause-room g c =
 pub returns-clause-first_there : goal.returns-clause-first_there
 returns-clause-first_there g c =
     made.join-whole c.requires (ready g (goal.at.returns-clause-first_there g c).In_ok-add_string c.requires)
-    c.args.first c.join_rows.result.first c.join_rows.ensures.first_found c.go_past.new.table.rows c.go_past.ensures.has c.go_past.ensures.origin
+    c.args.first c.join_rows.result.first c.join_rows.ensures.taken.first_found c.go_past.new.table.rows c.go_past.ensures.has c.go_past.ensures.origin
 
 pub returns-clause-second_there : goal.returns-clause-second_there
 returns-clause-second_there g c =
     made.join-whole c.requires (ready g (goal.at.returns-clause-second_there g c).In_ok-add_string c.requires)
-    c.args.second c.join_rows.result.second c.join_rows.ensures.second_found c.go_past.new.table.rows c.go_past.ensures.has c.go_past.ensures.origin
+    c.args.second c.join_rows.result.second c.join_rows.ensures.taken.second_found c.go_past.new.table.rows c.go_past.ensures.has c.go_past.ensures.origin
 
 pub returns-clause-has : goal.returns-clause-has
 returns-clause-has g c = λ h. c.go_past.ensures.has h ∙ c.in_ok-add_string.ensures.adds.has h
