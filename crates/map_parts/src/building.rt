@@ -1,7 +1,6 @@
 //! A table linked along the rings of a map.
 ghost use Rattle.std.specs.Prelude.{◌≡◌, ◌≢◌, ◌≤◌, ◌<◌, ◌+◌, true, false, length, IfOk, OnOk};
 ghost use Rattle.std.specs.List.{Contains};
-ghost use Rattle.cad_rings.specs.Cycle.{sides_of, Side};
 ghost use Rattle.cad_map.specs.declared.boundary.Boundary.{Boundary as BoundaryOf};
 ghost use Rattle.cad_map.specs.Map.{all_sides};
 ghost use Rattle.cad_map.specs.Rings.{HasWholeRings};

@@ -1,7 +1,6 @@
 //! Kept halves of rings that pass from one face to another.
-ghost use Rattle.std.specs.Prelude.{◌≡◌, ◌≢◌, ◌++◌, ◌∷◌, [], ◌<◌, ◌≤◌, ◌+◌, ℕ, length, swap_remove, slice_get, Some};
+ghost use Rattle.std.specs.Prelude.{◌≡◌, ◌≢◌, ◌++◌, ◌∷◌, [], ◌<◌, ◌+◌, ℕ, length, swap_remove, slice_get, Some};
 ghost use Rattle.cad_map.specs.Boundaries.{face_place as face_place_of};
-ghost use Rattle.half_table.specs.declared.half.Half.{Half as HalfOf};
 ghost use Rattle.half_paths.specs.Path.{AreIn};
 ghost use Rattle.key_lists.specs.Held.{items_at, capacity_at, HasRoomAt, KeepsOthers};
 ghost use Rattle.map_parts.specs.Handing.{HandsOver, KeepsBoth, KeepsOne};

@@ -1,5 +1,5 @@
 //! An island that comes into a face of a table, and goes from it.
-ghost use Rattle.std.specs.Prelude.{◌≡◌, ◌∷◌, ◌+◌, ◌≤◌, ℕ, List, length, if◌then◌else◌};
+ghost use Rattle.std.specs.Prelude.{◌≡◌, ◌∷◌, ◌+◌, ◌≤◌, List, length, if◌then◌else◌};
 ghost use Rattle.std.specs.List.{AllByRecursion};
 ghost use Rattle.cad_rings.specs.Cycle.{Ring, sides_of};
 ghost use Rattle.cad_map.specs.declared.boundary.Boundary.{Boundary as BoundaryOf};

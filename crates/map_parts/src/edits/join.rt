@@ -1,5 +1,5 @@
 //! Two strings joined at a point, with the room that it takes, and the join taken back, in place.
-ghost use Rattle.std.specs.Prelude.{◌≡◌, ◌≢◌, ◌≤◌, ◌+◌, ◌++◌, ◌∷◌, ◌==◌, [], ℕ, true, not, Some, None, IsSome, length, insert, slice_get};
+ghost use Rattle.std.specs.Prelude.{◌≡◌, ◌≢◌, ◌≤◌, ◌+◌, ◌++◌, ◌∷◌, ◌==◌, [], ℕ, true, not, None, IsSome, length, insert};
 ghost use Rattle.std.specs.Prelude.{if◌then◌else◌, OnErr, IfOk, OnOk};
 ghost use Rattle.half_table.specs.declared.half.Half.{Half as HalfOf};
 ghost use Rattle.half_table.specs.Count.{ticked};

@@ -1,10 +1,10 @@
 //! A path of two strings put in the place of one, and one in the place of two.
-ghost use Rattle.std.specs.Prelude.{◌≡◌, ◌∷◌, [], ◌+◌, ◌≤◌, ℕ, length};
-ghost use Rattle.half_table.specs.declared.half.Half.{Half as HalfOf};
+ghost use Rattle.std.specs.Prelude.{◌≡◌, ◌∷◌, [], ◌+◌, length};
 ghost use Rattle.half_table.specs.Half.{twin};
-ghost use Rattle.half_table.specs.Rows.{next, has, origin_of, strings, cycle};
+ghost use Rattle.half_table.specs.Rows.{next, strings, cycle};
 ghost use Rattle.half_table.specs.Count.{ticked};
 ghost use Rattle.half_paths.specs.Loose.{AreLoose};
+ghost use Rattle.map_parts.specs.Handing.{KeepsEnds};
 ghost use Rattle.map_parts.specs.Passing.{FitTable, CanGoThrough, CanGoPast};
 
 use crate::edits::kept_places::replace_kept;
@@ -33,8 +33,7 @@ pub(crate) fn go_through<T: Tally>(
     ensures fits { (can : CanGoThrough passing.now table.old.rows kept.old)
         → FitTable can.through table.new.rows kept.new }
     ensures loose { AreLoose (next table.new.rows) (passing.now.whole ∷ []) }
-    ensures has { (h : HalfOf) → has table.new.rows h ≡ has table.old.rows h }
-    ensures origin { (h : HalfOf) → origin_of table.new.rows h ≡ origin_of table.old.rows h }
+    ensures halves { KeepsEnds table.old.rows table.new.rows }
     ensures strings { strings table.new.rows ≡ strings table.old.rows }
     ensures work { table.new.work
         ≡ ticked (length (cycle table.new.rows passing.now.first)
@@ -66,8 +65,7 @@ pub(crate) fn go_past<T: Tally>(
     ensures fits { (can : CanGoPast passing.now table.old.rows kept.old)
         → FitTable can.past table.new.rows kept.new }
     ensures loose { AreLoose (next table.new.rows) (passing.now.first ∷ passing.now.second ∷ []) }
-    ensures has { (h : HalfOf) → has table.new.rows h ≡ has table.old.rows h }
-    ensures origin { (h : HalfOf) → origin_of table.new.rows h ≡ origin_of table.old.rows h }
+    ensures halves { KeepsEnds table.old.rows table.new.rows }
     ensures strings { strings table.new.rows ≡ strings table.old.rows }
     ensures work { table.new.work
         ≡ ticked (length (cycle table.new.rows passing.now.whole)

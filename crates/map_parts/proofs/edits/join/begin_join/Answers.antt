@@ -100,15 +100,15 @@ returns-clause-room g c =
 pub returns-clause-first_there : goal.returns-clause-first_there
 returns-clause-first_there g c =
     made.join-whole c.requires (ready g (goal.at.returns-clause-first_there g c).In_ok-add_string c.requires)
-    c.args.first c.join_rows.result.first c.join_rows.ensures.taken.first_found c.go_past.new.table.rows c.go_past.ensures.has c.go_past.ensures.origin
+    c.args.first c.join_rows.result.first c.join_rows.ensures.taken.first_found c.go_past.new.table.rows c.go_past.ensures.halves.has c.go_past.ensures.halves.origin
 
 pub returns-clause-second_there : goal.returns-clause-second_there
 returns-clause-second_there g c =
     made.join-whole c.requires (ready g (goal.at.returns-clause-second_there g c).In_ok-add_string c.requires)
-    c.args.second c.join_rows.result.second c.join_rows.ensures.taken.second_found c.go_past.new.table.rows c.go_past.ensures.has c.go_past.ensures.origin
+    c.args.second c.join_rows.result.second c.join_rows.ensures.taken.second_found c.go_past.new.table.rows c.go_past.ensures.halves.has c.go_past.ensures.halves.origin
 
 pub returns-clause-has : goal.returns-clause-has
-returns-clause-has g c = λ h. c.go_past.ensures.has h ∙ c.in_ok-add_string.ensures.adds.has h
+returns-clause-has g c = λ h. c.go_past.ensures.halves.has h ∙ c.in_ok-add_string.ensures.adds.has h
 
 pub returns-clause-work : goal.returns-clause-work
 returns-clause-work g c =

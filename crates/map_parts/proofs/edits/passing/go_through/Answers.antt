@@ -80,15 +80,11 @@ returns-clause-loose g c =
     let z : Half = c.args.passing.now.whole in
     ((on z ∙ now.whole, on (twin z) ∙ now.whole_back), tt)
 
-pub returns-clause-has : goal.returns-clause-has
-returns-clause-has g c = λ h.
-    c.relabel-2.ensures.relabels.has h ∙ c.relabel.ensures.relabels.has h
-    ∙ c.reroute.ensures.halves.has h
-
-pub returns-clause-origin : goal.returns-clause-origin
-returns-clause-origin g c = λ h.
-    c.relabel-2.ensures.relabels.origin h ∙ c.relabel.ensures.relabels.origin h
-    ∙ c.reroute.ensures.halves.origin h
+pub returns-clause-halves : goal.returns-clause-halves
+returns-clause-halves g c = record {
+  has = λ h. c.relabel-2.ensures.relabels.has h ∙ c.relabel.ensures.relabels.has h ∙ c.reroute.ensures.halves.has h;
+  origin = λ h. c.relabel-2.ensures.relabels.origin h ∙ c.relabel.ensures.relabels.origin h ∙ c.reroute.ensures.halves.origin h;
+}
 
 pub returns-clause-work : goal.returns-clause-work
 returns-clause-work g c =

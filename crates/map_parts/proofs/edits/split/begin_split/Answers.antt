@@ -73,10 +73,10 @@ returns-clause-fits g c = λ can.
 pub returns-clause-there : goal.returns-clause-there
 returns-clause-there g c =
     made.split-whole c.requires (ready g (goal.at.returns-clause-there g c).In_ok-add_path c.requires)
-    c.split_rows.result.1 c.split_rows.ensures.found c.go_through.new.table.rows c.go_through.ensures.has c.go_through.ensures.origin
+    c.split_rows.result.1 c.split_rows.ensures.found c.go_through.new.table.rows c.go_through.ensures.halves.has c.go_through.ensures.halves.origin
 
 pub returns-clause-has : goal.returns-clause-has
-returns-clause-has g c = λ h. c.go_through.ensures.has h ∙ c.in_ok-add_path.ensures.adds.has h
+returns-clause-has g c = λ h. c.go_through.ensures.halves.has h ∙ c.in_ok-add_path.ensures.adds.has h
 
 pub returns-clause-work : goal.returns-clause-work
 returns-clause-work g c =
