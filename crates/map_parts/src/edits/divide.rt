@@ -4,7 +4,7 @@ ghost use Rattle.cad_map.specs.Boundaries.{face_place as face_place_of};
 ghost use Rattle.half_table.specs.declared.half.Half.{Half as HalfOf};
 ghost use Rattle.half_table.specs.Count.{ticked};
 ghost use Rattle.half_table.specs.Cycle.{holds};
-ghost use Rattle.half_table.specs.Rows.{IsLinked, has, next, origin_of, face, cycle};
+ghost use Rattle.half_table.specs.Rows.{IsLinked, next, face, cycle};
 ghost use Rattle.half_paths.specs.Path.{strings_of};
 ghost use Rattle.half_paths.specs.Loose.{is_of, AreLoose};
 ghost use Rattle.map_parts.specs.Relabelled.{cycles_length};
@@ -44,8 +44,7 @@ pub(crate) fn bring_left<T: Tally>(
     ensures local { IsLocalWithChain (first.now ∷ rest.now) start.now end.now table.old.rows
         table.new.rows }
 
-    ensures has { (g : HalfOf) → has table.new.rows g ≡ has table.old.rows g }
-    ensures origin { (g : HalfOf) → origin_of table.new.rows g ≡ origin_of table.old.rows g }
+    ensures halves { KeepsEnds table.old.rows table.new.rows }
     ensures linked { IsLinked table.new.rows }
     ensures work { table.new.work ≡ ticked (2 + 2 * length rest.now + (length rest.now + 2)
         + length (cycle table.new.rows first.now)) table.old.work }
@@ -75,8 +74,7 @@ pub(crate) fn take_left<T: Tally>(
     ensures local { IsLocalWithoutChain (first.now ∷ rest.now) table.old.rows table.new.rows }
 
     ensures loose { AreLoose (next table.new.rows) (first.now ∷ rest.now) }
-    ensures has { (g : HalfOf) → has table.new.rows g ≡ has table.old.rows g }
-    ensures origin { (g : HalfOf) → origin_of table.new.rows g ≡ origin_of table.old.rows g }
+    ensures halves { KeepsEnds table.old.rows table.new.rows }
     ensures linked { IsLinked table.new.rows }
     ensures work { table.new.work ≡ ticked (length (cycle table.old.rows first.now)
         + (length rest.now + 2) + (2 + 2 * length rest.now)) table.old.work }

@@ -7,12 +7,13 @@ ghost use Rattle.cad_map.specs.Map.{Map};
 ghost use Rattle.cad_map.specs.Rings.{HasWholeRings};
 ghost use Rattle.half_table.specs.declared.half.Half.{Half as HalfOf};
 ghost use Rattle.half_table.specs.Half.{twin};
-ghost use Rattle.half_table.specs.Rows.{IsLinked, has, next, origin_of, face, cycle};
+ghost use Rattle.half_table.specs.Rows.{IsLinked, next, face, cycle};
 ghost use Rattle.half_table.specs.Count.{ticked};
 ghost use Rattle.half_table.specs.Cycle.{holds};
 ghost use Rattle.half_paths.specs.Path.{AreIn, AreDifferent};
 ghost use Rattle.half_paths.specs.Loose.{AreLoose};
 ghost use Rattle.half_paths.specs.Round.{IsRound};
+ghost use Rattle.map_parts.specs.Handing.{KeepsEnds};
 ghost use Rattle.map_parts.specs.Parts.{HasHalves};
 ghost use Rattle.map_parts.specs.Paths.{AreAlong, HasStringsMore};
 ghost use Rattle.map_parts.specs.Relabelled.{on_cycles, cycles_length};
@@ -50,8 +51,7 @@ pub(crate) fn bring_island<T: Tally>(
         → AreOfRings parted table.old.rows moved.now inner.now others
         → FitsTable whole table.old.rows → FitsTable parted table.new.rows }
 
-    ensures has { (g : HalfOf) → has table.new.rows g ≡ has table.old.rows g }
-    ensures origin { (g : HalfOf) → origin_of table.new.rows g ≡ origin_of table.old.rows g }
+    ensures halves { KeepsEnds table.old.rows table.new.rows }
     ensures linked { IsLinked table.new.rows }
     ensures work { table.new.work ≡ ticked (length rest.now + 1 + (length (cycle table.new.rows first.now)
         + (length (cycle table.new.rows (twin first.now)) + cycles_length table.new.rows moved.now))) table.old.work }
@@ -94,8 +94,7 @@ pub(crate) fn take_island<T: Tally>(
         ≡ (if holds (cycle table.old.rows (twin first.now)) g then inner.now
         else if on_cycles table.old.rows moved.now g then outer.now else face table.old.rows g) }
     ensures loose { AreLoose (next table.new.rows) (first.now ∷ rest.now) }
-    ensures has { (g : HalfOf) → has table.new.rows g ≡ has table.old.rows g }
-    ensures origin { (g : HalfOf) → origin_of table.new.rows g ≡ origin_of table.old.rows g }
+    ensures halves { KeepsEnds table.old.rows table.new.rows }
     ensures linked { IsLinked table.new.rows }
     ensures work { table.new.work ≡ ticked (cycles_length table.old.rows moved.now
         + (length (cycle table.old.rows (twin first.now)) + (length rest.now + 1))) table.old.work }

@@ -24,7 +24,7 @@ bring_left-requires g c =
 
 pub hand_over-requires-clause-within : goal.hand_over-requires-clause-within
 hand_over-requires-clause-within g c =
-    in-relabelled c.args.table.now.rows c.bring_left.new.table.rows (items_at c.args.kept.now (face_place c.args.outer.now)) c.bring_left.ensures.has c.requires.path.kept_in
+    in-relabelled c.args.table.now.rows c.bring_left.new.table.rows (items_at c.args.kept.now (face_place c.args.outer.now)) c.bring_left.ensures.halves.has c.requires.path.kept_in
 
 pub hand_over-requires-clause-room : goal.hand_over-requires-clause-room
 hand_over-requires-clause-room g c = let room = c.requires.path.inner_room in omega (arith, room)
@@ -46,7 +46,7 @@ keep_both-requires-clause-outer_room g c =
     omega (arith, handed, cap, room)
 
 pub relabel_each-requires-clause-within : goal.relabel_each-requires-clause-within
-relabel_each-requires-clause-within g c = in-relabelled c.args.table.now.rows c.bring_left.new.table.rows c.args.moved.now c.bring_left.ensures.has c.requires.path.moved_in
+relabel_each-requires-clause-within g c = in-relabelled c.args.table.now.rows c.bring_left.new.table.rows c.args.moved.now c.bring_left.ensures.halves.has c.requires.path.moved_in
 
 pub hand_over-requires-2-clause-within : goal.hand_over-requires-2-clause-within
 hand_over-requires-2-clause-within g c =
@@ -54,11 +54,11 @@ hand_over-requires-2-clause-within g c =
     let inner : ℕ = face_place c.args.inner.now in
     let old = c.args.table.now.rows in
     let new = c.relabel_each.new.table.rows in
-    let same : (h : Half) → has new h ≡ has old h = λ h. c.relabel_each.ensures.relabels.has h ∙ c.bring_left.ensures.has h in
+    let same : (h : Half) → has new h ≡ has old h = λ h. c.relabel_each.ensures.relabels.has h ∙ c.bring_left.ensures.halves.has h in
     in-relabelled old new (items_at c.keep_both.new.kept outer) same
     (both-in old inner outer c.args.first.now c.twin-back.result c.hand_over.new.kept c.keep_both.new.kept c.keep_both.ensures.both
     (left-handed old c.bring_left.new.table.rows outer inner c.args.kept.now c.hand_over.new.kept c.hand_over.ensures.hands c.requires.path.kept_in)
-    (sym (c.bring_left.ensures.has c.twin-back.result) ∙ c.twin-back.ensures.inside ∙ c.bring_left.ensures.has c.args.first.now ∙ c.requires.path.within.0))
+    (sym (c.bring_left.ensures.halves.has c.twin-back.result) ∙ c.twin-back.ensures.inside ∙ c.bring_left.ensures.halves.has c.args.first.now ∙ c.requires.path.within.0))
 
 pub hand_over-requires-2-clause-room : goal.hand_over-requires-2-clause-room
 hand_over-requires-2-clause-room g c =
@@ -73,8 +73,8 @@ hand_over-requires-2-clause-room g c =
 
 pub returns-clause-halves : goal.returns-clause-halves
 returns-clause-halves g c = record {
-  has = λ h. c.relabel_each.ensures.relabels.has h ∙ c.bring_left.ensures.has h;
-  origin = λ h. c.relabel_each.ensures.relabels.origin h ∙ c.bring_left.ensures.origin h;
+  has = λ h. c.relabel_each.ensures.relabels.has h ∙ c.bring_left.ensures.halves.has h;
+  origin = λ h. c.relabel_each.ensures.relabels.origin h ∙ c.bring_left.ensures.halves.origin h;
 }
 
 pub returns-clause-count : goal.returns-clause-count
@@ -122,16 +122,16 @@ returns-clause-chain g c = λ whole parted its none ends start_on end_on goes.
     let last_side = last-along (side_by old) first rest its.chain its.long its.along in
     let local = left_one.local whole parted its.chain its.first_corner its.last_corner its.rings its.parts its.long its.is.corners its.more its.along ends start_on end_on fits.local in
     let fits_new : FitsTable parted new =
-    fits-across whole parted outer inner its.chain its.first_corner its.last_corner its.one its.left its.right its.others its.is its.rings its.parts its.long first rest its.more moved old mid new left_one.has left_one.origin left_one.faces
+    fits-across whole parted outer inner its.chain its.first_corner its.last_corner its.one its.left its.right its.others its.is its.rings its.parts its.long first rest its.more moved old mid new left_one.halves.has left_one.halves.origin left_one.faces
     local labels c.relabel_each.ensures.linked its.along first_side last_side ends its.of fits in
     let two_mid =
-    two-mid whole parted outer inner its.chain its.first_corner its.last_corner its.one its.left its.right its.others its.is its.rings its.parts its.long first rest its.more moved old mid new left_one.has left_one.origin left_one.faces
+    two-mid whole parted outer inner its.chain its.first_corner its.last_corner its.one its.left its.right its.others its.is its.rings its.parts its.long first rest its.more moved old mid new left_one.halves.has left_one.halves.origin left_one.faces
     local labels c.relabel_each.ensures.linked its.along first_side last_side ends its.of fits in
     let along_mid =
-    along-mid whole parted outer inner its.chain its.first_corner its.last_corner its.one its.left its.right its.others its.is its.rings its.parts its.long first rest its.more moved old mid new left_one.has left_one.origin left_one.faces
+    along-mid whole parted outer inner its.chain its.first_corner its.last_corner its.one its.left its.right its.others its.is its.rings its.parts its.long first rest its.more moved old mid new left_one.halves.has left_one.halves.origin left_one.faces
     local labels c.relabel_each.ensures.linked its.along first_side last_side ends its.of fits in
     let both = subst (λ (h : Half). KeepsBoth (face_place inner) (face_place outer) first h c.hand_over.new.kept c.keep_both.new.kept) c.twin-back.ensures.is c.keep_both.ensures.both in (
       fits_new,
-      chain-kept whole parted outer inner its.chain its.first_corner its.last_corner its.one its.left its.right its.others its.is its.rings its.parts its.long its.two none first rest its.more old mid new left_one.origin labels.origin fits local two_mid fits_new along_mid
+      chain-kept whole parted outer inner its.chain its.first_corner its.last_corner its.one its.left its.right its.others its.is its.rings its.parts its.long its.two none first rest its.more old mid new left_one.halves.origin labels.origin fits local two_mid fits_new along_mid
           left_one.faces c.args.kept.now c.hand_over.new.kept c.keep_both.new.kept c.hand_over-2.new.kept goes.1 c.hand_over.ensures.hands both c.hand_over-2.ensures.hands,
     )

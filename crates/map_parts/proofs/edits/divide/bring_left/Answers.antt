@@ -53,8 +53,7 @@ returns g c =
           local-kept parted mid new (λ h shown. labels.has h) (λ h shown. labels.next h) (λ h shown. labels.origin h) c.relabel.ensures.linked
           (chained.local whole parted chain fc lc rings parts long law more (along-same old lone each.origin (a ∷ rest) (sides_of_chain chain) along)
           (ends-same old lone each.origin each.has parted.strings ends) (half-same old lone each.origin each.has start_on) (half-same old lone each.origin each.has end_on) local_lone);
-      has = λ h. labels.has h ∙ chained.halves.has h ∙ each.has h;
-      origin = λ h. labels.origin h ∙ chained.halves.origin h ∙ each.origin h;
+      halves = record { has = λ h. labels.has h ∙ chained.halves.has h ∙ each.has h; origin = λ h. labels.origin h ∙ chained.halves.origin h ∙ each.origin h };
       linked = c.relabel.ensures.linked;
       work =
           let w = c.args.table.now.work in

@@ -54,7 +54,7 @@ hand_over-requires-2-clause-within g c =
     let away : ¬ (c.face_place.result ≡ outer) = λ e. c.requires.path.faces (sym (sym c.face_place.ensures ∙ e)) in
     let items = items-of c.face_place.result outer c.hand_over.new.kept c.clear.new.kept c.clear.ensures.others away in
     subst (AreIn new) (sym items)
-    (in-relabelled old new (items_at c.hand_over.new.kept outer) (λ h. c.take_left.ensures.has h ∙ c.relabel_each.ensures.relabels.has h)
+    (in-relabelled old new (items_at c.hand_over.new.kept outer) (λ h. c.take_left.ensures.halves.has h ∙ c.relabel_each.ensures.relabels.has h)
     (in-handed old c.relabel_each.new.table.rows inner outer c.args.kept.now c.hand_over.new.kept c.hand_over.ensures.hands c.requires.path.inner_in c.requires.path.outer_in))
 
 pub hand_over-requires-2-clause-room : goal.hand_over-requires-2-clause-room
@@ -88,8 +88,8 @@ keep_one-requires-clause-room g c =
 
 pub returns-clause-halves : goal.returns-clause-halves
 returns-clause-halves g c = record {
-  has = λ h. c.take_left.ensures.has h ∙ c.relabel_each.ensures.relabels.has h;
-  origin = λ h. c.take_left.ensures.origin h ∙ c.relabel_each.ensures.relabels.origin h;
+  has = λ h. c.take_left.ensures.halves.has h ∙ c.relabel_each.ensures.relabels.has h;
+  origin = λ h. c.take_left.ensures.halves.origin h ∙ c.relabel_each.ensures.relabels.origin h;
 }
 
 pub returns-clause-kept : goal.returns-clause-kept

@@ -54,8 +54,7 @@ returns g c =
           local-kept whole out new (λ h shown. each.has h) (λ h shown. each.next h) (λ h shown. each.origin h) c.relabel_path.ensures.linked
           (taken.local whole parted chain fc lc parts long law more (along-same old one labels.origin (a ∷ rest) (sides_of_chain chain) along) before);
       loose = subst (λ (n : Half → Half). AreLoose n (a ∷ rest)) (λ i h. sym (each.next h) i) taken.loose;
-      has = λ h. each.has h ∙ taken.halves.has h ∙ labels.has h;
-      origin = λ h. each.origin h ∙ taken.halves.origin h ∙ labels.origin h;
+      halves = record { has = λ h. each.has h ∙ taken.halves.has h ∙ labels.has h; origin = λ h. each.origin h ∙ taken.halves.origin h ∙ labels.origin h };
       linked = c.relabel_path.ensures.linked;
       work =
           let w = c.args.table.now.work in

@@ -13,7 +13,7 @@ use Rattle.map_parts.proofs.edits.enclose.bring_in.Goals as goal
 
 pub hand_over-requires-clause-within : goal.hand_over-requires-clause-within
 hand_over-requires-clause-within g c =
-    in-relabelled c.args.table.now.rows c.bring_island.new.table.rows (items_at c.args.kept.now (face_place c.args.outer.now)) c.bring_island.ensures.has c.requires.kept_in
+    in-relabelled c.args.table.now.rows c.bring_island.new.table.rows (items_at c.args.kept.now (face_place c.args.outer.now)) c.bring_island.ensures.halves.has c.requires.kept_in
 
 pub hand_over-requires-clause-room : goal.hand_over-requires-clause-room
 hand_over-requires-clause-room g c = let room = c.requires.inner_room in omega (arith, room)
@@ -61,7 +61,7 @@ returns-clause-island g c = λ whole parted its none ends goes.
     let is_outer = c.face_place-outer_key.ensures in
     let fits_new : FitsTable parted new = c.bring_island.ensures.island whole parted its.ring its.left its.right its.others its.rings its.parts its.is its.more its.along ends its.of goes.0 in
     let on = first-on whole parted c.args.outer.now c.args.inner.now its.ring its.left its.right its.others its.is its.parts first c.args.rest.now its.more c.args.moved.now new
-    (along-same old new c.bring_island.ensures.origin path (sides_of its.ring) its.along) in
+    (along-same old new c.bring_island.ensures.halves.origin path (sides_of its.ring) its.along) in
     let far_inner : ¬ (c.face_place-outer_key.result ≡ inner) = λ e. c.requires.faces (sym is_outer ∙ e) in
     let far_outer : ¬ (c.face_place-inner_key.result ≡ outer) = λ e. c.requires.faces (sym (sym is_inner ∙ e)) in
     let at_inner : items_at now inner ≡ items_at mid inner ++ first ∷ [] =
@@ -75,7 +75,7 @@ returns-clause-island g c = λ whole parted its none ends goes.
           (λ n away far.
           items-of c.face_place-outer_key.result n one now c.put-2.ensures.others (λ e. away (sym is_outer ∙ e))
           ∙ items-of c.face_place-inner_key.result n mid one c.put.ensures.others (λ e. far (sym is_inner ∙ e)))
-          none on.0 on.1 (home-comes whole parted c.args.outer.now c.args.inner.now its.ring its.left its.right its.others its.is its.parts path its.more old new c.bring_island.ensures.origin fits_new),
+          none on.0 on.1 (home-comes whole parted c.args.outer.now c.args.inner.now its.ring its.left its.right its.others its.is its.parts path its.more old new c.bring_island.ensures.halves.origin fits_new),
     )
 
 pub returns-clause-count : goal.returns-clause-count

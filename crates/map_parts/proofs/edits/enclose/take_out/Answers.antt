@@ -18,7 +18,7 @@ hand_over-requires-clause-differ g c = λ e. c.requires.path.faces (sym e)
 
 pub hand_over-requires-clause-within : goal.hand_over-requires-clause-within
 hand_over-requires-clause-within g c =
-    in-relabelled c.args.table.now.rows c.take_island.new.table.rows (items_at c.args.kept.now (face_place c.args.inner.now)) c.take_island.ensures.has c.requires.path.inner_in
+    in-relabelled c.args.table.now.rows c.take_island.new.table.rows (items_at c.args.kept.now (face_place c.args.inner.now)) c.take_island.ensures.halves.has c.requires.path.inner_in
 
 pub hand_over-requires-2-clause-within : goal.hand_over-requires-2-clause-within
 hand_over-requires-2-clause-within g c =
@@ -26,8 +26,8 @@ hand_over-requires-2-clause-within g c =
     let outer : ℕ = face_place c.args.outer.now in
     let inner : ℕ = face_place c.args.inner.now in
     in-handed new new inner outer c.args.kept.now c.hand_over.new.kept c.hand_over.ensures.hands
-    (in-relabelled c.args.table.now.rows new (items_at c.args.kept.now inner) c.take_island.ensures.has c.requires.path.inner_in)
-    (in-relabelled c.args.table.now.rows new (items_at c.args.kept.now outer) c.take_island.ensures.has c.requires.path.outer_in)
+    (in-relabelled c.args.table.now.rows new (items_at c.args.kept.now inner) c.take_island.ensures.halves.has c.requires.path.inner_in)
+    (in-relabelled c.args.table.now.rows new (items_at c.args.kept.now outer) c.take_island.ensures.halves.has c.requires.path.outer_in)
 
 pub hand_over-requires-2-clause-room : goal.hand_over-requires-2-clause-room
 hand_over-requires-2-clause-room g c =
@@ -75,6 +75,6 @@ returns-clause-island g c = λ whole parted its long ends goes.
           c.hand_over.ensures.hands c.hand_over-2.ensures.hands (subst (λ (k : ℕ). items_at c.clear.new.kept k ≡ []) key c.clear.ensures.none)
           (λ n away. items-of c.face_place.result n c.hand_over-2.new.kept c.clear.new.kept c.clear.ensures.others (λ e. away (sym key ∙ e)))
           (λ h b there here. c.take_island.ensures.faces h ∙ faces-told whole parted outer inner its.ring its.left its.right its.others its.is its.parts path its.more old fits differ first on.1 moved its.of h b there here)
-          (other-home whole parted outer inner its.ring its.left its.right its.others its.is its.parts path its.more old fits differ first on.1 moved its.of its.rings new c.take_island.ensures.origin fits_new.ends)
+          (other-home whole parted outer inner its.ring its.left its.right its.others its.is its.parts path its.more old fits differ first on.1 moved its.of its.rings new c.take_island.ensures.halves.origin fits_new.ends)
           (others-apart whole parted outer inner its.ring its.left its.right its.others its.is its.parts),
     )

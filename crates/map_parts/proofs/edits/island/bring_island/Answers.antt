@@ -21,13 +21,11 @@ relabel_each-requires-clause-within g c =
     in-relabelled c.args.table.now.rows c.relabel-2.new.self.rows c.args.moved.now
     (λ h. c.relabel-2.ensures.relabels.has h ∙ c.relabel.ensures.relabels.has h ∙ c.tie_ring.ensures.halves.has h) c.requires.moved_in
 
-pub returns-clause-has : goal.returns-clause-has
-returns-clause-has g c = λ h.
-    c.relabel_each.ensures.relabels.has h ∙ c.relabel-2.ensures.relabels.has h ∙ c.relabel.ensures.relabels.has h ∙ c.tie_ring.ensures.halves.has h
-
-pub returns-clause-origin : goal.returns-clause-origin
-returns-clause-origin g c = λ h.
-    c.relabel_each.ensures.relabels.origin h ∙ c.relabel-2.ensures.relabels.origin h ∙ c.relabel.ensures.relabels.origin h ∙ c.tie_ring.ensures.halves.origin h
+pub returns-clause-halves : goal.returns-clause-halves
+returns-clause-halves g c = record {
+  has = λ h. c.relabel_each.ensures.relabels.has h ∙ c.relabel-2.ensures.relabels.has h ∙ c.relabel.ensures.relabels.has h ∙ c.tie_ring.ensures.halves.has h;
+  origin = λ h. c.relabel_each.ensures.relabels.origin h ∙ c.relabel-2.ensures.relabels.origin h ∙ c.relabel.ensures.relabels.origin h ∙ c.tie_ring.ensures.halves.origin h;
+}
 
 pub returns-clause-island : goal.returns-clause-island
 returns-clause-island g c = λ whole parted ring left right others rings parts it more along ends of fits.

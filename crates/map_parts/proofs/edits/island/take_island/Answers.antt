@@ -21,13 +21,11 @@ pub untie_ring-requires-clause-round : goal.untie_ring-requires-clause-round
 untie_ring-requires-clause-round g c =
     subst (λ n. IsRound n c.args.first.now c.args.rest.now) (λ i h. sym (c.relabel.ensures.relabels.next h ∙ c.relabel_each.ensures.relabels.next h) i) c.requires.round
 
-pub returns-clause-has : goal.returns-clause-has
-returns-clause-has g c = λ h.
-    c.untie_ring.ensures.halves.has h ∙ c.relabel.ensures.relabels.has h ∙ c.relabel_each.ensures.relabels.has h
-
-pub returns-clause-origin : goal.returns-clause-origin
-returns-clause-origin g c = λ h.
-    c.untie_ring.ensures.halves.origin h ∙ c.relabel.ensures.relabels.origin h ∙ c.relabel_each.ensures.relabels.origin h
+pub returns-clause-halves : goal.returns-clause-halves
+returns-clause-halves g c = record {
+  has = λ h. c.untie_ring.ensures.halves.has h ∙ c.relabel.ensures.relabels.has h ∙ c.relabel_each.ensures.relabels.has h;
+  origin = λ h. c.untie_ring.ensures.halves.origin h ∙ c.relabel.ensures.relabels.origin h ∙ c.relabel_each.ensures.relabels.origin h;
+}
 
 pub returns-clause-faces : goal.returns-clause-faces
 returns-clause-faces g c = λ h.
