@@ -1,6 +1,7 @@
 -- What comes with a division or an enclosure, and what its record tells of it.
-use Rattle.std.proofs.Common.{◌≡◌, ap, sym, subst, List, map}
+use Rattle.std.proofs.Common.{◌≡◌, ap, refl, sym, subst, List, map}
 use Rattle.std.specs.Prelude.{Result}
+use Rattle.std.specs.Global.{Vec}
 use Rattle.cad_rows.specs.declared.names.Face.TheVariants.{Parcel}
 use Rattle.cad_rows.specs.declared.refusals.Refusal.{Refusal}
 use Rattle.cad_rows.specs.declared.rows.ParcelRow.{ParcelRow}
@@ -15,11 +16,12 @@ use Rattle.cad_surgery.specs.declared.edits.coming.Coming.{Coming}
 use Rattle.cad_surgery.specs.declared.edits.given.NewParcel.{NewParcel}
 use Rattle.cad_surgery.specs.declared.edits.merging.Way.{Way}
 use Rattle.cad_surgery.specs.declared.edits.merging.Way.TheVariants as way
-use Rattle.cad_surgery.specs.AddedParcels.{HeldParcel}
+use Rattle.cad_surgery.specs.AddedParcels.{HeldParcel, added_record}
 use Rattle.cad_surgery.specs.Enclosures.{parcel_by}
 use Rattle.cad_surgery.specs.NewParcels.{Comes, IsComing, edit_by}
 use Rattle.cad_surgery.specs.Proper.{IsProper}
 use Rattle.cad_surgery.specs.Trials.{IsPlayed}
+use Rattle.edit_records.specs.Record.{edit_of, Holds}
 use Rattle.map_parts.specs.Parts.{Parts, FitTogether, map_of, kept_at}
 use Rattle.cad_surgery.proofs.HeldDivisions.{holds}
 use Rattle.cad_surgery.proofs.OpenedDraft.{names}
@@ -42,6 +44,17 @@ pub held-so : (d : Parts) → FitTogether d → IsProper (map_of d) d.table.rows
     → HeldParcel w (after (map_of d) (edit_by w e)) (Parcel e.parcel) e.points.now moved
 held-so d fit proper e (way.Along start end) tried added row path moved comes = holds d fit proper e tried start end moved comes.crossing
 held-so d fit proper e way.Round tried added row path moved comes = names d fit e tried moved comes.holes
+
+-- the record of a parcel that came so is of its edit
+pub added-edit : (w : Way) (d : NewParcel) (moved : Vec Half) → edit_of (added_record w d moved) ≡ edit_by w d
+added-edit (way.Along start end) d moved = refl
+added-edit way.Round d moved = refl
+
+-- and it tells what was so
+pub added-holds : (w : Way) (d : NewParcel) (moved : Vec Half) (m : Map) → HeldParcel w (after m (edit_by w d)) (Parcel d.parcel) d.points.now moved.items
+    → Holds (added_record w d moved) m
+added-holds (way.Along start end) d moved m held = held
+added-holds way.Round d moved m held = held
 
 -- the same edit, played by another name of its way
 pub played-as : {A : Type 0} {w v : Way} (d : NewParcel) {old new : Parts} {r : Result A Refusal} → w ≡ v → IsPlayed (edit_by w d) old new r → IsPlayed (edit_by v d) old new r

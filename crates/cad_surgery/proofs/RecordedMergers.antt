@@ -1,7 +1,10 @@
 -- What the record of a merger tells was so, along a chain or round an island.
-use Rattle.std.proofs.Common.{◌≡◌, ℕ, sym, subst, ◌∙◌, List, [], ◌∷◌, length-append, slice_get, Some, arith}
+use Rattle.std.proofs.Common.{◌≡◌, ℕ, refl, sym, subst, ◌∙◌, List, [], ◌∷◌, length-append, slice_get, Some, arith}
+use Rattle.std.specs.Global.{Vec}
 use Rattle.std.specs.List.{AllByRecursion}
+use Rattle.cad_rows.specs.declared.edits.Edit.TheVariants.{Merge}
 use Rattle.cad_rows.specs.declared.names.Face.{Face}
+use Rattle.cad_rows.specs.declared.names.Face.TheVariants.{Parcel}
 use Rattle.cad_rows.specs.declared.rows.ParcelRow.{ParcelRow}
 use Rattle.cad_map.specs.Chain.{start_of}
 use Rattle.cad_map.specs.Map.{Map}
@@ -9,7 +12,8 @@ use Rattle.half_table.specs.declared.half.Half.{Half}
 use Rattle.half_table.specs.Rows.{HalfRows}
 use Rattle.half_paths.specs.Path.{strings_of}
 use Rattle.edit_records.specs.HeldChains.{closed}
-use Rattle.edit_records.specs.Record.{HeldMergedIsland}
+use Rattle.edit_records.specs.Record.{HeldMergedIsland, edit_of, Holds}
+use Rattle.edit_records.specs.declared.record.ChainString.{ChainString}
 use Rattle.map_parts.specs.declared.edits.placed_strings.PlacedString.{PlacedString}
 use Rattle.map_parts.specs.Parts.{HasHalves}
 use Rattle.map_parts.specs.PlacedStrings.{numbers_placed, StoodIn}
@@ -20,7 +24,7 @@ use Rattle.cad_surgery.specs.declared.edits.merging.Way.TheVariants as way
 use Rattle.cad_surgery.specs.ChainStrings.{with_halves}
 use Rattle.cad_surgery.specs.IslandMergers.{HasSharedRing}
 use Rattle.cad_surgery.specs.Merging.{HasFound, HasShared}
-use Rattle.cad_surgery.specs.ToldMergers.{HeldMerger}
+use Rattle.cad_surgery.specs.ToldMergers.{HeldMerger, merger_record}
 use Rattle.cad_surgery.proofs.HeldIslandMergers.{closed-sides}
 use Rattle.cad_surgery.proofs.MergersTried.{path-points}
 use Rattle.cad_surgery.proofs.RecordedStrings.{strings-held}
@@ -30,6 +34,18 @@ pub found-shared : (w : Way) (m : Map) (rows : HalfRows) (kept : Face) (ended : 
     → HasShared w m rows kept ended path moved
 found-shared (way.Along start end) m rows kept ended path points moved it = it.merger
 found-shared way.Round m rows kept ended path points moved it = it.merger
+
+-- the record of a merger is of it
+pub merger-edit : (w : Way) (kept : Face) (row : ParcelRow) (place : ℕ) (points : List ℕ) (strings : Vec ChainString) (moved : Vec Half)
+    → edit_of (merger_record w kept row place points strings moved) ≡ Merge kept (Parcel row.number)
+merger-edit (way.Along start end) kept row place points strings moved = refl
+merger-edit way.Round kept row place points strings moved = refl
+
+-- and it tells what was so
+pub merger-holds : (w : Way) (kept : Face) (row : ParcelRow) (place : ℕ) (points : List ℕ) (strings : Vec ChainString) (moved : Vec Half) (m : Map)
+    → HeldMerger w m kept row place points strings.items moved.items → Holds (merger_record w kept row place points strings moved) m
+merger-holds (way.Along start end) kept row place points strings moved m held = held
+merger-holds way.Round kept row place points strings moved m held = held
 
 module _ (m : Map) (rows : HalfRows) (ends : AllByRecursion (HasHalves rows) m.strings) (kept : Face) (row : ParcelRow) (place : ℕ) (path : List Half) (points : List ℕ) (moved : List Half)
     (gone : List PlacedString) (numbers : numbers_placed gone ≡ strings_of path) (stood : StoodIn m.strings gone) (at : slice_get m.parcels place ≡ Some row) where

@@ -1,5 +1,6 @@
 -- A parcel that came by a division or an enclosure, by its record: what it tells, and how it is taken out.
 use Rattle.std.specs.Prelude.{◌≡◌, ◌<◌, ℕ, ⊤, List, length, Result, OnOk, OnErr}
+use Rattle.std.specs.Global.{Vec}
 use Rattle.cad_rows.specs.declared.names.Face.{Face}
 use Rattle.cad_rows.specs.declared.names.Face.TheVariants.{Parcel}
 use Rattle.cad_map.specs.Effects.{after}
@@ -30,6 +31,13 @@ abbrev pub IsOfParcel : SmallRecord → Type 0
 IsOfParcel (change.Divide face chain strings parcel label source start end moved) = ⊤
 IsOfParcel (change.Enclose face points strings parcel label source moved) = ⊤
 IsOfParcel _ = ⊥
+
+-- the record of a parcel that came so, with one half of each ring that passed over to it
+abbrev pub added_record : Way → NewParcel → Vec Half → SmallRecord
+added_record (way.Along start end) d moved =
+    change.Divide d.face d.points.now d.strings.now d.parcel d.label.now d.source start end moved
+added_record way.Round d moved =
+    change.Enclose d.face d.points.now d.strings.now d.parcel d.label.now d.source moved
 
 -- what the record tells of the map after it: what follows the chain, and the parcel's other rings
 abbrev pub HeldParcel : Way → Map → Face → List ℕ → List Half → Type 0

@@ -1,5 +1,6 @@
 -- A merger by its record, along a chain or round an island: what it tells, and how it is taken back.
 use Rattle.std.specs.Prelude.{◌≡◌, ℕ, ◌+◌, ◌*◌, ◌<◌, ◌≤◌, ⊤, true, if◌then◌else◌, List, [], ◌∷◌, map, length, Result, OnOk, OnErr}
+use Rattle.std.specs.Global.{Vec}
 use Rattle.cad_rows.specs.declared.edits.Edit.TheVariants.{Merge}
 use Rattle.cad_rows.specs.declared.names.Face.{Face}
 use Rattle.cad_rows.specs.declared.names.Face.TheVariants.{Parcel}
@@ -36,6 +37,13 @@ abbrev pub IsOfMerge : SmallRecord → Type 0
 IsOfMerge (change.MergeAlong kept row place chain strings start end moved) = ⊤
 IsOfMerge (change.MergeIsland kept row place points strings moved) = ⊤
 IsOfMerge _ = ⊥
+
+-- the record of a merger that went so, with the points along what the two shared
+abbrev pub merger_record : Way → Face → ParcelRow → ℕ → List ℕ → Vec ChainString → Vec Half → SmallRecord
+merger_record (way.Along start end) kept row place points strings moved =
+    change.MergeAlong kept row place points strings start end moved
+merger_record way.Round kept row place points strings moved =
+    change.MergeIsland kept row place points strings moved
 
 -- what the record tells of the map before it: what the two shared, the parcel's row and the strings
 abbrev pub HeldMerger : Way → Map → Face → ParcelRow → ℕ → List ℕ → List ChainString → List Half → Type 0

@@ -1,12 +1,8 @@
 //! A division or an enclosure on a map on half-edges: tried, and taken back where it breaks a rule.
 ghost use Rattle.std.specs.Prelude.{◌≡◌};
-ghost use Rattle.cad_map.specs.Effects.{after};
-ghost use Rattle.cad_map.specs.Map.{Map};
-ghost use Rattle.cad_rows.specs.declared.names.Face.TheVariants.{Parcel};
-ghost use Rattle.cad_surgery.specs.AddedParcels.{HeldParcel};
+ghost use Rattle.cad_surgery.specs.AddedParcels.{added_record};
 ghost use Rattle.cad_surgery.specs.NewParcels.{Comes, edit_asked, edit_by};
 ghost use Rattle.cad_surgery.specs.Trials.{IsReadyFor, IsTrialOf};
-ghost use Rattle.edit_records.specs.Record.{edit_of, Holds};
 ghost use Rattle.map_parts.specs.Parts.{map_of};
 
 use crate::draft::Draft;
@@ -27,9 +23,7 @@ fn record_of_parcel(new: &NewParcel<'_>, kept: Kept, lead: Lead) -> SmallRecord
       strings = new.now.strings.now;
       label = new.now.label.now;
     } }
-    ensures edit { edit_of result ≡ edit_by lead.way new.now }
-    ensures holds { (m : Map) → HeldParcel lead.way (after m (edit_by lead.way new.now))
-        (Parcel new.now.parcel) new.now.points.now lead.moved.items → Holds result m }
+    ensures { result ≡ added_record lead.way new.now lead.moved }
 {
     let Lead { way, moved, .. } = lead;
     match way {

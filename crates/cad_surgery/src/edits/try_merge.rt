@@ -3,11 +3,9 @@
 ghost use Rattle.std.specs.Prelude.{◌≡◌};
 ghost use Rattle.cad_rows.specs.declared.edits.Edit.TheVariants.{Merge};
 ghost use Rattle.cad_rows.specs.declared.names.Face.TheVariants.{Parcel};
-ghost use Rattle.cad_map.specs.Map.{Map};
 ghost use Rattle.cad_map.specs.SharedChains.{IsSharedChain};
-ghost use Rattle.cad_surgery.specs.ToldMergers.{HeldMerger};
+ghost use Rattle.cad_surgery.specs.ToldMergers.{merger_record};
 ghost use Rattle.cad_surgery.specs.Trials.{IsReadyFor, IsTrialOf};
-ghost use Rattle.edit_records.specs.Record.{edit_of, Holds};
 ghost use Rattle.map_parts.specs.Parts.{map_of};
 
 use crate::draft::Draft;
@@ -30,9 +28,7 @@ fn record_of_merger(
     shared: Shared,
     strings: Vec<ChainString>,
 ) -> SmallRecord
-    ensures edit { edit_of result ≡ Merge kept (Parcel row.number) }
-    ensures holds { (m : Map) → HeldMerger shared.way m kept row place shared.points strings.items
-        shared.moved.items → Holds result m }
+    ensures { result ≡ merger_record shared.way kept row place shared.points strings shared.moved }
 {
     let Shared {
         way,

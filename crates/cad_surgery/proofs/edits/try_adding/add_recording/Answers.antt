@@ -1,10 +1,12 @@
-use Rattle.std.proofs.Common.{sym, subst, List}
+use Rattle.std.proofs.Common.{◌∙◌, ap, sym, subst, List}
 use Rattle.half_table.specs.declared.half.Half.{Half}
+use Rattle.edit_records.specs.Record.{edit_of, Holds}
+use Rattle.edit_records.specs.declared.record.SmallRecord.{SmallRecord}
 use Rattle.map_parts.specs.Parts.{FitTogether, map_of}
 use Rattle.cad_surgery.specs.declared.edits.merging.Way.{Way}
 use Rattle.cad_surgery.specs.NewParcels.{Comes, edit_by}
 use Rattle.cad_surgery.specs.Trials.{IsReadyFor}
-use Rattle.cad_surgery.proofs.ComingParcels.{held-so, played-as}
+use Rattle.cad_surgery.proofs.ComingParcels.{added-edit, added-holds, held-so, played-as}
 use Rattle.cad_surgery.proofs.Trials.{passes-on, played-with}
 use Rattle.cad_surgery.proofs.edits.try_adding.add_recording.Goals as goal
 
@@ -29,7 +31,7 @@ returns g c =
     let lead = c.args.coming.lead in
     record {
       played = played-with (played-as c.args.new.now c.course_of-course.ensures.way c.in_ok-add_within_rules.ensures);
-      edit = c.record_of_parcel.ensures.edit;
-      holds = c.record_of_parcel.ensures.holds (map_of d)
-          (held-so d (subst FitTogether c.draft.view_is c.draft.invariant) c.requires.ready.proper c.args.new.now lead.way c.requires.ready.tried c.args.coming.strings.items c.args.coming.parcel lead.path.items lead.moved.items c.requires.comes);
+      edit = ap edit_of c.record_of_parcel.ensures ∙ added-edit lead.way c.args.new.now lead.moved;
+      holds = subst (λ (r : SmallRecord). Holds r (map_of d)) (sym c.record_of_parcel.ensures) (added-holds lead.way c.args.new.now lead.moved (map_of d)
+          (held-so d (subst FitTogether c.draft.view_is c.draft.invariant) c.requires.ready.proper c.args.new.now lead.way c.requires.ready.tried c.args.coming.strings.items c.args.coming.parcel lead.path.items lead.moved.items c.requires.comes));
     }
