@@ -1,5 +1,5 @@
 -- A parcel that comes by a division or an enclosure: how it begins to come, and goes out again.
-use Rattle.std.specs.Prelude.{◌≡◌, ◌<◌, ◌≤◌, ◌+◌, ◌*◌, ℕ, true, false, if◌then◌else◌, List, [], ◌∷◌, map, length, Result, OnOk, OnErr}
+use Rattle.std.specs.Prelude.{◌≡◌, ◌<◌, ◌≤◌, ◌+◌, ◌*◌, ℕ, ⊤, true, false, if◌then◌else◌, List, [], ◌∷◌, map, length, Result, OnOk, OnErr}
 use Rattle.cad_rows.specs.declared.edits.Edit.{Edit}
 use Rattle.cad_rows.specs.declared.edits.Edit.TheVariants.{Divide, Enclose}
 use Rattle.cad_rows.specs.declared.names.Face.{Face}
@@ -20,6 +20,7 @@ use Rattle.cad_laws.specs.Counts.{sides_of_face}
 use Rattle.cad_laws.specs.Local.{IsShown}
 use Rattle.cad_laws.specs.Tried.{IsTried}
 use Rattle.cad_surgery.specs.declared.edits.coming.Coming.{Coming}
+use Rattle.cad_surgery.specs.declared.edits.given.Kept.{Kept}
 use Rattle.cad_surgery.specs.declared.edits.given.Kind.{Kind}
 use Rattle.cad_surgery.specs.declared.edits.given.Kind.TheVariants as kind
 use Rattle.cad_surgery.specs.declared.edits.given.NewParcel.{NewParcel}
@@ -45,10 +46,15 @@ abbrev pub edit_as : Kind → NewParcel → Edit
 edit_as kind.Divide d = divided_by d
 edit_as kind.Enclose d = enclosed_by d
 
--- the edit as it is asked for
-abbrev pub edit_asked : Kind → (face : Face) → (points strings : List ℕ) → (parcel : ℕ) → (label : List ℕ) → (source : ℕ) → Edit
-edit_asked kind.Divide face points strings parcel label source = Divide face points strings parcel label source
-edit_asked kind.Enclose face points strings parcel label source = Enclose face points strings parcel label source
+-- the edit is a division or an enclosure
+abbrev pub BringsParcel : Edit → Type 0
+BringsParcel (Divide face chain strings parcel label source) = ⊤
+BringsParcel (Enclose face points strings parcel label source) = ⊤
+BringsParcel _ = ⊥
+
+-- what its record keeps of it
+abbrev pub kept_by : NewParcel → Kept
+kept_by d = record { points = d.points.now; strings = d.strings.now; label = d.label.now }
 
 -- what comes with it: its rows, and the halves
 abbrev pub Comes : Way → Map → HalfRows → NewParcel → List StringRow → ParcelRow → List Half → List Half → Type 0

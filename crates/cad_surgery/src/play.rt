@@ -20,7 +20,6 @@ ghost use Rattle.cad_surgery.specs.Work.{TakesWork};
 
 use crate::draft::Draft;
 use crate::edits::added::{back_added, forward_added};
-use crate::edits::given::Kind;
 use crate::edits::merged::{back_merge, forward_merge};
 use crate::edits::try_adding::try_adding;
 use crate::edits::try_join::{back_join, forward_join, try_join};
@@ -105,42 +104,7 @@ fn try_edit<T: Tally>(
             try_split(draft, *string, &halving, touched)
         }
         Edit::Join { point, string } => try_join(draft, *point, *string, touched),
-        Edit::Enclose {
-            face,
-            points,
-            strings,
-            parcel,
-            label,
-            source,
-        } => try_adding(
-            draft,
-            Kind::Enclose,
-            *face,
-            points,
-            strings,
-            *parcel,
-            label,
-            *source,
-            touched,
-        ),
-        Edit::Divide {
-            face,
-            chain,
-            strings,
-            parcel,
-            label,
-            source,
-        } => try_adding(
-            draft,
-            Kind::Divide,
-            *face,
-            chain,
-            strings,
-            *parcel,
-            label,
-            *source,
-            touched,
-        ),
+        Edit::Divide { .. } | Edit::Enclose { .. } => try_adding(draft, edit, touched),
         Edit::Merge { kept, ended } => try_merge(draft, *kept, *ended, touched),
         _ => try_rows(draft, edit, touched),
     }

@@ -16,7 +16,7 @@ use crate::draft::Draft;
 use crate::edits::adding::{Course, add_again};
 use crate::edits::coming::{Coming, coming_round, coming_with, course_of};
 use crate::edits::counted::is_work_in_range;
-use crate::edits::given::{NewParcel, first_and_rest, halves_of};
+use crate::edits::given::{NewParcel, first_and_rest, halves_of, new_parcel};
 use crate::edits::hidden::drop_hidden;
 use crate::edits::merging::Way;
 use cad_edit::rows_along;
@@ -53,14 +53,7 @@ fn parcel_told(change: &SmallRecord) -> Added<'_>
             end,
             moved,
         } => Added {
-            new: NewParcel {
-                face: *face,
-                points: chain.as_slice(),
-                strings: strings.as_slice(),
-                parcel: *parcel,
-                label,
-                source: *source,
-            },
+            new: new_parcel(*face, chain, strings, *parcel, label, *source),
             way: Way::Along {
                 start: *start,
                 end: *end,
@@ -76,14 +69,7 @@ fn parcel_told(change: &SmallRecord) -> Added<'_>
             source,
             moved,
         } => Added {
-            new: NewParcel {
-                face: *face,
-                points: points.as_slice(),
-                strings: strings.as_slice(),
-                parcel: *parcel,
-                label,
-                source: *source,
-            },
+            new: new_parcel(*face, points, strings, *parcel, label, *source),
             way: Way::Round,
             moved: moved.as_slice(),
         },

@@ -2,11 +2,12 @@
 ghost use Rattle.std.specs.Prelude.{◌≡◌, ◌<◌, ◌≤◌, ◌∷◌, ◌++◌, [], length, map as map_by, IfOk};
 ghost use Rattle.cad_map.specs.Chain.{start_of};
 ghost use Rattle.half_table.specs.Half.{forward_of};
-ghost use Rattle.cad_surgery.specs.declared.edits.given.Kind.{Kind as KindOf};
 ghost use Rattle.cad_surgery.specs.Enclosures.{parcel_by};
-ghost use Rattle.cad_surgery.specs.NewParcels.{edit_as, edit_asked};
+ghost use Rattle.cad_surgery.specs.NewParcels.{BringsParcel, edit_as, kept_by};
 
-use cad_rows::{Face, Label, Memory, Numbers, ParcelNo, ParcelRow, PointNo, SourceNo, StringNo};
+use cad_rows::{
+    Edit, Face, Label, Memory, Numbers, ParcelNo, ParcelRow, PointNo, SourceNo, StringNo,
+};
 use half_table::Half;
 use map_parts::forward;
 use std::alloc::Global;
@@ -27,6 +28,32 @@ pub(crate) struct NewParcel<'a> {
     pub(crate) parcel: ParcelNo,
     pub(crate) label: &'a Label,
     pub(crate) source: SourceNo,
+}
+
+/// What a division or an enclosure names and gives, in the lists in which it does.
+pub(crate) fn new_parcel<'a>(
+    face: Face,
+    points: &'a Numbers<PointNo>,
+    strings: &'a Numbers<StringNo>,
+    parcel: ParcelNo,
+    label: &'a Label,
+    source: SourceNo,
+) -> NewParcel<'a>
+    ensures face { result.face ≡ face }
+    ensures points { result.points.now ≡ points.now }
+    ensures strings { result.strings.now ≡ strings.now }
+    ensures parcel { result.parcel ≡ parcel }
+    ensures label { result.label.now ≡ label.now }
+    ensures source { result.source ≡ source }
+{
+    NewParcel {
+        face,
+        points: points.as_slice(),
+        strings: strings.as_slice(),
+        parcel,
+        label,
+        source,
+    }
 }
 
 /// The row of its parcel.
@@ -100,35 +127,44 @@ fn kept_of(
 /// What a division or an enclosure names and gives, with what its record keeps of it.
 #[derive(Drop)]
 pub(crate) struct Given<'a> {
+    pub(crate) kind: Kind,
     pub(crate) new: NewParcel<'a>,
     pub(crate) kept: Kept,
 }
 
 /// What an edit gives, and copies of it.
-pub(crate) fn given_by<'a>(
-    face: Face,
-    points: &'a Numbers<PointNo>,
-    strings: &'a Numbers<StringNo>,
-    parcel: ParcelNo,
-    label: &'a Label,
-    source: SourceNo,
-) -> Result<Given<'a>, Memory>
-    ensures edit { IfOk result (λ g. (kind : KindOf) → edit_as kind g.new
-        ≡ edit_asked kind face points.now strings.now parcel label.now source) }
-    ensures kept { IfOk result (λ g. g.kept ≡ record {
-      points = g.new.points.now;
-      strings = g.new.strings.now;
-      label = g.new.label.now;
-    }) }
+pub(crate) fn given_by(edit: &Edit) -> Result<Given<'_>, Memory>
+    requires { BringsParcel edit.now }
+    ensures edit { IfOk result (λ g. edit_as g.kind g.new ≡ edit.now) }
+    ensures kept { IfOk result (λ g. g.kept ≡ kept_by g.new) }
 {
-    let kept = kept_of(points, strings, label)?;
-    let new = NewParcel {
-        face,
-        points: points.as_slice(),
-        strings: strings.as_slice(),
-        parcel,
-        label,
-        source,
-    };
-    Ok(Given { new, kept })
+    match edit {
+        Edit::Divide {
+            face,
+            chain,
+            strings,
+            parcel,
+            label,
+            source,
+        } => {
+            let kind = Kind::Divide;
+            let new = new_parcel(*face, chain, strings, *parcel, label, *source);
+            let kept = kept_of(chain, strings, label)?;
+            Ok(Given { kind, new, kept })
+        }
+        Edit::Enclose {
+            face,
+            points,
+            strings,
+            parcel,
+            label,
+            source,
+        } => {
+            let kind = Kind::Enclose;
+            let new = new_parcel(*face, points, strings, *parcel, label, *source);
+            let kept = kept_of(points, strings, label)?;
+            Ok(Given { kind, new, kept })
+        }
+        _ => unreachable!(),
+    }
 }

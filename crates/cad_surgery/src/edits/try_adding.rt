@@ -1,7 +1,7 @@
 //! A division or an enclosure on a map on half-edges: tried, and taken back where it breaks a rule.
 ghost use Rattle.std.specs.Prelude.{◌≡◌};
 ghost use Rattle.cad_surgery.specs.AddedParcels.{added_record};
-ghost use Rattle.cad_surgery.specs.NewParcels.{Comes, edit_asked, edit_by};
+ghost use Rattle.cad_surgery.specs.NewParcels.{BringsParcel, Comes, edit_by, kept_by};
 ghost use Rattle.cad_surgery.specs.Trials.{IsReadyFor, IsTrialOf};
 ghost use Rattle.map_parts.specs.Parts.{map_of};
 
@@ -9,20 +9,16 @@ use crate::draft::Draft;
 use crate::edits::adding::add_within_rules;
 use crate::edits::coming::{Coming, Lead, coming_by, course_of};
 use crate::edits::counted::is_work_in_range;
-use crate::edits::given::{Given, Kept, Kind, NewParcel, given_by};
+use crate::edits::given::{Given, Kept, NewParcel, given_by};
 use crate::edits::merging::Way;
-use cad_rows::{Face, Label, Numbers, ParcelNo, PointNo, Refusal, SourceNo, StringNo};
+use cad_rows::{Edit, Refusal};
 use cad_valid::Touched;
 use edit_records::SmallRecord;
 use half_table::Tally;
 
 // The record of a parcel that came so, with what it keeps of the edit.
 fn record_of_parcel(new: &NewParcel<'_>, kept: Kept, lead: Lead) -> SmallRecord
-    requires { kept ≡ record {
-      points = new.now.points.now;
-      strings = new.now.strings.now;
-      label = new.now.label.now;
-    } }
+    requires { kept ≡ kept_by new.now }
     ensures { result ≡ added_record lead.way new.now lead.moved }
 {
     let Lead { way, moved, .. } = lead;
@@ -61,11 +57,7 @@ fn add_recording<T: Tally>(
     requires ready { IsReadyFor (edit_by coming.lead.way new.now) draft.old touched.now }
     requires comes { Comes coming.lead.way (map_of draft.old) draft.old.table.rows new.now
         coming.strings.items coming.parcel coming.lead.path.items coming.lead.moved.items }
-    requires kept { kept ≡ record {
-      points = new.now.points.now;
-      strings = new.now.strings.now;
-      label = new.now.label.now;
-    } }
+    requires kept { kept ≡ kept_by new.now }
     ensures { IsTrialOf (edit_by coming.lead.way new.now) draft.old draft.new result }
 {
     is_work_in_range(&draft.table);
@@ -81,26 +73,19 @@ fn add_recording<T: Tally>(
 
 /// Divides a face, or encloses a part of it, and takes it back where it breaks a rule. The grid holds
 /// the strings and points of the map after it.
-pub(crate) fn try_adding<'a, T: Tally>(
+pub(crate) fn try_adding<T: Tally>(
     draft: &mut Draft<T>,
-    kind: Kind,
-    face: Face,
-    points: &'a Numbers<PointNo>,
-    strings: &'a Numbers<StringNo>,
-    parcel: ParcelNo,
-    label: &'a Label,
-    source: SourceNo,
+    edit: &Edit,
     touched: &Touched,
 ) -> Result<SmallRecord, Refusal>
-    requires { IsReadyFor (edit_asked kind face points.now strings.now parcel label.now source)
-        draft.old touched.now }
-    ensures { IsTrialOf (edit_asked kind face points.now strings.now parcel label.now source)
-        draft.old draft.new result }
+    requires parcel { BringsParcel edit.now }
+    requires ready { IsReadyFor edit.now draft.old touched.now }
+    ensures { IsTrialOf edit.now draft.old draft.new result }
 {
-    let Ok(given) = given_by(face, points, strings, parcel, label, source) else {
+    let Ok(given) = given_by(edit) else {
         return Err(Refusal::Memory);
     };
-    let Given { new, kept } = given;
+    let Given { kind, new, kept } = given;
     let Ok(coming) = coming_by(draft, kind, &new) else {
         return Err(Refusal::Memory);
     };

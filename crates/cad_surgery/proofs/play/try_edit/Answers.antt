@@ -1,4 +1,4 @@
-use Rattle.std.proofs.Common.{subst, sym}
+use Rattle.std.proofs.Common.{inl, inr, subst, sym}
 use Rattle.map_parts.specs.Parts.{map_of}
 use Rattle.cad_surgery.specs.Trials.{IsReadyFor, IsTrialOf}
 use Rattle.edit_records.proofs.GridEdits.{on_map, split-on}
@@ -31,17 +31,8 @@ try_join-requires g c = rw c.in-Join.is at c.requires
 pub returns-in-Join : goal.returns-in-Join
 returns-in-Join g c = rw c.in-Join.is c.try_join.ensures
 
-pub try_adding-requires : goal.try_adding-requires
-try_adding-requires g c = rw c.in-Enclose.is at c.requires
-
-pub returns-in-Enclose : goal.returns-in-Enclose
-returns-in-Enclose g c = rw c.in-Enclose.is c.try_adding.ensures
-
-pub try_adding-requires-in-Divide : goal.try_adding-requires-in-Divide
-try_adding-requires-in-Divide g c = rw c.in-Divide.is at c.requires
-
-pub returns-in-Divide : goal.returns-in-Divide
-returns-in-Divide g c = rw c.in-Divide.is c.try_adding-in-Divide.ensures
+pub try_adding-requires-clause-parcel : goal.try_adding-requires-clause-parcel
+try_adding-requires-clause-parcel g c = elim c.in-Divide.is [ inl it ↦ rw it.6 tt | inr it ↦ rw it.6 tt ]
 
 pub try_merge-requires : goal.try_merge-requires
 try_merge-requires g c = rw c.in-Merge.is at c.requires

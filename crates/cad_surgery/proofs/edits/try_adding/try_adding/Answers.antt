@@ -8,18 +8,18 @@ use Rattle.cad_surgery.proofs.Trials.{stays}
 use Rattle.cad_surgery.proofs.edits.try_adding.try_adding.Goals as goal
 
 pub returns-in_default : goal.returns-in_default
-returns-in_default g c = stays _ _ _ _ c.requires (out_of_memory c.requires.tried.allowed)
+returns-in_default g c = stays _ _ _ _ c.requires.ready (out_of_memory c.requires.ready.tried.allowed)
 
 pub coming_by-requires : goal.coming_by-requires
-coming_by-requires g c = subst (IsTried (map_of c.args.draft.now)) (sym (c.in-Ok.ensures.edit c.args.kind)) c.requires.tried
+coming_by-requires g c = subst (IsTried (map_of c.args.draft.now)) (sym c.in-Ok.ensures.edit) c.requires.ready.tried
 
 pub returns-in_default-coming_by : goal.returns-in_default-coming_by
-returns-in_default-coming_by g c = stays _ _ _ _ c.requires (out_of_memory c.requires.tried.allowed)
+returns-in_default-coming_by g c = stays _ _ _ _ c.requires.ready (out_of_memory c.requires.ready.tried.allowed)
 
 pub add_recording-requires-clause-ready : goal.add_recording-requires-clause-ready
 add_recording-requires-clause-ready g c =
-    subst (λ (e : Edit). IsReadyFor e c.args.draft.now c.args.touched.now) (sym (c.in-Ok-coming_by.ensures.edit ∙ c.in-Ok.ensures.edit c.args.kind)) c.requires
+    subst (λ (e : Edit). IsReadyFor e c.args.draft.now c.args.touched.now) (sym (c.in-Ok-coming_by.ensures.edit ∙ c.in-Ok.ensures.edit)) c.requires.ready
 
 pub returns : goal.returns
 returns g c =
-    subst (λ (e : Edit). IsTrialOf e c.args.draft.now c.add_recording.new.draft c.add_recording.result) (c.in-Ok-coming_by.ensures.edit ∙ c.in-Ok.ensures.edit c.args.kind) c.add_recording.ensures
+    subst (λ (e : Edit). IsTrialOf e c.args.draft.now c.add_recording.new.draft c.add_recording.result) (c.in-Ok-coming_by.ensures.edit ∙ c.in-Ok.ensures.edit) c.add_recording.ensures
