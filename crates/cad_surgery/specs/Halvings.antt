@@ -1,5 +1,5 @@
 -- A split as it is asked for, its rows and its record.
-use Rattle.std.specs.Prelude.{◌≡◌, ℕ, []}
+use Rattle.std.specs.Prelude.{◌≡◌, ℕ, ⊤, []}
 use Rattle.cad_rows.specs.declared.edits.Edit.{Edit}
 use Rattle.cad_rows.specs.declared.edits.Edit.TheVariants.{Split}
 use Rattle.cad_rows.specs.declared.rows.StringRow.{StringRow}
@@ -18,6 +18,11 @@ split_by string h = Split string h.point h.position.x h.position.y h.first h.sec
 -- its record
 abbrev pub split_record : StringRow → ℕ → Halving → SmallRecord
 split_record row place h = change.Split row place h.point h.position h.first h.second
+
+-- the record is of a split
+abbrev pub IsOfSplit : SmallRecord → Type 0
+IsOfSplit (change.Split row place p at first second) = ⊤
+IsOfSplit _ = ⊥
 
 -- the second map is that after a split of the string, which stood at the place, of the first
 abbrev pub IsSplitFrom : StringRow → ℕ → Halving → Map → Map → Type 0

@@ -190,22 +190,7 @@ fn back_edit<T: Tally>(draft: &mut Draft<T>, change: &SmallRecord) -> Result<(),
         result }
 {
     match change {
-        SmallRecord::Split {
-            row,
-            place,
-            point,
-            position,
-            first,
-            second,
-        } => {
-            let halving = Halving {
-                point: *point,
-                position: *position,
-                first: *first,
-                second: *second,
-            };
-            back_split(draft, row, *place, &halving)
-        }
+        SmallRecord::Split { .. } => back_split(draft, change),
         SmallRecord::Join { .. } => back_join(draft, change),
         SmallRecord::Divide { .. } | SmallRecord::Enclose { .. } => back_added(draft, change),
         SmallRecord::MergeAlong { .. } | SmallRecord::MergeIsland { .. } => {
@@ -222,22 +207,7 @@ fn forward_edit<T: Tally>(draft: &mut Draft<T>, change: &SmallRecord) -> Result<
     ensures { IsMade (edit_of change.now) draft.old draft.new result }
 {
     match change {
-        SmallRecord::Split {
-            row,
-            point,
-            position,
-            first,
-            second,
-            ..
-        } => {
-            let halving = Halving {
-                point: *point,
-                position: *position,
-                first: *first,
-                second: *second,
-            };
-            forward_split(draft, row.number, &halving)
-        }
+        SmallRecord::Split { .. } => forward_split(draft, change),
         SmallRecord::Join { row, string, .. } => forward_join(draft, row.number, *string),
         SmallRecord::Divide { .. } | SmallRecord::Enclose { .. } => forward_added(draft, change),
         SmallRecord::MergeAlong { .. } | SmallRecord::MergeIsland { .. } => {

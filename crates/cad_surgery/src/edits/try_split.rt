@@ -8,8 +8,9 @@ ghost use Rattle.cad_rows.specs.declared.rows.StringRow.{StringRow as StringRowO
 ghost use Rattle.map_parts.specs.Parts.{map_of, kept_at};
 ghost use Rattle.cad_surgery.specs.Proper.{IsProper};
 ghost use Rattle.map_parts.specs.Rows.{map_in};
-ghost use Rattle.cad_surgery.specs.Halvings.{IsSplitFrom, split_by, split_rows};
+ghost use Rattle.cad_surgery.specs.Halvings.{IsOfSplit, IsSplitFrom, split_by, split_record, split_rows};
 ghost use Rattle.cad_surgery.specs.Trials.{IsReadyFor, IsTrialOf, IsMade, IsPlayed, StandsBeside, IsTakenBack};
+ghost use Rattle.edit_records.specs.Record.{edit_of, Belongs};
 
 use crate::draft::Draft;
 use crate::edits::counted::is_work_in_range;
@@ -140,8 +141,43 @@ pub(crate) fn try_split<T: Tally>(
     })
 }
 
-/// Takes a split back: puts the string in at its place again. Where memory runs out the map stays.
-pub(crate) fn back_split<T: Tally>(
+// What the record of a split tells.
+#[derive(Clone, Copy)]
+struct Halved<'a> {
+    row: &'a StringRow,
+    place: usize,
+    halving: Halving,
+}
+
+fn split_told(change: &SmallRecord) -> Halved<'_>
+    requires { IsOfSplit change.now }
+    ensures { change.now ≡ split_record result.row.now result.place result.halving }
+{
+    let SmallRecord::Split {
+        row,
+        place,
+        point,
+        position,
+        first,
+        second,
+    } = change
+    else {
+        unreachable!()
+    };
+    Halved {
+        row,
+        place: *place,
+        halving: Halving {
+            point: *point,
+            position: *position,
+            first: *first,
+            second: *second,
+        },
+    }
+}
+
+// Takes a split back: puts the string's row in at its place again.
+fn unsplit_with<T: Tally>(
     draft: &mut Draft<T>,
     row: &StringRow,
     place: usize,
@@ -169,8 +205,20 @@ pub(crate) fn back_split<T: Tally>(
     Ok(())
 }
 
-/// Splits a string again. Where memory runs out the map stays.
-pub(crate) fn forward_split<T: Tally>(
+/// Takes a split back, by the record. Where memory runs out the map stays.
+pub(crate) fn back_split<T: Tally>(draft: &mut Draft<T>, change: &SmallRecord) -> Result<(), Memory>
+    requires split { IsOfSplit change.now }
+    requires given { GivesInRange (edit_of change.now) }
+    requires beside { StandsBeside (λ m. Belongs change.now m (map_of draft.old)) draft.old }
+    ensures { IsTakenBack (λ m. Belongs change.now m (map_of draft.old)) draft.old draft.new
+        result }
+{
+    let told = split_told(change);
+    unsplit_with(draft, told.row, told.place, &told.halving)
+}
+
+// Splits a string again.
+fn split_again<T: Tally>(
     draft: &mut Draft<T>,
     string: StringNo,
     halving: &Halving,
@@ -193,4 +241,18 @@ pub(crate) fn forward_split<T: Tally>(
     )?;
     drop_hidden(draft, &[forward(&string)]);
     Ok(())
+}
+
+/// Splits a string again, by the record. Where memory runs out the map stays.
+pub(crate) fn forward_split<T: Tally>(
+    draft: &mut Draft<T>,
+    change: &SmallRecord,
+) -> Result<(), Memory>
+    requires split { IsOfSplit change.now }
+    requires given { GivesInRange (edit_of change.now) }
+    requires beside { StandsBeside (Belongs change.now (map_of draft.old)) draft.old }
+    ensures { IsMade (edit_of change.now) draft.old draft.new result }
+{
+    let told = split_told(change);
+    split_again(draft, told.row.number, &told.halving)
 }

@@ -2,17 +2,12 @@ use Rattle.std.proofs.Common.{inl, inr}
 use Rattle.std.proofs.lemmas.Result.{on_ok_weaker}
 use Rattle.map_parts.specs.Parts.{map_of}
 use Rattle.cad_surgery.proofs.GridSteps.{idle, made-by}
-use Rattle.cad_surgery.proofs.Trials.{rows-of, taken-so}
+use Rattle.cad_surgery.proofs.Trials.{rows-of}
 use Rattle.cad_surgery.proofs.play.back_edit.Goals as goal
 
-pub back_split-requires-clause-given : goal.back_split-requires-clause-given
-back_split-requires-clause-given g c =
-    rw c.in-Split.is at c.requires.given
-
-pub back_split-requires-clause-beside : goal.back_split-requires-clause-beside
-back_split-requires-clause-beside g c =
-    let b = rw c.in-Split.is at c.requires.beside.made in
-    record { made = (b.0, (made-by _ b.0 _ b.1, b.1.leads.is)); proper = c.requires.beside.proper }
+pub back_split-requires-clause-split : goal.back_split-requires-clause-split
+back_split-requires-clause-split g c =
+    rw c.in-Split.is tt
 
 pub back_join-requires-clause-join : goal.back_join-requires-clause-join
 back_join-requires-clause-join g c =
@@ -33,9 +28,6 @@ pub unmake_rows-requires-clause-made : goal.unmake_rows-requires-clause-made
 unmake_rows-requires-clause-made g c =
     let b = c.requires.beside.made in
     (b.0, made-by c.args.change.now b.0 (map_of c.args.draft.now) b.1, b.1.leads.is)
-
-pub returns-in-Split : goal.returns-in-Split
-returns-in-Split g c = rw c.in-Split.is (taken-so (λ m belongs. (made-by _ m _ belongs, belongs.leads.is)) c.back_split.ensures)
 
 pub returns-in_default : goal.returns-in_default
 returns-in_default g c = record {

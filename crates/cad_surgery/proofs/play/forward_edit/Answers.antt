@@ -5,11 +5,9 @@ use Rattle.cad_surgery.proofs.GridSteps.{idle, made-by, tried-of}
 use Rattle.cad_surgery.proofs.Trials.{rows-of}
 use Rattle.cad_surgery.proofs.play.forward_edit.Goals as goal
 
-pub forward_split-requires-clause-tried : goal.forward_split-requires-clause-tried
-forward_split-requires-clause-tried g c =
-    let m = map_of c.args.draft.now in
-    let tried = tried-of c.args.change.now m (made-by c.args.change.now m c.requires.beside.made.0 c.requires.beside.made.1) c.requires.given in
-    rw c.in-Split.is at tried
+pub forward_split-requires-clause-split : goal.forward_split-requires-clause-split
+forward_split-requires-clause-split g c =
+    rw c.in-Split.is tt
 
 pub forward_join-requires-clause-tried : goal.forward_join-requires-clause-tried
 forward_join-requires-clause-tried g c =
@@ -37,9 +35,6 @@ remake_rows-requires-clause-alone g c =
 pub remake_rows-requires-clause-made : goal.remake_rows-requires-clause-made
 remake_rows-requires-clause-made g c =
     made-by c.args.change.now (map_of c.args.draft.now) c.requires.beside.made.0 c.requires.beside.made.1
-
-pub returns-in-Split : goal.returns-in-Split
-returns-in-Split g c = rw c.in-Split.is c.forward_split.ensures
 
 pub returns-in-Join : goal.returns-in-Join
 returns-in-Join g c = rw c.in-Join.is c.forward_join.ensures
