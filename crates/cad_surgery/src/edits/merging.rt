@@ -101,37 +101,16 @@ fn unmerge<T: Tally>(
         place,
         mut strings,
     } = gone;
+    let placed = &mut strings;
     let keeper = &merger.kept;
     let moved = merger.moved;
     let (first, rest) = first_and_rest(merger.path);
     match merger.way {
         Way::Along { start, end } => unmerge_along(
-            rows,
-            table,
-            kept,
-            stars,
-            keeper,
-            row,
-            place,
-            first,
-            rest,
-            &start,
-            &end,
-            moved,
-            &mut strings,
+            rows, table, kept, stars, keeper, row, place, first, rest, &start, &end, moved, placed,
         ),
         Way::Round => unmerge_island(
-            rows,
-            table,
-            kept,
-            stars,
-            keeper,
-            row,
-            place,
-            first,
-            rest,
-            moved,
-            &mut strings,
+            rows, table, kept, stars, keeper, row, place, first, rest, moved, placed,
         ),
     }
 }
