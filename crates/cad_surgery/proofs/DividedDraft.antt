@@ -1,23 +1,22 @@
 -- A division on the parts of a map on half-edges, begun.
-use Rattle.std.proofs.Common.{◌≡◌, ◌≤◌, ◌+◌, ◌*◌, ℕ, refl, sym, ap, subst, ◌∙◌, List, [], ◌∷◌, map, filter, length, true, false, if◌then◌else◌, None, is_some, arith}
+use Rattle.std.proofs.Common.{◌≡◌, ◌≤◌, ◌+◌, ◌*◌, ℕ, refl, sym, ap, subst, ◌∙◌, List, ◌∷◌, map, filter, length, true, if◌then◌else◌, arith}
 use Rattle.std.specs.Prelude.{IsPermutation, Result, Ok, Err, OnOk, OnErr}
 use Rattle.std.specs.List.{AllByRecursion, Contains}
-use Rattle.std.proofs.lemmas.List.{length-map}
 use Rattle.cad_rows.specs.declared.names.Face.TheVariants.{Parcel}
 use Rattle.cad_rows.specs.declared.rows.ParcelRow.{ParcelRow}
 use Rattle.cad_rows.specs.declared.rows.StringRow.{StringRow}
 use Rattle.cad_map.specs.declared.boundary.Boundary.{Boundary}
 use Rattle.cad_map.specs.Boundaries.{face_place, is_face}
 use Rattle.cad_map.specs.Effects.{after}
-use Rattle.cad_map.specs.Map.{Map, string_of}
+use Rattle.cad_map.specs.Map.{Map}
 use Rattle.cad_map.specs.Rings.{HasWholeRings}
 use Rattle.cad_map.proofs.CallerLemmas.{CanDivide as IsAllowed, All-at_each}
 use Rattle.half_table.specs.declared.half.Half.{Half}
 use Rattle.half_table.specs.Count.{greatest, ticked}
 use Rattle.half_table.specs.Half.{forward_of, twin}
-use Rattle.half_table.specs.Rows.{HalfRows, Table, has, has_halves, origin_of, cycle}
+use Rattle.half_table.specs.Rows.{HalfRows, Table, has, origin_of, cycle}
 use Rattle.half_table.proofs.Strings.{has-string}
-use Rattle.half_paths.specs.Loose.{is_of, numbers_of, AreNew}
+use Rattle.half_paths.specs.Loose.{is_of, numbers_of}
 use Rattle.half_paths.proofs.Along.{ticked-add}
 use Rattle.key_lists.specs.Held.{Held, items_at, HasRoomAt}
 use Rattle.cad_laws.specs.Counts.{sides_of_face}
@@ -34,16 +33,14 @@ use Rattle.map_parts.specs.Islands.{AreOfRings}
 use Rattle.map_parts.specs.Splitting.{FitMap}
 use Rattle.map_parts.specs.Dividing.{IsDividing, divided, rings_beside, CanBeginDivide}
 use Rattle.cad_surgery.specs.Divisions.{divided_by, HasCrossing}
-use Rattle.map_parts.proofs.AddedStrings.{strings-path}
 use Rattle.map_parts.proofs.ChainRings.{first-on}
 use Rattle.map_parts.proofs.KeptEach.{map-cong}
 use Rattle.cad_surgery.proofs.RingLengths.{face-lengths, home-stays}
 use Rattle.map_parts.proofs.Dividing as divides
-use Rattle.half_paths.specs.Path.{strings_of}
 use Rattle.cad_surgery.specs.declared.edits.merging.Way.TheVariants.{Along}
 use Rattle.cad_surgery.specs.Enclosures.{parcel_by}
 use Rattle.cad_surgery.specs.NewParcels.{IsNewOn, AreBeside, Begins, ticks_by}
-use Rattle.cad_surgery.proofs.ParcelsTried.{put-in}
+use Rattle.cad_surgery.proofs.ParcelsTried.{added-long, new-strings, path-long, path-strings, put-in}
 use Rattle.cad_surgery.proofs.WorkTaken.{ticks-just, ticks-fewer}
 
 module _ {m : Map} {d : NewParcel} {start end : Half} {added : List StringRow} {row : ParcelRow} {first : Half} {others moved : List Half}
@@ -89,13 +86,6 @@ module _ {m : Map} {d : NewParcel} {start end : Half} {added : List StringRow} {
   numbered : numbers_of added ≡ d.strings.now
   numbered = divides.numbered m d.face d.strings.now added d.parcel path is_it
 
-  new_strings : AreNew table.rows added
-  new_strings = each added (subst (AllByRecursion (λ n. string_of m n ≡ None)) (sym numbered) can.rows.strings_new)
-    where
-      each : (ss : List StringRow) → AllByRecursion (λ n. string_of m n ≡ None) (numbers_of ss) → AllByRecursion (λ (s : StringRow). has_halves table.rows s.number ≡ false) ss
-      each [] none = tt
-      each (s ∷ ss) none = (sym (has-string table.rows (forward_of s.number)) ∙ on.all (forward_of s.number) ∙ ap is_some none.0, each ss none.1)
-
   abbrev own : CanBeginDivide d.face added (parcel_by d) path start end moved rows table.rows held stars
   own = record {
     map = m;
@@ -104,7 +94,7 @@ module _ {m : Map} {d : NewParcel} {start end : Half} {added : List StringRow} {
     label_is = refl;
     sources_are = refl;
     fits = on.fits;
-    new = new_strings;
+    new = new-strings added d.strings.now numbered m table.rows on.all can.rows.strings_new;
     start_on = cross.start_on;
     end_on = cross.end_on;
     moved_in = cross.moved_in;
@@ -113,15 +103,6 @@ module _ {m : Map} {d : NewParcel} {start end : Half} {added : List StringRow} {
 
   pub begins : CanBeginDivide d.face added row path start end moved rows table.rows held stars
   begins = subst (λ (r : ParcelRow). CanBeginDivide d.face added r path start end moved rows table.rows held stars) (sym row_is) own
-
-  path_strings : strings_of path ≡ numbers_of added
-  path_strings = ap strings_of path_is ∙ strings-path d.strings.now ∙ sym numbered
-
-  added-long : length added ≡ length d.strings.now
-  added-long = sym (length-map added (λ (s : StringRow). s.number)) ∙ ap length numbered
-
-  path-long : length path ≡ length d.strings.now
-  path-long = ap length path_is ∙ length-map d.strings.now forward_of
 
   abbrev Can : ParcelRow → Type 0
   Can r = CanBeginDivide d.face added r path start end moved rows table.rows held stars
@@ -177,15 +158,15 @@ module _ {m : Map} {d : NewParcel} {start end : Half} {added : List StringRow} {
       → OnErr r ((count : ℕ) × (count ≤ length added) × (t.work ≡ ticked count (ticked count table.work)))
       → Begins m (Along start end) d path moved table new t put wide r
   begun {new = new} {t = t} {put = put} {wide = wide} {r = Ok a} within each err same moved_now inner_room outer_room some origins work few =
-      let beside : AreBeside path m t.rows = λ h. some h ∙ (λ i. if is_of (sym path_strings i) h then true else on.all h i) in
-      let b = path-long in
+      let beside : AreBeside path m t.rows = λ h. some h ∙ (λ i. if is_of (sym (path-strings added d.strings.now numbered path_is) i) h then true else on.all h i) in
+      let b = path-long d.strings.now path_is in
       let c = all-rings each moved_now origins in
-      let n = added-long in
+      let n = added-long added d.strings.now numbered in
       let number = ap (λ (r : ParcelRow). r.number) row_is in
       let ticks = 2 + 2 * length others + (length others + 2) + (length (cycle t.rows first) + cycles_length t.rows moved) in
       put-in within whole_made (divides.more m d.face d.strings.now added d.parcel path is_it) beside (made-fits each moved_now) (record {
         some = omega arith;
-        long = path-long;
+        long = path-long d.strings.now path_is;
         new = (divides.more m d.face d.strings.now added d.parcel path is_it).new;
         different = divides.different m d.face d.strings.now added d.parcel path is_it;
         beside = beside;
@@ -207,7 +188,7 @@ module _ {m : Map} {d : NewParcel} {start end : Half} {added : List StringRow} {
       })
   begun {t = t} {r = Err f} within each err same moved_now inner_room outer_room some origins work few =
       let most = few.1 in
-      let n = added-long in
+      let n = added-long added d.strings.now numbered in
       record {
         within = within;
         put = tt;

@@ -1,7 +1,6 @@
 -- An enclosure on the parts of a map on half-edges, begun.
-use Rattle.std.proofs.Common.{◌≡◌, ◌≤◌, ◌<◌, ◌+◌, ◌*◌, ℕ, refl, sym, ap, subst, ◌∙◌, List, [], ◌∷◌, map, length, true, false, if◌then◌else◌, None, is_some, arith}
+use Rattle.std.proofs.Common.{◌≡◌, ◌≤◌, ◌<◌, ◌+◌, ◌*◌, ℕ, refl, sym, ap, subst, ◌∙◌, List, ◌∷◌, map, length, true, if◌then◌else◌, arith}
 use Rattle.std.specs.List.{AllByRecursion}
-use Rattle.std.proofs.lemmas.List.{length-map}
 use Rattle.cad_rows.specs.declared.edits.Edit.{Edit}
 use Rattle.cad_rows.specs.declared.edits.Edit.TheVariants.{Enclose}
 use Rattle.cad_rows.specs.declared.names.Face.TheVariants.{Parcel}
@@ -10,16 +9,14 @@ use Rattle.cad_rows.specs.declared.rows.StringRow.{StringRow}
 use Rattle.cad_map.specs.Boundaries.{face_place}
 use Rattle.cad_map.specs.Division.{hole_placed}
 use Rattle.cad_map.specs.Effects.{after}
-use Rattle.cad_map.specs.Map.{Map, string_of}
+use Rattle.cad_map.specs.Map.{Map}
 use Rattle.cad_map.specs.Rings.{HasWholeRings}
 use Rattle.cad_map.proofs.CallerLemmas.{allowed, can-enclose}
 use Rattle.half_table.specs.declared.half.Half.{Half}
 use Rattle.half_table.specs.Count.{greatest, ticked}
 use Rattle.half_table.specs.Half.{forward_of, twin}
-use Rattle.half_table.specs.Rows.{HalfRows, Table, has, has_halves, cycle}
-use Rattle.half_table.proofs.Strings.{has-string}
-use Rattle.half_paths.specs.Path.{strings_of}
-use Rattle.half_paths.specs.Loose.{is_of, numbers_of, AreNew}
+use Rattle.half_table.specs.Rows.{HalfRows, Table, has, cycle}
+use Rattle.half_paths.specs.Loose.{is_of, numbers_of}
 use Rattle.key_lists.specs.Held.{Held, items_at, HasRoomAt}
 use Rattle.cad_laws.specs.Counts.{sides_of_face}
 use Rattle.cad_laws.specs.Local.{IsShown, side_by}
@@ -34,14 +31,13 @@ use Rattle.map_parts.specs.Islands.{AreOfRings}
 use Rattle.map_parts.specs.Splitting.{FitMap}
 use Rattle.map_parts.specs.Enclosing.{IsEnclosing, enclosed, rings_placed, CanBeginEnclose}
 use Rattle.cad_surgery.specs.Enclosures.{enclosed_by, parcel_by}
-use Rattle.map_parts.proofs.AddedStrings.{strings-path}
 use Rattle.cad_surgery.proofs.EnclosedWork.{inner-long, outer-long, moved-long}
 use Rattle.map_parts.proofs.IslandTable.{more-old}
 use Rattle.map_parts.proofs.Enclosing as encloses
 use Rattle.std.specs.Prelude.{Result, Ok, Err, OnOk, OnErr}
 use Rattle.cad_surgery.specs.declared.edits.merging.Way.TheVariants.{Round}
 use Rattle.cad_surgery.specs.NewParcels.{IsNewOn, AreBeside, Begins, ticks_by}
-use Rattle.cad_surgery.proofs.ParcelsTried.{put-in}
+use Rattle.cad_surgery.proofs.ParcelsTried.{added-long, new-strings, path-long, path-strings, put-in}
 use Rattle.cad_surgery.proofs.WorkTaken.{ticks-just, ticks-fewer}
 
 -- an enclosure that is tried has three points or more
@@ -61,7 +57,7 @@ pub path-some : (e : NewParcel) {m : Map} → IsTried m (enclosed_by e) → {pat
 path-some e {m} tried path_is =
     let long = enclosure-long m e tried in
     let as_many = enclosure-many m e tried in
-    let same = ap length path_is ∙ length-map e.strings.now forward_of in
+    let same = path-long e.strings.now path_is in
     omega (arith, long, as_many, same)
 
 module _ {m : Map} {e : NewParcel} {added : List StringRow} {row : ParcelRow} {first : Half} {others moved : List Half}
@@ -104,18 +100,8 @@ module _ {m : Map} {e : NewParcel} {added : List StringRow} {row : ParcelRow} {f
     path_is = path_is;
   }
 
-  pub new_strings : AreNew table.rows added
-  new_strings =
-      each added (subst (AllByRecursion (λ n. string_of m n ≡ None)) (sym (encloses.numbered m e.face e.strings.now added e.parcel path is_it))
-      (encloses.can m e.face e.strings.now added e.parcel path is_it).rows.strings_new)
-    where
-      each : (ss : List StringRow) → AllByRecursion (λ n. string_of m n ≡ None) (numbers_of ss)
-          → AllByRecursion (λ (s : StringRow). has_halves table.rows s.number ≡ false) ss
-      each [] none = tt
-      each (s ∷ ss) none = (
-        sym (has-string table.rows (forward_of s.number)) ∙ on.all (forward_of s.number) ∙ ap is_some none.0,
-        each ss none.1,
-      )
+  abbrev strings : numbers_of added ≡ e.strings.now
+  strings = encloses.numbered m e.face e.strings.now added e.parcel path is_it
 
   abbrev pub begins : CanBeginEnclose e.face added row path moved rows table.rows held stars
   begins = record {
@@ -125,21 +111,9 @@ module _ {m : Map} {e : NewParcel} {added : List StringRow} {row : ParcelRow} {f
     label_is = ap (λ (r : ParcelRow). r.label) row_is;
     sources_are = ap (λ (r : ParcelRow). r.sources) row_is;
     fits = on.fits;
-    new = new_strings;
+    new = new-strings added e.strings.now strings m table.rows on.all (encloses.can m e.face e.strings.now added e.parcel path is_it).rows.strings_new;
     holes = on.comes.holes;
   }
-
-  path_strings : strings_of path ≡ numbers_of added
-  path_strings =
-      ap strings_of path_is ∙ strings-path e.strings.now ∙ sym (encloses.numbered m e.face e.strings.now added e.parcel path is_it)
-
-  -- so many strings as points, and so many halves of the path
-  added-long : length added ≡ length e.strings.now
-  added-long =
-      sym (length-map added (λ (s : StringRow). s.number)) ∙ ap length (encloses.numbered m e.face e.strings.now added e.parcel path is_it)
-
-  path-long : length path ≡ length e.strings.now
-  path-long = ap length path_is ∙ length-map e.strings.now forward_of
 
   abbrev Can : Type 0
   Can = CanBeginEnclose e.face added row path moved rows table.rows held stars
@@ -176,17 +150,17 @@ module _ {m : Map} {e : NewParcel} {added : List StringRow} {row : ParcelRow} {f
       → OnErr r ((count : ℕ) × (count ≤ 2 * length added) × (t.work ≡ ticked count table.work))
       → Begins m Round e path moved table new t put wide r
   begun {new = new} {t = t} {put = put} {wide = wide} {r = Ok a} within each err same moved_now inner_room outer_room some sides work few =
-      let beside : AreBeside path m t.rows = λ h. some h ∙ (λ i. if is_of (sym path_strings i) h then true else on.all h i) in
-      let b = path-long in
+      let beside : AreBeside path m t.rows = λ h. some h ∙ (λ i. if is_of (sym (path-strings added e.strings.now strings path_is) i) h then true else on.all h i) in
+      let b = path-long e.strings.now path_is in
       let c = all-rings each sides in
-      let n = added-long in
+      let n = added-long added e.strings.now strings in
       let inner = inner-ring each sides in
       let outer = outer-ring each sides in
       let many = as_many each sides in
       let ticks = length added + (length others + 1 + (length (cycle t.rows first) + (length (cycle t.rows (twin first)) + cycles_length t.rows moved))) in
       put-in within whole_made (encloses.more m e.face e.strings.now added e.parcel path is_it) beside (made-fits each sides) (record {
         some = omega arith;
-        long = path-long;
+        long = path-long e.strings.now path_is;
         new = (encloses.more m e.face e.strings.now added e.parcel path is_it).new;
         different = encloses.different m e.face e.strings.now added e.parcel path is_it;
         beside = beside;
@@ -209,7 +183,7 @@ module _ {m : Map} {e : NewParcel} {added : List StringRow} {row : ParcelRow} {f
       })
   begun {t = t} {r = Err f} within each err same moved_now inner_room outer_room some sides work few =
       let most = few.1 in
-      let n = added-long in
+      let n = added-long added e.strings.now strings in
       record {
         within = within;
         put = tt;

@@ -1,20 +1,24 @@
 -- A parcel that comes by a division or an enclosure, on the parts of a map on half-edges, from growth to rest.
-use Rattle.std.proofs.Common.{◌≡◌, ◌≤◌, ◌+◌, ◌*◌, ℕ, sym, ap, subst, ◌∙◌, List, ◌∷◌, length, arith}
+use Rattle.std.proofs.Common.{◌≡◌, ◌≤◌, ◌+◌, ◌*◌, ℕ, sym, ap, subst, ◌∙◌, List, [], ◌∷◌, map, length, false, None, is_some, arith}
 use Rattle.std.specs.Prelude.{Result, Ok, Err, IsErr}
+use Rattle.std.specs.List.{AllByRecursion}
+use Rattle.std.proofs.lemmas.List.{length-map}
 use Rattle.cad_rows.specs.declared.names.Face.TheVariants.{Parcel}
 use Rattle.cad_rows.specs.declared.rows.ParcelRow.{ParcelRow}
 use Rattle.cad_rows.specs.declared.rows.StringRow.{StringRow}
 use Rattle.cell_grid.specs.Grid.{Grid}
 use Rattle.cad_map.specs.Costs.{work_bound}
 use Rattle.cad_map.specs.Effects.{after}
-use Rattle.cad_map.specs.Map.{Map, has_string}
+use Rattle.cad_map.specs.Map.{Map, has_string, string_of}
 use Rattle.cad_map.specs.Rings.{HasWholeRings}
 use Rattle.cad_map.proofs.CallerLemmas.{whole_valid}
 use Rattle.half_table.specs.declared.half.Half.{Half}
 use Rattle.half_table.specs.Count.{greatest, ticked}
-use Rattle.half_table.specs.Rows.{HalfRows, Table, has, next}
+use Rattle.half_table.specs.Half.{forward_of}
+use Rattle.half_table.specs.Rows.{HalfRows, Table, has, has_halves, next}
+use Rattle.half_table.proofs.Strings.{has-string}
 use Rattle.half_paths.specs.Path.{strings_of}
-use Rattle.half_paths.specs.Loose.{is_of, AreLoose, DropsStrings}
+use Rattle.half_paths.specs.Loose.{is_of, numbers_of, AreLoose, AreNew, DropsStrings}
 use Rattle.key_lists.specs.Held.{Held}
 use Rattle.cad_laws.specs.Counts.{sides_of_face}
 use Rattle.cad_laws.specs.Tried.{IsTried}
@@ -34,6 +38,7 @@ use Rattle.map_parts.specs.Enclosing.{CanOpen}
 use Rattle.map_parts.specs.Parts.{Parts, FitTogether, map_of, kept_at}
 use Rattle.map_parts.specs.Paths.{HasStringsMore}
 use Rattle.map_parts.specs.Splitting.{FitMap}
+use Rattle.map_parts.proofs.AddedStrings.{strings-path}
 use Rattle.cad_surgery.proofs.DraftFits.{draft-fits, draft-all}
 use Rattle.cad_surgery.proofs.FitParts.{parts, parts-in, GoWith, at-rest, stand-for}
 use Rattle.cad_surgery.proofs.LooseBeside as unseen
@@ -46,6 +51,31 @@ pub new-work : (m : Map) (w : Way) (d : NewParcel) → IsTried m (edit_by w d)
     → 16 * (length d.strings.now + 2) + 4 * sides_of_face (Parcel d.parcel) (after m (edit_by w d)) ≤ work_bound m (after m (edit_by w d))
 new-work m (way.Along start end) d tried = let w = work-allowed m (edit_by (way.Along start end) d) tried in omega (arith, w)
 new-work m way.Round d tried = let w = work-allowed m (edit_by way.Round d) tried in omega (arith, w)
+
+-- ---- The strings that come with it
+
+-- a path has a half for each of its strings
+pub path-long : {path : List Half} (numbers : List ℕ) → path ≡ map forward_of numbers → length path ≡ length numbers
+path-long numbers path_is = ap length path_is ∙ length-map numbers forward_of
+
+module _ (added : List StringRow) (numbers : List ℕ) (numbered : numbers_of added ≡ numbers) where
+  -- there is a row for each number
+  pub added-long : length added ≡ length numbers
+  added-long = sym (length-map added (λ (s : StringRow). s.number)) ∙ ap length numbered
+
+  -- they are the strings of the path along them
+  pub path-strings : {path : List Half} → path ≡ map forward_of numbers → strings_of path ≡ numbers_of added
+  path-strings path_is = ap strings_of path_is ∙ strings-path numbers ∙ sym numbered
+
+  -- where the map has none of them, its table has none
+  pub new-strings : (m : Map) (table : HalfRows) → ((h : Half) → has table h ≡ has_string m h.string) → AllByRecursion (λ n. string_of m n ≡ None) numbers → AreNew table added
+  new-strings m table all none = each added (subst (AllByRecursion (λ n. string_of m n ≡ None)) (sym numbered) none)
+    where
+      each : (ss : List StringRow) → AllByRecursion (λ n. string_of m n ≡ None) (numbers_of ss) → AllByRecursion (λ (s : StringRow). has_halves table s.number ≡ false) ss
+      each [] none = tt
+      each (s ∷ ss) none = (sym (has-string table (forward_of s.number)) ∙ all (forward_of s.number) ∙ ap is_some none.0, each ss none.1)
+
+-- ---- Put in, and taken out
 
 -- it is in
 pub put-in : {A E : Type 0} {m : Map} {w : Way} {d : NewParcel} {path moved : List Half} {before : Table} {rows : MapRows} {t : Table} {held : Held Half} {stars : Held Spoke} {a : A}
