@@ -91,11 +91,7 @@ pub(crate) fn make(rows: &mut MapRows, edit: &Edit) -> Result<SmallRecord, Memor
                 to,
             })
         }
-        Edit::Split { .. }
-        | Edit::Join { .. }
-        | Edit::Divide { .. }
-        | Edit::Merge { .. }
-        | Edit::Enclose { .. } => unreachable!(),
+        _ => unreachable!(),
     }
 }
 
@@ -139,12 +135,7 @@ pub(crate) fn unmake(rows: &mut MapRows, change: &SmallRecord) -> Result<(), Mem
             let _ = rename(rows, *parcel, from.copy()?);
             Ok(())
         }
-        SmallRecord::Split { .. }
-        | SmallRecord::Join { .. }
-        | SmallRecord::Divide { .. }
-        | SmallRecord::MergeAlong { .. }
-        | SmallRecord::MergeIsland { .. }
-        | SmallRecord::Enclose { .. } => unreachable!(),
+        _ => unreachable!(),
     }
 }
 
@@ -178,11 +169,6 @@ pub(crate) fn remake(rows: &mut MapRows, change: &SmallRecord) -> Result<(), Mem
             let _ = rename(rows, *parcel, to.copy()?);
             Ok(())
         }
-        SmallRecord::Split { .. }
-        | SmallRecord::Join { .. }
-        | SmallRecord::Divide { .. }
-        | SmallRecord::MergeAlong { .. }
-        | SmallRecord::MergeIsland { .. }
-        | SmallRecord::Enclose { .. } => unreachable!(),
+        _ => unreachable!(),
     }
 }
