@@ -16,6 +16,7 @@ pub mod HeldDivisions
 pub mod RowsMade
 pub mod RowsKept
 pub mod DraftRows
+pub mod DraftMade
 pub mod GridBeside
 pub mod Played
 pub mod Weights
