@@ -27,7 +27,7 @@ use Rattle.cad_surgery.specs.declared.edits.adding.Course.{Course}
 use Rattle.cad_surgery.specs.declared.edits.given.NewParcel.{NewParcel}
 use Rattle.cad_surgery.specs.declared.edits.merging.Way.{Way}
 use Rattle.cad_surgery.specs.declared.edits.merging.Way.TheVariants as way
-use Rattle.cad_surgery.specs.AddedParcels.{CanGoOut, GoesOut, HeldParcel, IsAddedBy, IsFound}
+use Rattle.cad_surgery.specs.AddedParcels.{CanGoOut, GoesOut, HeldParcel, IsAddedBy, IsFound, TellsAdded}
 use Rattle.cad_surgery.specs.Divisions.{divided_by}
 use Rattle.cad_surgery.specs.Enclosures.{enclosed_by}
 use Rattle.cad_surgery.specs.NewParcels.{edit_by, ticks_by, ticks_out}
@@ -42,6 +42,7 @@ use Rattle.map_parts.specs.Parts.{Parts, FitTogether, map_of, kept_at}
 use Rattle.map_parts.specs.Paths.{HasStringsMore}
 use Rattle.map_parts.specs.Relabelled.{cycles_length}
 use Rattle.map_parts.specs.Splitting.{FitMap}
+use Rattle.cad_surgery.proofs.ComingParcels.{added-edit, added-held}
 use Rattle.cad_surgery.proofs.DividedBack as along
 use Rattle.cad_surgery.proofs.DraftFits.{draft-fits, draft-all, draft-work}
 use Rattle.cad_surgery.proofs.EnclosedDraft as encloses
@@ -209,8 +210,18 @@ module _ {T : Type 0} (inside : Inside T) {v : Parts} (view : parts-in inside �
 
 -- ---- By the record
 
-module _ (r : SmallRecord) (t : Added) (given : GivesInRange (edit_of r)) (same : edit_of r ≡ edit_by t.way t.new)
-    (told : (m : Map) → Holds r m → HeldParcel t.way (after m (edit_by t.way t.new)) (Parcel t.new.parcel) t.new.points.now t.moved.now) (m now : Map) (it : Belongs r m now) where
+module _ (r : SmallRecord) (t : Added) (tells : TellsAdded r t) where
+  -- it is of the edit that it tells
+  pub same : edit_of r ≡ edit_by t.way t.new
+  same = ap edit_of tells.2 ∙ added-edit t.way t.new tells.0
+
+  -- and what it tells was so
+  pub told : (m : Map) → Holds r m → HeldParcel t.way (after m (edit_by t.way t.new)) (Parcel t.new.parcel) t.new.points.now t.moved.now
+  told m holds =
+      subst (HeldParcel t.way (after m (edit_by t.way t.new)) (Parcel t.new.parcel) t.new.points.now) tells.1
+      (added-held t.way t.new tells.0 m (subst (λ (q : SmallRecord). Holds q m) tells.2 holds))
+
+module _ (r : SmallRecord) (t : Added) (tells : TellsAdded r t) (given : GivesInRange (edit_of r)) (m now : Map) (it : Belongs r m now) where
   -- what the record tells of its rings
   named-by : (w : Way) (n : Map) → HeldParcel w n (Parcel t.new.parcel) t.new.points.now t.moved.now → HeldIsland n (Parcel t.new.parcel) t.new.points.now t.moved.now
   named-by (way.Along start end) n held = held.moved_are
@@ -221,11 +232,11 @@ module _ (r : SmallRecord) (t : Added) (given : GivesInRange (edit_of r)) (same 
   by-record = record {
     tried = record {
       valid = it.valid;
-      given = subst GivesInRange same given;
-      allowed = ap (first_refusal m) (sym same) ∙ it.leads.allowed;
+      given = subst GivesInRange (same r t tells) given;
+      allowed = ap (first_refusal m) (sym (same r t tells)) ∙ it.leads.allowed;
     };
-    is = it.leads.is ∙ ap (after m) same;
+    is = it.leads.is ∙ ap (after m) (same r t tells);
     named =
-        subst (λ (n : Map). HeldIsland n (Parcel t.new.parcel) t.new.points.now t.moved.now) (sym (it.leads.is ∙ ap (after m) same))
-        (named-by t.way (after m (edit_by t.way t.new)) (told m it.holds));
+        subst (λ (n : Map). HeldIsland n (Parcel t.new.parcel) t.new.points.now t.moved.now) (sym (it.leads.is ∙ ap (after m) (same r t tells)))
+        (named-by t.way (after m (edit_by t.way t.new)) (told r t tells m it.holds));
   }

@@ -56,6 +56,11 @@ pub added-holds : (w : Way) (d : NewParcel) (moved : Vec Half) (m : Map) → Hel
 added-holds (way.Along start end) d moved m held = held
 added-holds way.Round d moved m held = held
 
+pub added-held : (w : Way) (d : NewParcel) (moved : Vec Half) (m : Map) → Holds (added_record w d moved) m
+    → HeldParcel w (after m (edit_by w d)) (Parcel d.parcel) d.points.now moved.items
+added-held (way.Along start end) d moved m holds = holds
+added-held way.Round d moved m holds = holds
+
 -- the same edit, played by another name of its way
 pub played-as : {A : Type 0} {w v : Way} (d : NewParcel) {old new : Parts} {r : Result A Refusal} → w ≡ v → IsPlayed (edit_by w d) old new r → IsPlayed (edit_by v d) old new r
 played-as d {old} {new} {r} same = subst (λ (w : Way). IsPlayed (edit_by w d) old new r) same

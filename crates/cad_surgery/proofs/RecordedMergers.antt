@@ -47,6 +47,11 @@ pub merger-holds : (w : Way) (kept : Face) (row : ParcelRow) (place : ℕ) (poin
 merger-holds (way.Along start end) kept row place points strings moved m held = held
 merger-holds way.Round kept row place points strings moved m held = held
 
+pub merger-held : (w : Way) (kept : Face) (row : ParcelRow) (place : ℕ) (points : List ℕ) (strings : Vec ChainString) (moved : Vec Half) (m : Map)
+    → Holds (merger_record w kept row place points strings moved) m → HeldMerger w m kept row place points strings.items moved.items
+merger-held (way.Along start end) kept row place points strings moved m holds = holds
+merger-held way.Round kept row place points strings moved m holds = holds
+
 module _ (m : Map) (rows : HalfRows) (ends : AllByRecursion (HasHalves rows) m.strings) (kept : Face) (row : ParcelRow) (place : ℕ) (path : List Half) (points : List ℕ) (moved : List Half)
     (gone : List PlacedString) (numbers : numbers_placed gone ≡ strings_of path) (stood : StoodIn m.strings gone) (at : slice_get m.parcels place ≡ Some row) where
   held-island : (it : HasSharedRing m rows kept row.number path moved) → HeldMergedIsland m kept row place it.points (with_halves path gone) moved

@@ -24,12 +24,13 @@ use Rattle.cad_surgery.specs.declared.edits.merged.Merged.{Merged}
 use Rattle.cad_surgery.specs.declared.edits.merging.Way.{Way}
 use Rattle.cad_surgery.specs.declared.edits.merging.Way.TheVariants as way
 use Rattle.cad_surgery.specs.Merging.{HasShared}
-use Rattle.cad_surgery.specs.ToldMergers.{HeldMerger, IsMergedBy, chain_told, halves_of}
+use Rattle.cad_surgery.specs.ToldMergers.{HeldMerger, IsMergedBy, TellsMerged, chain_told, halves_of}
 use Rattle.map_parts.specs.Parts.{Parts, FitTogether, HasHalves, map_of}
 use Rattle.map_parts.proofs.Merging as merging
 use Rattle.cad_surgery.proofs.DraftFits.{draft-fits}
 use Rattle.cad_surgery.proofs.FitParts.{parts-in}
 use Rattle.cad_surgery.proofs.HeldIslandMergers as round
+use Rattle.cad_surgery.proofs.RecordedMergers.{merger-edit, merger-held}
 use Rattle.cad_surgery.proofs.HeldMergers as along
 
 -- the chain has the points
@@ -70,18 +71,28 @@ module _ (m : Map) (kept : Face) (row : ParcelRow) (place : ℕ) (points : List 
 
 -- ---- By the record
 
-module _ (r : SmallRecord) (t : Merged) (given : GivesInRange (edit_of r)) (same : edit_of r ≡ Merge t.kept (Parcel t.row.now.number))
-    (told : (m : Map) → Holds r m → HeldMerger t.way m t.kept t.row.now t.place t.points.now t.strings.now t.moved.now) (m now : Map) (it : Belongs r m now) where
+module _ (r : SmallRecord) (t : Merged) (tells : TellsMerged r t) where
+  -- it is of the merger that it tells
+  pub same : edit_of r ≡ Merge t.kept (Parcel t.row.now.number)
+  same = ap edit_of tells.4 ∙ merger-edit t.way t.kept t.row.now t.place t.points.now tells.0 tells.1
+
+  -- and what it tells was so
+  pub told : (m : Map) → Holds r m → HeldMerger t.way m t.kept t.row.now t.place t.points.now t.strings.now t.moved.now
+  told m holds =
+      subst (λ (q : List ChainString × List Half). HeldMerger t.way m t.kept t.row.now t.place t.points.now q.0 q.1) (λ i. (tells.2 i, tells.3 i))
+      (merger-held t.way t.kept t.row.now t.place t.points.now tells.0 tells.1 m (subst (λ (q : SmallRecord). Holds q m) tells.4 holds))
+
+module _ (r : SmallRecord) (t : Merged) (tells : TellsMerged r t) (given : GivesInRange (edit_of r)) (m now : Map) (it : Belongs r m now) where
   -- the record leads from the map to the one after the merger that it tells
   pub by-record : IsMergedBy m now t
   by-record = record {
     tried = record {
       valid = it.valid;
-      given = subst GivesInRange same given;
-      allowed = ap (first_refusal m) (sym same) ∙ it.leads.allowed;
+      given = subst GivesInRange (same r t tells) given;
+      allowed = ap (first_refusal m) (sym (same r t tells)) ∙ it.leads.allowed;
     };
-    is = it.leads.is ∙ ap (after m) same;
-    held = told m it.holds;
+    is = it.leads.is ∙ ap (after m) (same r t tells);
+    held = told r t tells m it.holds;
   }
 
   pub points-some : 0 < length t.points.now

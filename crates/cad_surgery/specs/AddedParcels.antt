@@ -11,6 +11,7 @@ use Rattle.half_table.specs.Rows.{Table, has, next}
 use Rattle.half_paths.specs.Loose.{AreLoose}
 use Rattle.key_lists.specs.Held.{Held}
 use Rattle.cad_laws.specs.Tried.{IsTried}
+use Rattle.cad_surgery.specs.declared.edits.added.Added.{Added}
 use Rattle.cad_surgery.specs.declared.edits.given.NewParcel.{NewParcel}
 use Rattle.cad_surgery.specs.declared.edits.merging.Way.{Way}
 use Rattle.cad_surgery.specs.declared.edits.merging.Way.TheVariants as way
@@ -38,6 +39,10 @@ added_record (way.Along start end) d moved =
     change.Divide d.face d.points.now d.strings.now d.parcel d.label.now d.source start end moved
 added_record way.Round d moved =
     change.Enclose d.face d.points.now d.strings.now d.parcel d.label.now d.source moved
+
+-- the record is that of such a parcel
+abbrev pub TellsAdded : SmallRecord → Added → Type 0
+TellsAdded r t = (moved : Vec Half) × (moved.items ≡ t.moved.now) × (r ≡ added_record t.way t.new moved)
 
 -- what the record tells of the map after it: what follows the chain, and the parcel's other rings
 abbrev pub HeldParcel : Way → Map → Face → List ℕ → List Half → Type 0

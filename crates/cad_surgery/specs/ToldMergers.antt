@@ -45,6 +45,11 @@ merger_record (way.Along start end) kept row place points strings moved =
 merger_record way.Round kept row place points strings moved =
     change.MergeIsland kept row place points strings moved
 
+-- the record is that of such a merger
+abbrev pub TellsMerged : SmallRecord → Merged → Type 0
+TellsMerged r t = (strings : Vec ChainString) × (moved : Vec Half) × (strings.items ≡ t.strings.now) × (moved.items ≡ t.moved.now)
+    × (r ≡ merger_record t.way t.kept t.row.now t.place t.points.now strings moved)
+
 -- what the record tells of the map before it: what the two shared, the parcel's row and the strings
 abbrev pub HeldMerger : Way → Map → Face → ParcelRow → ℕ → List ℕ → List ChainString → List Half → Type 0
 HeldMerger (way.Along start end) m kept row place points strings moved = HeldMergedAlong m kept row place points strings start end moved

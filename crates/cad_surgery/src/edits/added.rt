@@ -6,10 +6,10 @@ ghost use Rattle.cad_map.specs.Map.{Map};
 ghost use Rattle.cad_rows.specs.declared.names.Face.TheVariants.{Parcel};
 ghost use Rattle.half_table.specs.Half.{forward_of};
 ghost use Rattle.cad_laws.specs.Tried.{IsTried};
-ghost use Rattle.cad_surgery.specs.AddedParcels.{CanGoOut, GoesOut, HeldParcel, IsAddedBy, IsOfParcel};
+ghost use Rattle.cad_surgery.specs.AddedParcels.{CanGoOut, GoesOut, HeldParcel, IsAddedBy, IsOfParcel, TellsAdded};
 ghost use Rattle.cad_surgery.specs.NewParcels.{Comes, edit_by};
 ghost use Rattle.cad_surgery.specs.Trials.{IsTakenBack, IsMade, StandsBeside};
-ghost use Rattle.edit_records.specs.Record.{edit_of, Holds, Belongs};
+ghost use Rattle.edit_records.specs.Record.{edit_of, Belongs};
 ghost use Rattle.map_parts.specs.Parts.{map_of};
 
 use crate::draft::Draft;
@@ -36,10 +36,7 @@ struct Added<'a> {
 
 fn parcel_told(change: &SmallRecord) -> Added<'_>
     requires { IsOfParcel change.now }
-    ensures edit { edit_of change.now ≡ edit_by result.way result.new }
-    ensures held { (m : Map) → Holds change.now m → HeldParcel result.way
-        (after m (edit_by result.way result.new)) (Parcel result.new.parcel) result.new.points.now
-        result.moved.now }
+    ensures { TellsAdded change.now result }
 {
     match change {
         SmallRecord::Divide {

@@ -1,15 +1,13 @@
 //! A merger on a map on half-edges, along a chain or round an island, taken back and made again by
 //! its record.
 ghost use Rattle.std.specs.Prelude.{◌≡◌, ◌<◌, ◌+◌, length, map as map_by, IfOk};
-ghost use Rattle.cad_rows.specs.declared.edits.Edit.TheVariants.{Merge};
-ghost use Rattle.cad_rows.specs.declared.names.Face.TheVariants.{Parcel};
 ghost use Rattle.cad_map.specs.Asked.{GivesInRange};
 ghost use Rattle.cad_map.specs.Map.{Map};
-ghost use Rattle.cad_surgery.specs.ToldMergers.{HeldMerger, IsMergedBy, IsOfMerge, WentAlong};
+ghost use Rattle.cad_surgery.specs.ToldMergers.{IsMergedBy, IsOfMerge, TellsMerged, WentAlong};
 ghost use Rattle.cad_surgery.specs.ToldMergers.{CanGoBack, GoesBack, chain_told, halves_of};
 ghost use Rattle.cad_surgery.specs.Trials.{IsTakenBack, IsMade, StandsBeside};
 ghost use Rattle.edit_records.specs.HeldChains.{row_between, rows_along};
-ghost use Rattle.edit_records.specs.Record.{edit_of, Holds, Belongs};
+ghost use Rattle.edit_records.specs.Record.{edit_of, Belongs};
 ghost use Rattle.map_parts.specs.Merging.{rows_gone};
 ghost use Rattle.map_parts.specs.Parts.{map_of};
 
@@ -41,9 +39,7 @@ struct Merged<'a> {
 
 fn merger_of(change: &SmallRecord) -> Merged<'_>
     requires { IsOfMerge change.now }
-    ensures edit { edit_of change.now ≡ Merge result.kept (Parcel result.row.now.number) }
-    ensures held { (m : Map) → Holds change.now m → HeldMerger result.way m result.kept
-        result.row.now result.place result.points.now result.strings.now result.moved.now }
+    ensures { TellsMerged change.now result }
 {
     match change {
         SmallRecord::MergeAlong {

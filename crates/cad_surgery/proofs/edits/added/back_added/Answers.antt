@@ -11,7 +11,7 @@ pub take_back-requires-clause-beside : goal.take_back-requires-clause-beside
 take_back-requires-clause-beside g c = record {
   made = (
     c.requires.beside.made.0,
-    by-record c.args.change.now c.parcel_told-told.result c.requires.given c.parcel_told-told.ensures.edit c.parcel_told-told.ensures.held
+    by-record c.args.change.now c.parcel_told-told.result c.parcel_told-told.ensures c.requires.given
         c.requires.beside.made.0 (map_of c.args.draft.now) c.requires.beside.made.1,
   );
   proper = c.requires.beside.proper;
@@ -22,5 +22,5 @@ returns-in_err-path g c = stays-whole _ _ _ c.from_residual.ensures.0 c.requires
 
 pub returns : goal.returns
 returns g c =
-    taken-so (λ m belongs. by-record c.args.change.now c.parcel_told-told.result c.requires.given c.parcel_told-told.ensures.edit c.parcel_told-told.ensures.held
+    taken-so (λ m belongs. by-record c.args.change.now c.parcel_told-told.result c.parcel_told-told.ensures c.requires.given
     m (map_of c.args.draft.now) belongs) c.take_back.ensures

@@ -6,17 +6,17 @@ use Rattle.cad_laws.specs.Tried.{IsTried}
 use Rattle.cad_surgery.specs.declared.edits.merging.Way.{Way}
 use Rattle.cad_surgery.specs.NewParcels.{Comes, edit_by}
 use Rattle.cad_surgery.specs.Trials.{IsMade}
-use Rattle.cad_surgery.proofs.AddedBack.{by-record}
+use Rattle.cad_surgery.proofs.AddedBack.{by-record, same, told}
 use Rattle.cad_surgery.proofs.Trials.{is-idle}
 use Rattle.cad_surgery.proofs.edits.added.forward_added.Goals as goal
 
 pub coming_again-requires-clause-tried : goal.coming_again-requires-clause-tried
 coming_again-requires-clause-tried g c =
-    (by-record c.args.change.now c.parcel_told-told.result c.requires.given c.parcel_told-told.ensures.edit c.parcel_told-told.ensures.held (map_of c.args.draft.now) c.requires.beside.made.0
+    (by-record c.args.change.now c.parcel_told-told.result c.parcel_told-told.ensures c.requires.given (map_of c.args.draft.now) c.requires.beside.made.0
     c.requires.beside.made.1).tried
 
 pub coming_again-requires-clause-held : goal.coming_again-requires-clause-held
-coming_again-requires-clause-held g c = c.parcel_told-told.ensures.held (map_of c.args.draft.now) c.requires.beside.made.1.holds
+coming_again-requires-clause-held g c = told c.args.change.now c.parcel_told-told.result c.parcel_told-told.ensures (map_of c.args.draft.now) c.requires.beside.made.1.holds
 
 pub returns-in_err-coming : goal.returns-in_err-coming
 returns-in_err-coming g c = is-idle c.from_residual.ensures.0 c.requires.beside.proper
@@ -24,7 +24,7 @@ returns-in_err-coming g c = is-idle c.from_residual.ensures.0 c.requires.beside.
 pub add_again-requires-clause-tried : goal.add_again-requires-clause-tried
 add_again-requires-clause-tried g c =
     subst (IsTried (map_of c.args.draft.now)) (sym (ap (λ (w : Way). edit_by w c.parcel_told-told.result.new) c.course_of-course.ensures.way ∙ c.in_ok-coming.ensures.edit))
-    (by-record c.args.change.now c.parcel_told-told.result c.requires.given c.parcel_told-told.ensures.edit c.parcel_told-told.ensures.held (map_of c.args.draft.now) c.requires.beside.made.0
+    (by-record c.args.change.now c.parcel_told-told.result c.parcel_told-told.ensures c.requires.given (map_of c.args.draft.now) c.requires.beside.made.0
     c.requires.beside.made.1).tried
 
 pub add_again-requires-clause-comes : goal.add_again-requires-clause-comes
@@ -37,4 +37,4 @@ add_again-requires-clause-comes g c =
 pub returns : goal.returns
 returns g c =
     subst (λ (e : Edit). IsMade e c.args.draft.now c.add_again.new.draft c.add_again.result)
-    (ap (λ (w : Way). edit_by w c.parcel_told-told.result.new) c.course_of-course.ensures.way ∙ c.in_ok-coming.ensures.edit ∙ sym c.parcel_told-told.ensures.edit) c.add_again.ensures
+    (ap (λ (w : Way). edit_by w c.parcel_told-told.result.new) c.course_of-course.ensures.way ∙ c.in_ok-coming.ensures.edit ∙ sym (same c.args.change.now c.parcel_told-told.result c.parcel_told-told.ensures)) c.add_again.ensures

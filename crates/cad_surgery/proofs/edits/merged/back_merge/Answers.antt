@@ -6,11 +6,11 @@ use Rattle.cad_surgery.proofs.edits.merged.back_merge.Goals as goal
 
 pub ended_by-requires-clause-some : goal.ended_by-requires-clause-some
 ended_by-requires-clause-some g c =
-    points-some c.args.change.now c.merger_of-told.result c.requires.given c.merger_of-told.ensures.edit c.merger_of-told.ensures.held c.requires.beside.made.0 (map_of c.args.draft.now) c.requires.beside.made.1
+    points-some c.args.change.now c.merger_of-told.result c.merger_of-told.ensures c.requires.given c.requires.beside.made.0 (map_of c.args.draft.now) c.requires.beside.made.1
 
 pub ended_by-requires-clause-as_many : goal.ended_by-requires-clause-as_many
 ended_by-requires-clause-as_many g c =
-    as-many c.args.change.now c.merger_of-told.result c.requires.given c.merger_of-told.ensures.edit c.merger_of-told.ensures.held c.requires.beside.made.0 (map_of c.args.draft.now) c.requires.beside.made.1
+    as-many c.args.change.now c.merger_of-told.result c.merger_of-told.ensures c.requires.given c.requires.beside.made.0 (map_of c.args.draft.now) c.requires.beside.made.1
 
 pub unmerge_with-requires-clause-path : goal.unmerge_with-requires-clause-path
 unmerge_with-requires-clause-path g c = c.as_slice.ensures.value ∙ c.in_ok-path.ensures
@@ -19,7 +19,7 @@ pub unmerge_with-requires-clause-beside : goal.unmerge_with-requires-clause-besi
 unmerge_with-requires-clause-beside g c = record {
   made = (
     c.requires.beside.made.0,
-    by-record c.args.change.now c.merger_of-told.result c.requires.given c.merger_of-told.ensures.edit c.merger_of-told.ensures.held
+    by-record c.args.change.now c.merger_of-told.result c.merger_of-told.ensures c.requires.given
         c.requires.beside.made.0 (map_of c.args.draft.now) c.requires.beside.made.1,
   );
   proper = c.requires.beside.proper;
@@ -33,5 +33,5 @@ returns-in_err-gone g c = stays-whole _ _ _ c.from_residual-in_err-gone.ensures.
 
 pub returns : goal.returns
 returns g c =
-    taken-so (λ m belongs. by-record c.args.change.now c.merger_of-told.result c.requires.given c.merger_of-told.ensures.edit c.merger_of-told.ensures.held
+    taken-so (λ m belongs. by-record c.args.change.now c.merger_of-told.result c.merger_of-told.ensures c.requires.given
     m (map_of c.args.draft.now) belongs) c.unmerge_with.ensures

@@ -6,7 +6,7 @@ use Rattle.map_parts.specs.Parts.{map_of}
 use Rattle.cad_surgery.specs.Merging.{HasShared}
 use Rattle.cad_surgery.specs.Trials.{IsMade}
 use Rattle.cad_surgery.proofs.Trials.{is-idle}
-use Rattle.cad_surgery.proofs.ToldMergers.{again, by-record}
+use Rattle.cad_surgery.proofs.ToldMergers.{again, by-record, same}
 use Rattle.cad_surgery.proofs.edits.merged.forward_merge.Goals as goal
 
 pub merge_again-requires-clause-shared : goal.merge_again-requires-clause-shared
@@ -14,7 +14,7 @@ merge_again-requires-clause-shared g c =
     let told = c.merger_of-told.result in
     subst (λ (l : List Half). HasShared told.way (map_of c.args.draft.now) c.args.draft.now.table.rows told.kept told.row.now.number l told.moved.now)
     (sym (c.as_slice-2.ensures.value ∙ c.in_ok-path.ensures))
-    (again c.draft.inside c.draft.view_is c.draft.invariant (by-record c.args.change.now c.merger_of-told.result c.requires.given c.merger_of-told.ensures.edit c.merger_of-told.ensures.held
+    (again c.draft.inside c.draft.view_is c.draft.invariant (by-record c.args.change.now c.merger_of-told.result c.merger_of-told.ensures c.requires.given
     (map_of c.args.draft.now) c.requires.beside.made.0 c.requires.beside.made.1))
 
 pub merge_again-requires-clause-strings : goal.merge_again-requires-clause-strings
@@ -31,4 +31,4 @@ returns-in_err-strings g c = is-idle c.from_residual-in_err-strings.ensures.0 c.
 pub returns : goal.returns
 returns g c =
     subst (λ (e : Edit). IsMade e c.args.draft.now c.merge_again.new.draft c.merge_again.result)
-    (sym c.merger_of-told.ensures.edit) c.merge_again.ensures
+    (sym (same c.args.change.now c.merger_of-told.result c.merger_of-told.ensures)) c.merge_again.ensures
