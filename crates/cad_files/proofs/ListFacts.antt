@@ -3,7 +3,7 @@ use Rattle.std.proofs.Common.{◌≡◌, ◌∙◌, sym, ap, refl, ℕ, ◌+◌,
 use Rattle.std.specs.Prelude.{option_map}
 use Rattle.std.specs.List.{list_any, slice_split}
 use Rattle.std.proofs.Math.Seq.{take-suc}
-use Rattle.std.proofs.lemmas.List.{take_all}
+use Rattle.std.proofs.lemmas.List.{take_all, drop_all}
 use Rattle.std.proofs.lemmas.List.Elements.{All-push}
 use Rattle.std.proofs.lemmas.List.Splits.{slice_split_none, slice_split_at}
 use Rattle.cad_files.specs.Fields.{all_numbers, number_of, numbers_of, repeated, is_space}
@@ -25,14 +25,19 @@ pub all_numbers-more : (part : List ℕ) (parts : List (List ℕ)) (before : Lis
 unfolding all_numbers
 all_numbers-more part parts before n h = rw h (option_map-twice before n (all_numbers parts))
 
--- one number more, which none before it is equal to
-pub repeated-more : (list : List ℕ) (i x d : ℕ) → i < length list → x ≡ get_or list i d → list_any (λ k. k == x) (take i list) ≡ false
-    → repeated (take (i + 1) list) (drop (i + 1) list) ≡ repeated (take i list) (drop i list)
-repeated-more list i x d h is free = rw (drop-cons list i d h, ← is, add-one, free, take-suc list i d h, ← is) refl
+module _ (before list : List ℕ) (i x d : ℕ) (h : i < length list) (is : x ≡ get_or list i d) where
+  -- one number more, which none before it is equal to
+  pub repeated-more : list_any (λ k. k == x) (before ++ take i list) ≡ false
+      → repeated (before ++ take (i + 1) list) (drop (i + 1) list) ≡ repeated (before ++ take i list) (drop i list)
+  repeated-more free = rw (drop-cons list i d h, ← is, add-one, free, take-suc list i d h, ← is, append_assoc) refl
 
-pub repeated-found : (list : List ℕ) (i x d : ℕ) → i < length list → x ≡ get_or list i d → list_any (λ k. k == x) (take i list) ≡ true
-    → repeated (take i list) (drop i list) ≡ Some x
-repeated-found list i x d h is found = rw (drop-cons list i d h, ← is, found) refl
+  -- one to which one before it is equal
+  pub repeated-found : list_any (λ k. k == x) (before ++ take i list) ≡ true → repeated (before ++ take i list) (drop i list) ≡ Some x
+  repeated-found found = rw (drop-cons list i d h, ← is, found) refl
+
+-- no number more
+pub repeated-end : (before list : List ℕ) (i : ℕ) → length list ≤ i → repeated (before ++ take i list) (drop i list) ≡ None
+repeated-end before list i h = rw (drop_all i list h) refl
 
 -- one byte more that is no space
 pub no_space-more : (text : List ℕ) (i : ℕ) → i < length text → is_space (get_or text i 0) ≡ false → All (λ b. is_space b ≡ false) (take i text)

@@ -1,6 +1,6 @@
 -- Rows without a fault are the rows of a sound map.
 use Rattle.std.proofs.Common.{◌≡◌, ◌≢◌, ◌≤◌, ◌∙◌, sym, ap, refl, subst, ℕ, ◌==◌, List, [], ◌∷◌, ◌++◌, length, map, Bool, true, false, Some, None, inl, inr, ◌||◌, is_some, true≢false}
-use Rattle.std.specs.Prelude.{option_map, find, IsTrue}
+use Rattle.std.specs.Prelude.{find, IsTrue}
 use Rattle.std.specs.List.{list_any, AllByRecursion}
 use Rattle.std.proofs.lemmas.Bool.{cases_Bool, eqb-false, eq-eqb, or_parts}
 use Rattle.std.proofs.lemmas.List.Elements.{recursion_from_All}
@@ -10,7 +10,6 @@ use Rattle.cad_rows.specs.Limits.{IsNumber, IsLabel, string_limit}
 use Rattle.cad_rows.specs.declared.names.Face.{Face}
 use Rattle.cad_rows.specs.declared.names.Face.TheVariants.{Outside, Parcel}
 use Rattle.cad_rows.specs.declared.names.Name.{Name}
-use Rattle.cad_rows.specs.declared.names.Name.TheVariants as name
 use Rattle.cad_rows.specs.declared.rows.PointRow.{PointRow}
 use Rattle.cad_rows.specs.declared.rows.ParcelRow.{ParcelRow}
 use Rattle.geo_exact.specs.Position.{OnTheMap}
@@ -23,7 +22,10 @@ use Rattle.cad_map.specs.Table.{row_with}
 use Rattle.cad_map.proofs.CallerLemmas.{All-follows, All-map, All-append, All-flat_map}
 use Rattle.cad_files.specs.Fields.{repeated}
 use Rattle.cad_files.specs.Rows.{Rows, AreInRange, IsSourceList, IsSourceRow, IsPointRow, IsParcelRow, IsPlanString}
-use Rattle.cad_files.specs.Building.{map_of, first_fault, twice_numbered, unknown_name, source_taken, point_taken, parcel_taken, string_taken, retired_taken, missing_name, sources_named, names_of_face, string_names, points_name, parcels_name, strings_name, is_dangling, dangling, bad_corner, other_label}
+use Rattle.cad_files.specs.Building.{map_of, first_fault, twice_numbered, unknown_name, missing_name, sources_named, names_of_face, string_names, points_name, parcels_name, strings_name, is_dangling, dangling, bad_corner, other_label}
+use Rattle.cad_files.specs.Kinds.{numbers_of, taken_before, name_of, taken_of}
+use Rattle.cad_files.specs.declared.kinds.Kind.{Kind}
+use Rattle.cad_files.specs.declared.kinds.Kind.TheVariants.{Sources, Points, Parcels, Strings, Retired}
 use Rattle.cad_files.specs.declared.rows.PlanString.{PlanString}
 use Rattle.cad_files.specs.declared.faults.PlanFault.TheVariants as faults
 use Rattle.cad_files.proofs.FaultFacts.{none-parts, map-none}
@@ -32,17 +34,32 @@ use Rattle.cad_files.proofs.RowFacts.{is_some-row_with}
 -- ---- No fault
 
 pub record IsFaultless (rows : Rows) : Type 0 where
-  pub sources : source_taken rows.sources ≡ None
-  pub points : point_taken rows.points ≡ None
-  pub parcels : parcel_taken rows.parcels ≡ None
-  pub strings : string_taken rows.strings ≡ None
-  pub retired : retired_taken rows.parcels rows.retired ≡ None
+  pub unrepeated : (kind : Kind) → repeated (taken_before rows kind) (numbers_of rows kind) ≡ None
   pub points_name : missing_name (map_of rows) (points_name rows.points) ≡ None
   pub parcels_name : missing_name (map_of rows) (parcels_name rows.parcels) ≡ None
   pub strings_name : missing_name (map_of rows) (strings_name rows.strings) ≡ None
   pub dangling : dangling (map_of rows) rows.strings ≡ None
   pub corner : bad_corner (map_of rows) rows.strings ≡ None
   pub label : other_label (map_of rows) rows.strings ≡ None
+
+untaken : (rows : Rows) → twice_numbered rows ≡ None → (kind : Kind) → taken_of rows kind ≡ None
+untaken rows none kind =
+    let sources = none-parts _ _ none in
+    let points = none-parts _ _ sources.1 in
+    let parcels = none-parts _ _ points.1 in
+    let strings = none-parts _ _ parcels.1 in
+    let retired = none-parts _ _ strings.1 in
+    elim kind as (λ kind. taken_of rows kind ≡ None) [
+      | Sources ↦ sources.0
+      | Points ↦ points.0
+      | Parcels ↦ parcels.0
+      | Strings ↦ strings.0
+      | Retired ↦ retired.0
+    ]
+
+unrepeated : (rows : Rows) (kind : Kind) → taken_of rows kind ≡ None → repeated (taken_before rows kind) (numbers_of rows kind) ≡ None
+unfolding taken_of
+unrepeated rows kind none = map-none (λ n. name_of kind n) _ none
 
 pub faultless : (rows : Rows) → first_fault rows ≡ None → IsFaultless rows
 faultless rows none =
@@ -51,20 +68,11 @@ faultless rows none =
     let d = none-parts _ _ b.1 in
     let e = none-parts _ _ d.1 in
     let l = none-parts _ _ e.1 in
-    let t1 = none-parts _ _ (map-none (λ n. faults.Taken n) (twice_numbered rows) a.0) in
-    let t2 = none-parts _ _ t1.1 in
-    let t3 = none-parts _ _ t2.1 in
-    let t4 = none-parts _ _ t3.1 in
-    let t5 = none-parts _ _ t4.1 in
     let u1 = none-parts _ _ (map-none (λ n. faults.Unknown n) (unknown_name rows) b.0) in
     let u2 = none-parts _ _ u1.1 in
     let u3 = none-parts _ _ u2.1 in
     record {
-      sources = t1.0;
-      points = t2.0;
-      parcels = t3.0;
-      strings = t4.0;
-      retired = t5.0;
+      unrepeated = λ kind. unrepeated rows kind (untaken rows (map-none (λ n. faults.Taken n) (twice_numbered rows) a.0) kind);
       points_name = u1.0;
       parcels_name = u2.0;
       strings_name = u3.0;
@@ -98,37 +106,19 @@ pub distinct : (ns : List ℕ) → repeated [] ns ≡ None → EachPair (λ a b.
 distinct ns none = (distinct-from [] ns none).0
 
 module _ {R : Type 0} (P : R → Type 0) (number : R → ℕ) (in_range : (r : R) → P r → IsNumber (number r)) where
-  numbers : (said : ℕ → Name) (rows : List R) → AllByRecursion P rows → option_map said (repeated [] (map number rows)) ≡ None → AreNumbers (map number rows)
-  numbers said rows all none = record {
+  numbers : (rows : List R) → AllByRecursion P rows → repeated [] (map number rows) ≡ None → AreNumbers (map number rows)
+  numbers rows all none = record {
     in_range = All-map IsNumber number rows (All-follows P (λ r. IsNumber (number r)) in_range rows all);
-    distinct = distinct _ (map-none said _ none);
+    distinct = distinct _ none;
   }
-
-source_numbers : (rows : Rows) → AllByRecursion IsSourceRow rows.sources → source_taken rows.sources ≡ None → AreNumbers (map (λ r. r.number) rows.sources)
-unfolding source_taken
-source_numbers rows all none = numbers IsSourceRow (λ r. r.number) (λ r h. h.number) (λ n. name.Source n) rows.sources all none
-
-point_numbers : (rows : Rows) → AllByRecursion IsPointRow rows.points → point_taken rows.points ≡ None → AreNumbers (map (λ r. r.number) rows.points)
-unfolding point_taken
-point_numbers rows all none = numbers IsPointRow (λ r. r.number) (λ r h. h.number) (λ n. name.Point n) rows.points all none
-
-parcel_numbers : (rows : Rows) → AllByRecursion IsParcelRow rows.parcels → parcel_taken rows.parcels ≡ None → AreNumbers (map (λ r. r.number) rows.parcels)
-unfolding parcel_taken
-parcel_numbers rows all none = numbers IsParcelRow (λ r. r.number) (λ r h. h.number) (λ n. name.Parcel n) rows.parcels all none
 
 rows-numbers : (strings : List PlanString) → map (λ s. s.row.number) strings ≡ map (λ r. r.number) (map (λ s. s.row) strings)
 rows-numbers [] = refl
 rows-numbers (s ∷ strings) = ap (λ (ns : List ℕ). s.row.number ∷ ns) (rows-numbers strings)
 
-string_numbers : (rows : Rows) → AllByRecursion IsPlanString rows.strings → string_taken rows.strings ≡ None → AreNumbers (map (λ r. r.number) (map (λ s. s.row) rows.strings))
-unfolding string_taken
-string_numbers rows all none =
-    subst (λ (ns : List ℕ). AreNumbers ns) (rows-numbers rows.strings) (numbers IsPlanString (λ s. s.row.number) (λ s h. h.number) (λ n. name.String n) rows.strings all none)
-
-retired_numbers : (parcels : List ParcelRow) (ns : List ℕ) → retired_taken parcels ns ≡ None → EachPair (λ a b. a ≢ b) ns × AllByRecursion (λ n. is_some (row_with (λ r. r.number) n parcels) ≡ false) ns
-unfolding retired_taken
+retired_numbers : (parcels : List ParcelRow) (ns : List ℕ) → repeated (map (λ r. r.number) parcels) ns ≡ None → EachPair (λ a b. a ≢ b) ns × AllByRecursion (λ n. is_some (row_with (λ r. r.number) n parcels) ≡ false) ns
 retired_numbers parcels ns none =
-    let both = distinct-from (map (λ r. r.number) parcels) ns (map-none (λ n. name.Parcel n) _ none) in
+    let both = distinct-from (map (λ r. r.number) parcels) ns none in
     (both.0, All-follows _ (λ n. is_some (row_with (λ r. r.number) n parcels) ≡ false) (λ n new. is_some-row_with (λ r. r.number) n parcels ∙ new) ns both.1)
 
 -- ---- Each row that is named is there
@@ -248,12 +238,12 @@ module _ (rows : Rows) (range : AreInRange rows) (none : first_fault rows ≡ No
       let points = recursion_from_All IsPointRow rows.points range.points in
       let parcels = recursion_from_All IsParcelRow rows.parcels range.parcels in
       let strings = recursion_from_All IsPlanString rows.strings range.strings in
-      let retired = retired_numbers rows.parcels rows.retired free.retired in
+      let retired = retired_numbers rows.parcels rows.retired (free.unrepeated Retired) in
       record {
-        sources = source_numbers rows sources free.sources;
-        points = point_numbers rows points free.points;
-        parcels = parcel_numbers rows parcels free.parcels;
-        strings = string_numbers rows strings free.strings;
+        sources = numbers IsSourceRow (λ r. r.number) (λ r h. h.number) rows.sources sources (free.unrepeated Sources);
+        points = numbers IsPointRow (λ r. r.number) (λ r h. h.number) rows.points points (free.unrepeated Points);
+        parcels = numbers IsParcelRow (λ r. r.number) (λ r h. h.number) rows.parcels parcels (free.unrepeated Parcels);
+        strings = subst (λ (ns : List ℕ). AreNumbers ns) (rows-numbers rows.strings) (numbers IsPlanString (λ s. s.row.number) (λ s h. h.number) rows.strings strings (free.unrepeated Strings));
         retired = record { in_range = recursion_from_All IsNumber rows.retired range.retired; distinct = retired.0 };
         retired_for_good = retired.1;
         texts = All-follows IsSourceRow (λ r. IsLabel r.text) (λ r h. h.text) rows.sources sources;

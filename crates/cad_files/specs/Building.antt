@@ -7,7 +7,6 @@ use Rattle.cad_rows.specs.declared.names.Face.TheVariants.{Outside, Parcel}
 use Rattle.cad_rows.specs.declared.rows.PointRow.{PointRow}
 use Rattle.cad_rows.specs.declared.rows.ParcelRow.{ParcelRow}
 use Rattle.cad_rows.specs.declared.rows.StringRow.{StringRow}
-use Rattle.cad_rows.specs.declared.rows.SourceRow.{SourceRow}
 use Rattle.cad_rows.specs.declared.names.Name.{Name}
 use Rattle.cad_rows.specs.declared.names.Name.TheVariants as name
 use Rattle.cad_rows.specs.declared.refusals.Rule.{Rule}
@@ -17,9 +16,10 @@ use Rattle.cad_map.specs.Map.{Map, degree, left_face, right_face}
 use Rattle.cad_map.specs.Refusals.{is_there}
 use Rattle.cad_map.specs.Valid.{IsValid, FirstBroken}
 use Rattle.std.specs.Prelude.{unwrap_or}
-use Rattle.cad_files.specs.Fields.{repeated}
 use Rattle.cad_files.specs.Follower.{followers, LabelledSide, labelled_sides, HasRingsOf}
 use Rattle.cad_files.specs.Rows.{Rows}
+use Rattle.cad_files.specs.Kinds.{taken_of}
+use Rattle.cad_files.specs.declared.kinds.Kind.TheVariants.{Sources, Points, Parcels, Strings, Retired}
 use Rattle.cad_files.specs.declared.rows.PlanString.{PlanString}
 use Rattle.cad_files.specs.declared.faults.PlanFault.{PlanFault}
 use Rattle.cad_files.specs.declared.faults.PlanFault.TheVariants as faults
@@ -69,32 +69,11 @@ first_some (Some x ∷ rest) = Some x
 
 -- ---- A number that stands twice
 
--- the first source whose number an earlier one has
-unfoldable pub source_taken : List SourceRow → Option Name
-source_taken rows = option_map (λ n. name.Source n) (repeated [] (map (λ r. r.number) rows))
-
--- the first point whose number an earlier one has
-unfoldable pub point_taken : List PointRow → Option Name
-point_taken rows = option_map (λ n. name.Point n) (repeated [] (map (λ r. r.number) rows))
-
--- the first parcel whose number an earlier one has
-unfoldable pub parcel_taken : List ParcelRow → Option Name
-parcel_taken rows = option_map (λ n. name.Parcel n) (repeated [] (map (λ r. r.number) rows))
-
--- the first string whose number an earlier one has
-unfoldable pub string_taken : List PlanString → Option Name
-string_taken rows = option_map (λ n. name.String n) (repeated [] (map (λ s. s.row.number) rows))
-
--- the first retired number that a parcel or an earlier retired number has
-unfoldable pub retired_taken : List ParcelRow → List ℕ → Option Name
-retired_taken parcels numbers =
-    option_map (λ n. name.Parcel n) (repeated (map (λ r. r.number) parcels) numbers)
-
 -- by kinds: sources, points, parcels, strings, retired numbers
 abbrev pub twice_numbered : Rows → Option Name
 twice_numbered rows =
-    first_some (source_taken rows.sources ∷ point_taken rows.points ∷ parcel_taken rows.parcels
-    ∷ string_taken rows.strings ∷ retired_taken rows.parcels rows.retired ∷ [])
+    first_some (taken_of rows Sources ∷ taken_of rows Points ∷ taken_of rows Parcels
+    ∷ taken_of rows Strings ∷ taken_of rows Retired ∷ [])
 
 -- ---- A row that is named and isn't there
 

@@ -6,6 +6,7 @@ pub mod PlanRecords
 pub mod Plan
 pub mod PlanMap
 pub mod Follower
+pub mod Kinds
 pub mod Building
 pub mod Line
 pub mod Texts

@@ -13,8 +13,8 @@ use Rattle.cad_rows.specs.declared.names.Face.TheVariants.{Outside, Parcel}
 use Rattle.cad_map.specs.Map.{Map}
 use Rattle.cad_files.specs.Building.{plan_string_of}
 use Rattle.cad_files.specs.declared.rows.PlanString.{PlanString}
-use Rattle.cad_files.specs.declared.plan_texts.Kind.{Kind}
-use Rattle.cad_files.specs.declared.plan_texts.Kind.TheVariants.{Sources, Points, Parcels, Strings, Retired}
+use Rattle.cad_files.specs.declared.kinds.Kind.{Kind}
+use Rattle.cad_files.specs.declared.kinds.Kind.TheVariants.{Sources, Points, Parcels, Strings, Retired}
 
 abbrev pub Record : Type 0
 Record = List (List ℕ)

@@ -1,92 +1,48 @@
 //! Building the map of a plan.
-ghost use Rattle.std.specs.Prelude.{◌≡◌, ◌≢◌, [], ◌||◌, IfOk, IfErr, OnOk, Some, None, option_map, map};
+ghost use Rattle.std.specs.Prelude.{◌≡◌, ◌≢◌, ◌<◌, ◌+◌, ◌||◌, false, length, get_or, IfOk, IfErr, OnOk, Some, None, option_map, map};
 ghost use Rattle.cad_map.specs.Map.{empty_map, has_parcel, is_retired};
-ghost use Rattle.cad_files.specs.Building.{source_taken, point_taken, parcel_taken, string_taken, retired_taken, twice_numbered, map_of, first_fault};
+ghost use Rattle.cad_files.specs.Building.{twice_numbered, map_of, first_fault};
+ghost use Rattle.cad_files.specs.Kinds.{numbers_of, name_of, is_taken as is_taken_in, taken_of, filled};
 ghost use Rattle.cad_files.specs.Cycles.{AreSidesOf, AreLinked, followed_side};
 ghost use Rattle.cad_files.specs.declared.faults.PlanFault.TheVariants as faults;
 
 use crate::corners::follow_sides;
 use crate::dangling::first_dangling;
 use crate::faults::PlanFault;
+use crate::kinds::Kind;
 use crate::labels::first_other_label;
 use crate::naming::missing_row;
-use crate::rows::{PlanRows, PlanString};
+use crate::rows::PlanRows;
 use crate::sides::PlanSide;
 use cad_map::{MapView, PlainMap, Stars};
-use cad_rows::{Name, ParcelNo, ParcelRow, PointRow, SourceRow};
+use cad_rows::{Memory, Name, ParcelNo};
 use std::alloc::Global;
 
-// Puts the sources into an empty map, up to one whose number an earlier one has.
-fn put_sources(plain: &mut PlainMap, rows: &[SourceRow]) -> Result<(), PlanFault>
-    requires { plain.old ≡ empty_map }
-    ensures ok { OnOk result (plain.new ≡ record empty_map { sources = rows.now }) }
-    ensures free { OnOk result (source_taken rows.now ≡ None) }
-    ensures err { IfErr result (λ fault. fault ≢ faults.Memory
-        → option_map (λ n. faults.Taken n) (source_taken rows.now) ≡ Some fault) }
+// How many rows of a kind there are.
+fn count_of(rows: &PlanRows, kind: Kind) -> usize
+    ensures { result ≡ length (numbers_of rows.now kind) }
 {
-    for i in 0..rows.len() {
-        let row = &rows[i];
-        if plain.source(row.number).is_some() {
-            return Err(PlanFault::Taken(Name::Source(row.number)));
-        }
-        plain.put_source(row.copy()?)?;
+    match kind {
+        Kind::Sources => rows.sources.len(),
+        Kind::Points => rows.points.len(),
+        Kind::Parcels => rows.parcels.len(),
+        Kind::Strings => rows.strings.len(),
+        Kind::Retired => rows.retired.len(),
     }
-    Ok(())
 }
 
-// Puts the points into a map without points, up to one whose number an earlier one has.
-fn put_points(plain: &mut PlainMap, rows: &[PointRow]) -> Result<(), PlanFault>
-    requires { plain.old.points ≡ [] }
-    ensures ok { OnOk result (plain.new ≡ record plain.old { points = rows.now }) }
-    ensures free { OnOk result (point_taken rows.now ≡ None) }
-    ensures err { IfErr result (λ fault. fault ≢ faults.Memory
-        → option_map (λ n. faults.Taken n) (point_taken rows.now) ≡ Some fault) }
+// The name of the row of a kind at a place.
+fn name_at(rows: &PlanRows, kind: Kind, place: usize) -> Name
+    requires { place < length (numbers_of rows.now kind) }
+    ensures { result ≡ name_of kind (get_or (numbers_of rows.now kind) place 0) }
 {
-    for i in 0..rows.len() {
-        let row = &rows[i];
-        if plain.point(row.number).is_some() {
-            return Err(PlanFault::Taken(Name::Point(row.number)));
-        }
-        plain.put_point(row.copy()?)?;
+    match kind {
+        Kind::Sources => Name::Source(rows.sources[place].number),
+        Kind::Points => Name::Point(rows.points[place].number),
+        Kind::Parcels => Name::Parcel(rows.parcels[place].number),
+        Kind::Strings => Name::String(rows.strings[place].row.number),
+        Kind::Retired => Name::Parcel(rows.retired[place]),
     }
-    Ok(())
-}
-
-// Puts the parcels into a map without parcels, up to one whose number an earlier one has.
-fn put_parcels(plain: &mut PlainMap, rows: &[ParcelRow]) -> Result<(), PlanFault>
-    requires { plain.old.parcels ≡ [] }
-    ensures ok { OnOk result (plain.new ≡ record plain.old { parcels = rows.now }) }
-    ensures free { OnOk result (parcel_taken rows.now ≡ None) }
-    ensures err { IfErr result (λ fault. fault ≢ faults.Memory
-        → option_map (λ n. faults.Taken n) (parcel_taken rows.now) ≡ Some fault) }
-{
-    for i in 0..rows.len() {
-        let row = &rows[i];
-        if plain.parcel(row.number).is_some() {
-            return Err(PlanFault::Taken(Name::Parcel(row.number)));
-        }
-        plain.put_parcel(row.copy()?)?;
-    }
-    Ok(())
-}
-
-// Puts the rows of the strings into a map without strings, up to one whose number an earlier one has.
-fn put_strings(plain: &mut PlainMap, rows: &[PlanString]) -> Result<(), PlanFault>
-    requires { plain.old.strings ≡ [] }
-    ensures ok { OnOk result (plain.new
-        ≡ record plain.old { strings = map (λ s. s.row) rows.now }) }
-    ensures free { OnOk result (string_taken rows.now ≡ None) }
-    ensures err { IfErr result (λ fault. fault ≢ faults.Memory
-        → option_map (λ n. faults.Taken n) (string_taken rows.now) ≡ Some fault) }
-{
-    for i in 0..rows.len() {
-        let string = &rows[i];
-        if plain.string(string.row.number).is_some() {
-            return Err(PlanFault::Taken(Name::String(string.row.number)));
-        }
-        plain.put_string(string.row.copy()?)?;
-    }
-    Ok(())
 }
 
 // Whether the map has the parcel, or its number is retired.
@@ -96,21 +52,50 @@ fn is_used(plain: &PlainMap, no: ParcelNo) -> bool
     plain.parcel(no).is_some() || plain.is_retired(no)
 }
 
-// Puts the retired numbers into a map without any, up to one that a parcel or an earlier one has.
-fn put_retired(plain: &mut PlainMap, rows: &[ParcelNo]) -> Result<(), PlanFault>
-    requires { plain.old.retired ≡ [] }
-    ensures ok { OnOk result (plain.new ≡ record plain.old { retired = rows.now }) }
-    ensures free { OnOk result (retired_taken plain.old.parcels rows.now ≡ None) }
-    ensures err { IfErr result (λ fault. fault ≢ faults.Memory
-        → option_map (λ n. faults.Taken n) (retired_taken plain.old.parcels rows.now)
-        ≡ Some fault) }
+// Whether the map has a row with this name, or its number is retired.
+fn is_taken(plain: &PlainMap, name: &Name) -> bool
+    ensures { result ≡ is_taken_in plain.now name.now }
 {
-    for i in 0..rows.len() {
-        let no = rows[i];
-        if is_used(plain, no) {
-            return Err(PlanFault::Taken(Name::Parcel(no)));
+    match name {
+        Name::Source(no) => plain.source(*no).is_some(),
+        Name::Point(no) => plain.point(*no).is_some(),
+        Name::Parcel(no) => is_used(plain, *no),
+        Name::String(no) => plain.string(*no).is_some(),
+    }
+}
+
+// Puts the row of a kind at a place behind those before it.
+fn put_row(plain: &mut PlainMap, rows: &PlanRows, kind: Kind, place: usize) -> Result<(), Memory>
+    requires there { place < length (numbers_of rows.now kind) }
+    requires before { plain.old ≡ filled rows.now kind place }
+    requires free { is_taken_in plain.old (name_of kind (get_or (numbers_of rows.now kind) place 0))
+        ≡ false }
+    ensures { OnOk result (plain.new ≡ filled rows.now kind (place + 1)) }
+{
+    match kind {
+        Kind::Sources => plain.put_source(rows.sources[place].copy()?),
+        Kind::Points => plain.put_point(rows.points[place].copy()?),
+        Kind::Parcels => plain.put_parcel(rows.parcels[place].copy()?),
+        Kind::Strings => plain.put_string(rows.strings[place].row.copy()?),
+        Kind::Retired => plain.put_retired(rows.retired[place]),
+    }
+}
+
+// Puts the rows of a kind behind those of the kinds before it, up to one whose number is taken before it.
+fn put_kind(plain: &mut PlainMap, rows: &PlanRows, kind: Kind) -> Result<(), PlanFault>
+    requires { plain.old ≡ filled rows.now kind 0 }
+    ensures ok { OnOk result
+        (plain.new ≡ filled rows.now kind (length (numbers_of rows.now kind))) }
+    ensures free { OnOk result (taken_of rows.now kind ≡ None) }
+    ensures err { IfErr result (λ fault. fault ≢ faults.Memory
+        → option_map (λ n. faults.Taken n) (taken_of rows.now kind) ≡ Some fault) }
+{
+    for place in 0..count_of(rows, kind) {
+        let name = name_at(rows, kind, place);
+        if is_taken(plain, &name) {
+            return Err(PlanFault::Taken(name));
         }
-        plain.put_retired(no)?;
+        put_row(plain, rows, kind, place)?;
     }
     Ok(())
 }
@@ -124,23 +109,19 @@ pub(crate) fn put_rows(plain: &mut PlainMap, rows: &PlanRows) -> Result<(), Plan
     ensures err { IfErr result (λ fault. fault ≢ faults.Memory
         → option_map (λ n. faults.Taken n) (twice_numbered rows.now) ≡ Some fault) }
 {
-    match put_sources(plain, rows.sources.as_slice()) {
-        Ok(()) => {}
-        Err(fault) => return Err(fault),
+    if let Err(fault) = put_kind(plain, rows, Kind::Sources) {
+        return Err(fault);
     }
-    match put_points(plain, rows.points.as_slice()) {
-        Ok(()) => {}
-        Err(fault) => return Err(fault),
+    if let Err(fault) = put_kind(plain, rows, Kind::Points) {
+        return Err(fault);
     }
-    match put_parcels(plain, rows.parcels.as_slice()) {
-        Ok(()) => {}
-        Err(fault) => return Err(fault),
+    if let Err(fault) = put_kind(plain, rows, Kind::Parcels) {
+        return Err(fault);
     }
-    match put_strings(plain, rows.strings.as_slice()) {
-        Ok(()) => {}
-        Err(fault) => return Err(fault),
+    if let Err(fault) = put_kind(plain, rows, Kind::Strings) {
+        return Err(fault);
     }
-    put_retired(plain, rows.retired.as_slice())
+    put_kind(plain, rows, Kind::Retired)
 }
 
 /// The sides of a plan's strings with their followers, where its rows have no fault.

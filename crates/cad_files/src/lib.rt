@@ -12,6 +12,7 @@ mod faults;
 mod fields;
 mod followers;
 mod input;
+mod kinds;
 mod labels;
 mod line;
 mod list_texts;

@@ -9,6 +9,7 @@ ghost use Rattle.cad_files.specs.Building.{rows_of, IsBuilt};
 ghost use Rattle.cad_files.specs.PlanMap.{IsPlanOf, IsFaultOf};
 ghost use Rattle.cad_files.specs.declared.faults.PlanFault.{PlanFault};
 
+use crate::kinds::Kind;
 use crate::list_texts::list_text;
 use crate::writing::{finished, write_record, writer as new_writer};
 use cad_map::MapView;
@@ -105,16 +106,6 @@ fn write_retired_number(
     let number = parcel.get().to_string(alloc)?;
     let number = number.as_bytes();
     write_record(writer, &[b"retired", number, b"", b"", b"", b"", b""])
-}
-
-/// The kinds of a map's rows.
-#[derive(Clone, Copy)]
-enum Kind {
-    Sources,
-    Points,
-    Parcels,
-    Strings,
-    Retired,
 }
 
 // How many rows of a kind there are.

@@ -1,6 +1,6 @@
 use Rattle.std.proofs.Common.{◌∙◌, sym, []}
 use Rattle.cad_files.specs.Texts.{first_record, open_record, records_of}
-use Rattle.cad_files.specs.declared.plan_texts.Kind.TheVariants.{Sources, Points, Parcels, Strings, Retired}
+use Rattle.cad_files.specs.declared.kinds.Kind.TheVariants.{Sources, Points, Parcels, Strings, Retired}
 use Rattle.cad_files.proofs.TextFacts.{text_of-between}
 use Rattle.cad_files.proofs.plan_texts.plan_text.Goals as goal
 

@@ -1,9 +1,0 @@
-use Rattle.std.proofs.Common.{◌≡◌, [], take, drop, map}
-use Rattle.cad_files.specs.Fields.{repeated}
-use Rattle.cad_files.proofs.building.put_strings.Given as goal
-
-abbrev pub invariant-loop-i : goal.invariant-loop-i
-invariant-loop-i l = record {
-  put : l.plain ≡ record l.fn.plain { strings = map (λ s. s.row) (take l.i l.rows) };
-  free : repeated (take l.i (map (λ s. s.row.number) l.rows)) (drop l.i (map (λ s. s.row.number) l.rows)) ≡ repeated [] (map (λ s. s.row.number) l.rows);
-}
