@@ -1,17 +1,15 @@
 -- What a list of records is as a plan.
-use Rattle.std.specs.Prelude.{◌≡◌, ◌≢◌, ◌≤◌, ℕ, ◌+◌, ◌&&◌, nat_le, nat_lt, Bool, true, false, List, [], ◌∷◌, ◌++◌, length, fold, Option, Some, None, option_map, option_and_then, if◌then◌else◌, ℤ, pos, neg_ℤ, int_le, Result, OnOk, IfErr}
+use Rattle.std.specs.Prelude.{◌≡◌, ◌≢◌, ◌≤◌, ℕ, ◌+◌, ◌&&◌, nat_le, Bool, true, false, List, [], ◌∷◌, ◌++◌, length, fold, Option, Some, None, option_map, option_and_then, if◌then◌else◌, ℤ, pos, neg_ℤ, int_le, Result, OnOk, IfErr}
 use Rattle.geo_exact.specs.Position.{coordinate_limit}
-use Rattle.cad_rows.specs.Limits.{row_limit, string_limit, source_limit}
-use Rattle.cad_rows.specs.declared.rows.SourceRow.{SourceRow}
+use Rattle.cad_rows.specs.Limits.{source_limit}
 use Rattle.cad_files.specs.Record.{seven_of}
 use Rattle.cad_files.specs.PlanRecords.{version_of, plan_of_fields}
 use Rattle.cad_files.specs.Input.{BeginsWith, IsWhole, AreTaken}
-use Rattle.cad_files.specs.Rows.{Rows, no_rows, plan_limit, HasOneMore}
+use Rattle.cad_files.specs.Rows.{Rows, no_rows, plan_limit, HasOneMore, has_room, with_row, sources_of}
 use Rattle.cad_files.specs.declared.plan_records.Version.{Version}
 use Rattle.cad_files.specs.declared.plan_records.Version.TheVariants.{One, Two}
-use Rattle.cad_files.specs.declared.plan_records.PointRecord.{PointRecord}
-use Rattle.cad_files.specs.declared.plan_records.ParcelRecord.{ParcelRecord}
-use Rattle.cad_files.specs.declared.plan_records.StringRecord.{StringRecord}
+use Rattle.cad_files.specs.declared.rows.PlanRow.{PlanRow}
+use Rattle.cad_files.specs.declared.rows.PlanRow.TheVariants as row
 use Rattle.cad_files.specs.declared.plan_records.PlanRecord.{PlanRecord}
 use Rattle.cad_files.specs.declared.plan_records.PlanRecord.TheVariants as records
 use Rattle.cad_files.specs.declared.faults.PlanFault.{PlanFault}
@@ -40,72 +38,47 @@ pub data Plan : Type 0 where
   -- the first fault
   faulty : PlanFault → Plan
 
--- the source's row last, where there is room
-abbrev pub with_source : Rows → SourceRow → Option Rows
-with_source rows row =
-    if nat_lt (length rows.sources) row_limit then
-    Some (record rows { sources = rows.sources ++ row ∷ [] }) else None
+-- the row that a record gives, and none where it ends the plan
+abbrev pub row_of : PlanRecord → Option PlanRow
+row_of (records.Source s) = Some (row.Source s)
+row_of (records.Point p) = Some (row.Point
+    (record { number = p.number; position = record { x = p.x; y = p.y }; sources = p.sources }))
+row_of (records.Parcel p) = Some (row.Parcel
+    (record { number = p.number; label = p.label; sources = p.sources }))
+row_of (records.String s) = Some (row.String (record {
+  row = record { number = s.number; from = s.from; to = s.to; sources = s.sources };
+  left = s.left;
+  right = s.right;
+}))
+row_of (records.Retired n) = Some (row.Retired n)
+row_of records.Open = None
 
--- the point's row last, where its sources are few and there is room
-abbrev pub with_point_record : Rows → PointRecord → Option Rows
-with_point_record rows p =
-    if nat_le (length p.sources) source_limit && nat_lt (length rows.points) row_limit then
-    Some (record rows {
-      points = rows.points
-          ++ record { number = p.number; position = record { x = p.x; y = p.y }; sources = p.sources }
-          ∷ [];
-    })
+-- its coordinates, where it has any, are within the limit of the version
+abbrev pub is_placed : Version → PlanRecord → Bool
+is_placed version (records.Point p) = is_within version p.x && is_within version p.y
+is_placed version _ = true
+
+-- the row last, where its sources are few and there is room
+abbrev pub with_one_more : Rows → PlanRow → Option Rows
+with_one_more rows r =
+    if nat_le (length (sources_of r)) source_limit && has_room rows r then Some (with_row rows r)
     else None
-
--- the parcel's row last, where its sources are few and there is room
-abbrev pub with_parcel_record : Rows → ParcelRecord → Option Rows
-with_parcel_record rows p =
-    if nat_le (length p.sources) source_limit && nat_lt (length rows.parcels) row_limit then
-    Some (record rows {
-      parcels = rows.parcels
-          ++ record { number = p.number; label = p.label; sources = p.sources } ∷ [];
-    })
-    else None
-
--- the string's row last, with its two faces, where its sources are few and there is room
-abbrev pub with_string_record : Rows → StringRecord → Option Rows
-with_string_record rows s =
-    if nat_le (length s.sources) source_limit && nat_lt (length rows.strings) string_limit then
-    Some (record rows {
-      strings = rows.strings
-          ++ record { row = record { number = s.number; from = s.from; to = s.to; sources = s.sources }; left = s.left; right = s.right } ∷ [];
-    })
-    else None
-
--- the retired number last, where there is room
-abbrev pub with_retired : Rows → ℕ → Option Rows
-with_retired rows n =
-    if nat_lt (length rows.retired) row_limit then
-    Some (record rows { retired = rows.retired ++ n ∷ [] }) else None
 
 -- the plan goes on with these rows, or a limit is passed
 abbrev pub goes_on : Version → ℕ → Option Rows → Plan
 goes_on version n (Some rows) = reading version n rows
 goes_on version n None = faulty faults.Full
 
--- a point is looked at for its range before its limits
-abbrev pub point_step : Version → ℕ → Rows → PointRecord → Plan
-point_step version n rows p =
-    if is_within version p.x && is_within version p.y then goes_on version n (with_point_record rows p)
-    else faulty (faults.Range n)
+-- with a row the plan goes on, and ends without
+abbrev pub row_step : Version → ℕ → Rows → Option PlanRow → Plan
+row_step version n rows None = opened rows
+row_step version n rows (Some r) = goes_on version n (with_one_more rows r)
 
--- record number n, after those that gave the rows
+-- record number n, after those that gave the rows: a point is looked at for its range before its limits
 abbrev pub record_step : Version → ℕ → Rows → Option PlanRecord → Plan
 record_step version n rows None = faulty (faults.Syntax n)
-record_step version n rows (Some (records.Source row)) = goes_on version n (with_source rows row)
-record_step version n rows (Some (records.Point point)) = point_step version n rows point
-record_step version n rows (Some (records.Parcel parcel)) =
-    goes_on version n (with_parcel_record rows parcel)
-record_step version n rows (Some (records.String string)) =
-    goes_on version n (with_string_record rows string)
-record_step version n rows (Some (records.Retired number)) =
-    goes_on version n (with_retired rows number)
-record_step version n rows (Some records.Open) = opened rows
+record_step version n rows (Some r) =
+    if is_placed version r then row_step version n rows (row_of r) else faulty (faults.Range n)
 
 -- the first record: whether it has seven fields, and then whether they begin a plan
 abbrev pub first_step : Option (Option Version) → Plan

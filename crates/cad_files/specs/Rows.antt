@@ -1,5 +1,5 @@
 -- The rows of a plan, in the order of its records.
-use Rattle.std.specs.Prelude.{◌≡◌, ◌≤◌, ◌<◌, ℕ, ◌+◌, ◌*◌, List, [], length, All, None, Result, OnOk, OnErr}
+use Rattle.std.specs.Prelude.{◌≡◌, ◌≤◌, ◌<◌, ℕ, ◌+◌, ◌*◌, Bool, nat_lt, List, [], ◌∷◌, ◌++◌, length, All, None, Result, OnOk, OnErr}
 use Rattle.geo_exact.specs.Position.{OnTheMap}
 use Rattle.cad_rows.specs.Limits.{IsNumber, IsLabel, row_limit, string_limit, source_limit}
 use Rattle.cad_rows.specs.declared.names.Face.{Face}
@@ -9,6 +9,8 @@ use Rattle.cad_rows.specs.declared.rows.ParcelRow.{ParcelRow}
 use Rattle.cad_rows.specs.declared.rows.SourceRow.{SourceRow}
 use Rattle.cad_files.specs.Fields.{repeated}
 use Rattle.cad_files.specs.declared.rows.PlanString.{PlanString}
+use Rattle.cad_files.specs.declared.rows.PlanRow.{PlanRow}
+use Rattle.cad_files.specs.declared.rows.PlanRow.TheVariants as row
 
 pub record Rows : Type 0 where
   pub sources : List SourceRow
@@ -28,6 +30,29 @@ row_count rows =
 -- the most rows of all kinds
 abbrev pub plan_limit : ℕ
 plan_limit = row_limit * 4 + string_limit
+
+-- the rows of its kind are fewer than there may be
+abbrev pub has_room : Rows → PlanRow → Bool
+has_room rows (row.Source s) = nat_lt (length rows.sources) row_limit
+has_room rows (row.Point p) = nat_lt (length rows.points) row_limit
+has_room rows (row.Parcel p) = nat_lt (length rows.parcels) row_limit
+has_room rows (row.String s) = nat_lt (length rows.strings) string_limit
+has_room rows (row.Retired n) = nat_lt (length rows.retired) row_limit
+
+-- the row last among those of its kind
+abbrev pub with_row : Rows → PlanRow → Rows
+with_row rows (row.Source s) = record rows { sources = rows.sources ++ s ∷ [] }
+with_row rows (row.Point p) = record rows { points = rows.points ++ p ∷ [] }
+with_row rows (row.Parcel p) = record rows { parcels = rows.parcels ++ p ∷ [] }
+with_row rows (row.String s) = record rows { strings = rows.strings ++ s ∷ [] }
+with_row rows (row.Retired n) = record rows { retired = rows.retired ++ n ∷ [] }
+
+-- the sources that a row names
+abbrev pub sources_of : PlanRow → List ℕ
+sources_of (row.Point p) = p.sources
+sources_of (row.Parcel p) = p.sources
+sources_of (row.String s) = s.row.sources
+sources_of _ = []
 
 -- one row more than before, where there was room for it
 pub record HasOneMore (old new : Rows) : Type 0 where

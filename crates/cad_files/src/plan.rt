@@ -1,10 +1,13 @@
 //! Reading a plan.
-ghost use Rattle.std.specs.Prelude.{◌≡◌, ◌≢◌, ◌+◌, ◌<◌, ◌^◌, [], ℕ, List, true, IfOk, IfErr, OnOk, if◌then◌else◌};
+ghost use Rattle.std.specs.Prelude.{◌≡◌, ◌≢◌, ◌+◌, ◌<◌, ◌^◌, [], ℕ, List, true, false, Some, None, IfOk, IfErr, IfSome, OnOk, if◌then◌else◌};
 ghost use Rattle.csv.specs.Records.{fields_of};
 ghost use Rattle.cad_files.specs.Input.{HasRead};
-ghost use Rattle.cad_files.specs.Rows.{no_rows, HasOneMore};
-ghost use Rattle.cad_files.specs.Plan.{beginning, reading, opened, faulty, is_within as is_within_of, with_source, with_parcel_record, with_string_record, with_retired, point_step, record_step, plan_step, plan_of, IsPlanFault, IsTaken};
+ghost use Rattle.cad_files.specs.Fields.{repeated};
+ghost use Rattle.cad_files.specs.Rows.{no_rows, sources_of, HasOneMore};
+ghost use Rattle.cad_files.specs.Plan.{beginning, reading, opened, faulty, is_within as is_within_of, row_of, is_placed, with_one_more, record_step, plan_step, plan_of, IsPlanFault, IsTaken};
 ghost use Rattle.cad_files.specs.declared.faults.PlanFault.TheVariants as faults;
+ghost use Rattle.cad_files.specs.declared.plan_records.PlanRecord.TheVariants as records;
+ghost use Rattle.cad_files.specs.declared.rows.PlanRow.TheVariants as rows;
 
 use crate::faults::PlanFault;
 use crate::fields::seven;
@@ -12,10 +15,8 @@ use crate::input::{InputFault, next_row};
 use crate::plan_records::{
     ParcelRecord, PlanRecord, PointRecord, StringRecord, Version, plan_record, plan_version,
 };
-use crate::rows::{PlanRows, PlanString};
-use cad_rows::{
-    ParcelNo, ParcelRow, PointRow, ROW_LIMIT, SOURCE_LIMIT, STRING_LIMIT, SourceRow, StringRow,
-};
+use crate::rows::{PlanRow, PlanRows, PlanString};
+use cad_rows::{ParcelRow, PointRow, SOURCE_LIMIT, StringRow};
 use csv::{ByteRecord, Reader};
 use geo_exact::{COORDINATE_LIMIT, Pt};
 use std::alloc::Global;
@@ -34,29 +35,13 @@ fn is_within(version: Version, z: i64) -> bool
     }
 }
 
-// Takes a source into the rows.
-fn take_source(rows: &mut PlanRows, row: SourceRow) -> Result<(), PlanFault>
-    ensures { IsTaken result rows.old rows.new (with_source rows.old row) }
-{
-    if rows.sources.len() >= ROW_LIMIT {
-        return Err(PlanFault::Full);
-    }
-    rows.put_source(row)?;
-    Ok(())
-}
-
-// Takes the point of the record with this number into the rows.
-fn take_point(
-    version: Version,
-    count: u64,
-    rows: &mut PlanRows,
-    point: PointRecord,
-) -> Result<(), PlanFault>
-    ensures ok { OnOk result (point_step version count rows.old point
-        ≡ reading version count rows.new) }
-    ensures err { IfErr result (λ fault. fault ≢ faults.Memory
-        → point_step version count rows.old point ≡ faulty fault) }
-    ensures grows { OnOk result (HasOneMore rows.old rows.new) }
+// The row of a point, whose record has this number.
+fn point_row(version: Version, count: u64, point: PointRecord) -> Result<PointRow, PlanFault>
+    ensures row { IfOk result (λ row. row_of (records.Point point) ≡ Some (rows.Point row)) }
+    ensures placed { OnOk result (is_placed version (records.Point point) ≡ true) }
+    ensures once { IfOk result (λ row. repeated [] row.sources ≡ None) }
+    ensures err { IfErr result (λ fault. (fault ≡ faults.Range count)
+        × (is_placed version (records.Point point) ≡ false)) }
 {
     if !is_within(version, point.x) || !is_within(version, point.y) {
         return Err(PlanFault::Range(count));
@@ -64,66 +49,75 @@ fn take_point(
     let Some(position) = Pt::new(point.x, point.y) else {
         return Err(PlanFault::Range(count));
     };
-    if point.sources.len() > SOURCE_LIMIT || rows.points.len() >= ROW_LIMIT {
-        return Err(PlanFault::Full);
-    }
     let number = point.number;
     let sources = point.sources.into_numbers();
-    rows.put_point(PointRow {
+    Ok(PointRow {
         number,
         position,
         sources,
-    })?;
-    Ok(())
+    })
 }
 
-// Takes a parcel into the rows.
-fn take_parcel(rows: &mut PlanRows, parcel: ParcelRecord) -> Result<(), PlanFault>
-    ensures { IsTaken result rows.old rows.new (with_parcel_record rows.old parcel) }
+// The row of a parcel.
+fn parcel_row(parcel: ParcelRecord) -> ParcelRow
+    ensures row { row_of (records.Parcel parcel) ≡ Some (rows.Parcel result) }
+    ensures once { repeated [] result.sources ≡ None }
 {
-    if parcel.sources.len() > SOURCE_LIMIT || rows.parcels.len() >= ROW_LIMIT {
-        return Err(PlanFault::Full);
-    }
     let number = parcel.number;
     let label = parcel.label;
     let sources = parcel.sources.into_numbers();
-    rows.put_parcel(ParcelRow {
+    ParcelRow {
         number,
         label,
         sources,
-    })?;
-    Ok(())
+    }
 }
 
-// Takes a string into the rows, with the faces on its two sides.
-fn take_string(rows: &mut PlanRows, string: StringRecord) -> Result<(), PlanFault>
-    ensures { IsTaken result rows.old rows.new (with_string_record rows.old string) }
+// The row of a string, with the faces on its two sides.
+fn string_row(string: StringRecord) -> PlanString
+    ensures row { row_of (records.String string) ≡ Some (rows.String result) }
+    ensures once { repeated [] result.row.sources ≡ None }
 {
-    if string.sources.len() > SOURCE_LIMIT || rows.strings.len() >= STRING_LIMIT {
-        return Err(PlanFault::Full);
-    }
     let row = StringRow {
         number: string.number,
         from: string.from,
         to: string.to,
         sources: string.sources.into_numbers(),
     };
-    rows.put_string(PlanString {
+    PlanString {
         row,
         left: string.left,
         right: string.right,
-    })?;
-    Ok(())
+    }
 }
 
-// Takes a retired number into the rows.
-fn take_retired(rows: &mut PlanRows, parcel: ParcelNo) -> Result<(), PlanFault>
-    ensures { IsTaken result rows.old rows.new (with_retired rows.old parcel) }
+// The row that the record with this number gives, and none where it ends the plan.
+fn record_row(version: Version, count: u64, given: PlanRecord) -> Result<Option<PlanRow>, PlanFault>
+    ensures row { IfOk result (λ row. row ≡ row_of given) }
+    ensures placed { OnOk result (is_placed version given ≡ true) }
+    ensures once { IfOk result (λ row. IfSome row (λ r. repeated [] (sources_of r) ≡ None)) }
+    ensures err { IfErr result (λ fault. (fault ≡ faults.Range count)
+        × (is_placed version given ≡ false)) }
 {
-    if rows.retired.len() >= ROW_LIMIT {
+    Ok(Some(match given {
+        PlanRecord::Open => return Ok(None),
+        PlanRecord::Source(row) => PlanRow::Source(row),
+        PlanRecord::Point(point) => PlanRow::Point(point_row(version, count, point)?),
+        PlanRecord::Parcel(parcel) => PlanRow::Parcel(parcel_row(parcel)),
+        PlanRecord::String(string) => PlanRow::String(string_row(string)),
+        PlanRecord::Retired(parcel) => PlanRow::Retired(parcel),
+    }))
+}
+
+// Adds a row, where its sources are few and there is room for it.
+fn add_row(rows: &mut PlanRows, row: PlanRow) -> Result<(), PlanFault>
+    requires { repeated [] (sources_of row) ≡ None }
+    ensures { IsTaken result rows.old rows.new (with_one_more rows.old row) }
+{
+    if row.source_count() > SOURCE_LIMIT || !rows.has_room(&row) {
         return Err(PlanFault::Full);
     }
-    rows.put_retired(parcel)?;
+    rows.put(row)?;
     Ok(())
 }
 
@@ -140,17 +134,13 @@ fn take_record(
         → record_step version count rows.old found ≡ faulty fault) }
     ensures grows { IfOk result (λ more. more ≡ true → HasOneMore rows.old rows.new) }
 {
-    let Some(record) = found else {
+    let Some(given) = found else {
         return Err(PlanFault::Syntax(count));
     };
-    match record {
-        PlanRecord::Open => return Ok(false),
-        PlanRecord::Source(row) => take_source(rows, row)?,
-        PlanRecord::Point(point) => take_point(version, count, rows, point)?,
-        PlanRecord::Parcel(parcel) => take_parcel(rows, parcel)?,
-        PlanRecord::String(string) => take_string(rows, string)?,
-        PlanRecord::Retired(parcel) => take_retired(rows, parcel)?,
-    }
+    let Some(row) = record_row(version, count, given)? else {
+        return Ok(false);
+    };
+    add_row(rows, row)?;
     Ok(true)
 }
 

@@ -1,9 +1,10 @@
 //! The rows of a plan.
-ghost use Rattle.std.specs.Prelude.{◌≡◌, ◌∷◌, ◌++◌, ◌<◌, length, []};
-ghost use Rattle.cad_rows.specs.Limits.{row_limit, string_limit};
-ghost use Rattle.cad_files.specs.Rows.{no_rows, IsSourceList, IsPut};
+ghost use Rattle.std.specs.Prelude.{◌≡◌, length, IsTrue};
+ghost use Rattle.cad_files.specs.Rows.{no_rows, has_room as has_room_for, with_row, sources_of, IsSourceList, IsPut};
 
-use cad_rows::{Face, Memory, ParcelNo, ParcelRow, PointRow, SourceRow, StringRow};
+use cad_rows::{
+    Face, Memory, ParcelNo, ParcelRow, PointRow, ROW_LIMIT, STRING_LIMIT, SourceRow, StringRow,
+};
 use std::alloc::Global;
 use std::marker::Model;
 
@@ -13,6 +14,30 @@ pub struct PlanString {
     pub row: StringRow,
     pub left: Face,
     pub right: Face,
+}
+
+/// A row of a plan.
+#[derive(Drop)]
+pub(crate) enum PlanRow {
+    Source(SourceRow),
+    Point(PointRow),
+    Parcel(ParcelRow),
+    String(PlanString),
+    Retired(ParcelNo),
+}
+
+impl PlanRow {
+    // How many sources it names.
+    pub(crate) fn source_count(&self) -> usize
+        ensures { result ≡ length (sources_of self.now) }
+    {
+        match self {
+            PlanRow::Point(row) => row.sources.len(),
+            PlanRow::Parcel(row) => row.sources.len(),
+            PlanRow::String(string) => string.row.sources.len(),
+            PlanRow::Source(_) | PlanRow::Retired(_) => 0,
+        }
+    }
 }
 
 /// The rows of a plan, in the order of its records: each in range, none of its lists of sources too
@@ -75,51 +100,32 @@ impl PlanRows {
         }
     }
 
-    // Puts a source last.
-    pub(crate) fn put_source(&mut self, row: SourceRow) -> Result<(), Memory>
-        requires { length self.old.sources < row_limit }
-        ensures { IsPut result self.old self.new (record self.old { sources = self.old.sources ++ row ∷ [] }) }
+    // Whether the rows of its kind are fewer than there may be.
+    pub(crate) fn has_room(&self, row: &PlanRow) -> bool
+        ensures { result ≡ has_room_for self.now row.now }
     {
-        self.sources.push(row)?;
-        Ok(())
+        match row {
+            PlanRow::Source(_) => self.sources.len() < ROW_LIMIT,
+            PlanRow::Point(_) => self.points.len() < ROW_LIMIT,
+            PlanRow::Parcel(_) => self.parcels.len() < ROW_LIMIT,
+            PlanRow::String(_) => self.strings.len() < STRING_LIMIT,
+            PlanRow::Retired(_) => self.retired.len() < ROW_LIMIT,
+        }
     }
 
-    // Puts a point last.
-    pub(crate) fn put_point(&mut self, row: PointRow) -> Result<(), Memory>
-        requires room { length self.old.points < row_limit }
-        requires sources { IsSourceList row.sources }
-        ensures { IsPut result self.old self.new (record self.old { points = self.old.points ++ row ∷ [] }) }
+    // Puts a row last among those of its kind.
+    pub(crate) fn put(&mut self, row: PlanRow) -> Result<(), Memory>
+        requires room { IsTrue (has_room_for self.old row) }
+        requires sources { IsSourceList (sources_of row) }
+        ensures { IsPut result self.old self.new (with_row self.old row) }
     {
-        self.points.push(row)?;
-        Ok(())
-    }
-
-    // Puts a parcel last.
-    pub(crate) fn put_parcel(&mut self, row: ParcelRow) -> Result<(), Memory>
-        requires room { length self.old.parcels < row_limit }
-        requires sources { IsSourceList row.sources }
-        ensures { IsPut result self.old self.new (record self.old { parcels = self.old.parcels ++ row ∷ [] }) }
-    {
-        self.parcels.push(row)?;
-        Ok(())
-    }
-
-    // Puts a string last.
-    pub(crate) fn put_string(&mut self, string: PlanString) -> Result<(), Memory>
-        requires room { length self.old.strings < string_limit }
-        requires sources { IsSourceList string.row.sources }
-        ensures { IsPut result self.old self.new (record self.old { strings = self.old.strings ++ string ∷ [] }) }
-    {
-        self.strings.push(string)?;
-        Ok(())
-    }
-
-    // Puts a retired number last.
-    pub(crate) fn put_retired(&mut self, parcel: ParcelNo) -> Result<(), Memory>
-        requires { length self.old.retired < row_limit }
-        ensures { IsPut result self.old self.new (record self.old { retired = self.old.retired ++ parcel ∷ [] }) }
-    {
-        self.retired.push(parcel)?;
+        match row {
+            PlanRow::Source(row) => self.sources.push(row)?,
+            PlanRow::Point(row) => self.points.push(row)?,
+            PlanRow::Parcel(row) => self.parcels.push(row)?,
+            PlanRow::String(row) => self.strings.push(row)?,
+            PlanRow::Retired(row) => self.retired.push(row)?,
+        }
         Ok(())
     }
 }
