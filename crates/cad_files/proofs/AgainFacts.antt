@@ -24,7 +24,7 @@ use Rattle.cad_map.specs.Table.{row_with}
 use Rattle.cad_map.specs.Valid.{EachPair, AreSources, HasSoundRows, IsValid}
 use Rattle.cad_files.specs.Fields.{repeated, distinct_of, face_of, magnitude_of, number_of, number_and_text_of}
 use Rattle.cad_files.specs.Rows.{Rows, no_rows, IsFace}
-use Rattle.cad_files.specs.PlanRecords.{plan_of_fields, source_of_fields, point_of_fields, parcel_of_fields, string_of_fields, retired_of_fields, open_of_fields, version_of}
+use Rattle.cad_files.specs.PlanRecords.{plan_of_fields, source_of_fields, point_of_fields, parcel_of_fields, string_of_fields, version_of}
 use Rattle.cad_files.specs.Plan.{Plan, plan_of, plan_step, beginning, reading, opened}
 use Rattle.cad_files.specs.Texts.{Record, first_record, source_record, point_record, parcel_record, string_record, retired_record, open_record, face_field, plan_records, text_of, record_text}
 use Rattle.cad_files.specs.Building.{plan_string_of, rows_of}
@@ -170,7 +170,7 @@ string_step n rows s number ends faces sources room =
 
 retired_step : (n : ℕ) (rows : Rows) (k : ℕ) → IsNumber k → length rows.retired < row_limit
     → plan_step (reading Two n rows) (retired_record k) ≡ reading Two (n + 1) (record rows { retired = rows.retired ++ k ∷ [] })
-unfolding plan_step plan_of_fields retired_of_fields
+unfolding plan_step plan_of_fields
 retired_step n rows k number room = rw (number_again k number.some (omega (arith, number.within)), less (length rows.retired) row_limit room) refl
 
 -- ---- All the records of a kind
@@ -196,7 +196,7 @@ unfolding plan_step version_of
 first_is = refl
 
 open_is : (n : ℕ) (rows : Rows) → plan_step (reading Two n rows) open_record ≡ opened rows
-unfolding plan_step plan_of_fields open_of_fields
+unfolding plan_step plan_of_fields
 open_is n rows = refl
 
 -- ---- The rows of a valid map

@@ -3,7 +3,7 @@ ghost use Rattle.std.specs.Prelude.{◌≡◌, ◌<◌, ◌≤◌, ◌^◌, leng
 ghost use Rattle.csv.specs.Records.{field_at, fields_of};
 ghost use Rattle.cad_rows.specs.Limits.{IsNumber};
 ghost use Rattle.cad_files.specs.Record.{seven_of};
-ghost use Rattle.cad_files.specs.Fields.{digits_from, starts_well as starts_well_of, magnitude_of, number_of, face_of, coordinate_of, text_of, item_of, number_and_text_of, are_blank as are_blank_of};
+ghost use Rattle.cad_files.specs.Fields.{digits_from, starts_well as starts_well_of, magnitude_of, number_of, face_of, coordinate_of, text_of, item_of, number_and_text_of, are_blank as are_blank_of, is_record as is_record_of};
 
 use cad_rows::{Face, Item, Label, Memory, Number};
 use csv::ByteRecord;
@@ -66,8 +66,8 @@ pub(crate) fn seven(row: &ByteRecord) -> Option<Fields<'_>>
     })
 }
 
-/// Whether these fields are unused.
-pub(crate) fn are_blank(fields: &[&[u8]]) -> bool
+// Whether these fields are unused.
+fn are_blank(fields: &[&[u8]]) -> bool
     ensures { result ≡ are_blank_of (map (λ f. f.now) fields.now) }
 {
     for field in fields {
@@ -76,6 +76,17 @@ pub(crate) fn are_blank(fields: &[&[u8]]) -> bool
         }
     }
     true
+}
+
+impl Fields<'_> {
+    /// Whether the record is of this kind, and its fields past the first so many are unused.
+    pub(crate) fn is_record(&self, kind: &[u8], used: usize) -> bool
+        requires { used ≤ 6 }
+        ensures { result ≡ is_record_of self.now kind.now used }
+    {
+        let fields = [self.a, self.b, self.c, self.d, self.e, self.f];
+        self.kind == kind && are_blank(&fields[used..])
+    }
 }
 
 // The number that digits stand for.
@@ -183,7 +194,7 @@ pub(crate) fn text(alloc: Global, bytes: &[u8]) -> Result<Option<Label>, Memory>
     }
 }
 
-/// A record's number and its text, where its other fields are unused.
+/// A record's number, and its text.
 #[tactic(auto, unfolding(crate::specs::Fields::number_and_text_of))]
 pub(crate) fn number_and_text<Kind>(
     alloc: Global,
@@ -191,9 +202,6 @@ pub(crate) fn number_and_text<Kind>(
 ) -> Result<Option<(Number<Kind>, Label)>, Memory>
     ensures { IfOk result (λ found. found ≡ number_and_text_of r.now) }
 {
-    if !are_blank(&[r.c, r.d, r.e, r.f]) {
-        return Ok(None);
-    }
     let Some(number) = row_number(r.a) else {
         return Ok(None);
     };

@@ -1,10 +1,10 @@
 //! The lines of a script.
 ghost use Rattle.std.specs.Prelude.{◌≡◌, Some, None, IfOk, IsErrOf};
 ghost use Rattle.csv.specs.Records.{fields_of};
-ghost use Rattle.cad_files.specs.Line.{outline_of_fields, bare_of_fields, line_of_fields, line_of};
+ghost use Rattle.cad_files.specs.Line.{line_of_fields, line_of};
 
 use crate::edit_lines::edit_record;
-use crate::fields::{Fields, are_blank, face, seven};
+use crate::fields::{Fields, face, seven};
 use cad_history::Command;
 use cad_rows::{Face, Memory};
 use csv::ByteRecord;
@@ -32,44 +32,21 @@ pub enum LineFault {
     Memory,
 }
 
-// A face.
-#[tactic(auto, unfolding(crate::specs::Line::outline_of_fields))]
-fn outline(r: &Fields<'_>) -> Option<Line>
-    ensures { result ≡ outline_of_fields r.now }
-{
-    if !are_blank(&[r.b, r.c, r.d, r.e, r.f]) {
-        return None;
-    }
-    Some(Line::Outline(face(r.a)?))
-}
-
-// A line whose record has its kind alone.
-#[tactic(auto, unfolding(crate::specs::Line::bare_of_fields))]
-fn bare(line: Line, r: &Fields<'_>) -> Option<Line>
-    ensures { result ≡ bare_of_fields line r.now }
-{
-    if are_blank(&[r.a, r.b, r.c, r.d, r.e, r.f]) {
-        Some(line)
-    } else {
-        None
-    }
-}
-
 // What seven fields ask for.
 #[tactic(auto, unfolding(crate::specs::Line::line_of_fields))]
 fn line_record(alloc: Global, r: &Fields<'_>) -> Result<Option<Line>, Memory>
     ensures { IfOk result (λ line. line ≡ line_of_fields r.now) }
 {
-    if r.kind == b"undo".as_slice() {
-        Ok(bare(Line::Command(Command::Undo), r))
-    } else if r.kind == b"redo".as_slice() {
-        Ok(bare(Line::Command(Command::Redo), r))
-    } else if r.kind == b"areas".as_slice() {
-        Ok(bare(Line::Areas, r))
-    } else if r.kind == b"outline".as_slice() {
-        Ok(outline(r))
-    } else if r.kind == b"print".as_slice() {
-        Ok(bare(Line::Print, r))
+    if r.is_record(b"undo", 0) {
+        Ok(Some(Line::Command(Command::Undo)))
+    } else if r.is_record(b"redo", 0) {
+        Ok(Some(Line::Command(Command::Redo)))
+    } else if r.is_record(b"areas", 0) {
+        Ok(Some(Line::Areas))
+    } else if r.is_record(b"outline", 1) {
+        Ok(face(r.a).map(Line::Outline))
+    } else if r.is_record(b"print", 0) {
+        Ok(Some(Line::Print))
     } else {
         match edit_record(alloc, r)? {
             Some(edit) => Ok(Some(Line::Command(Command::Edit(edit)))),

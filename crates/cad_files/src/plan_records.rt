@@ -1,8 +1,8 @@
 //! The records of a plan, each by itself.
 ghost use Rattle.std.specs.Prelude.{◌≡◌, IfOk};
-ghost use Rattle.cad_files.specs.PlanRecords.{version_of, source_of_fields, point_of_fields, parcel_of_fields, string_of_fields, retired_of_fields, open_of_fields, plan_of_fields};
+ghost use Rattle.cad_files.specs.PlanRecords.{version_of, source_of_fields, point_of_fields, parcel_of_fields, string_of_fields, plan_of_fields};
 
-use crate::fields::{Fields, are_blank, coordinate, face, number_and_text, row_number, text};
+use crate::fields::{Fields, coordinate, face, number_and_text, row_number, text};
 use crate::lists::{DistinctSources, distinct_sources};
 use cad_rows::{Face, Label, Memory, ParcelNo, PointNo, SourceRow, StringNo};
 use std::alloc::Global;
@@ -59,7 +59,7 @@ pub enum PlanRecord {
 pub(crate) fn plan_version(r: &Fields<'_>) -> Option<Version>
     ensures { result ≡ version_of r.now }
 {
-    if r.kind != b"plan".as_slice() || !are_blank(&[r.b, r.c, r.d, r.e, r.f]) {
+    if !r.is_record(b"plan", 1) {
         return None;
     }
     if r.a == b"1".as_slice() {
@@ -87,9 +87,6 @@ fn source_record(alloc: Global, r: &Fields<'_>) -> Result<Option<PlanRecord>, Me
 fn point_record(alloc: Global, r: &Fields<'_>) -> Result<Option<PlanRecord>, Memory>
     ensures { IfOk result (λ o. o ≡ point_of_fields r.now) }
 {
-    if !are_blank(&[r.e, r.f]) {
-        return Ok(None);
-    }
     let (Some(number), Some(x), Some(y)) = (row_number(r.a), coordinate(r.b), coordinate(r.c))
     else {
         return Ok(None);
@@ -110,9 +107,6 @@ fn point_record(alloc: Global, r: &Fields<'_>) -> Result<Option<PlanRecord>, Mem
 fn parcel_record(alloc: Global, r: &Fields<'_>) -> Result<Option<PlanRecord>, Memory>
     ensures { IfOk result (λ o. o ≡ parcel_of_fields r.now) }
 {
-    if !are_blank(&[r.d, r.e, r.f]) {
-        return Ok(None);
-    }
     let (Some(number), Some(label), Some(sources)) = (
         row_number(r.a),
         text(alloc, r.b)?,
@@ -152,46 +146,23 @@ fn string_record(alloc: Global, r: &Fields<'_>) -> Result<Option<PlanRecord>, Me
     })))
 }
 
-// A retired number of a parcel.
-#[tactic(auto, unfolding(crate::specs::PlanRecords::retired_of_fields))]
-fn retired_record(r: &Fields<'_>) -> Option<PlanRecord>
-    ensures { result ≡ retired_of_fields r.now }
-{
-    if !are_blank(&[r.b, r.c, r.d, r.e, r.f]) {
-        return None;
-    }
-    Some(PlanRecord::Retired(row_number(r.a)?))
-}
-
-// The end of the plan.
-#[tactic(auto, unfolding(crate::specs::PlanRecords::open_of_fields))]
-fn open_record(r: &Fields<'_>) -> Option<PlanRecord>
-    ensures { result ≡ open_of_fields r.now }
-{
-    if are_blank(&[r.a, r.b, r.c, r.d, r.e, r.f]) {
-        Some(PlanRecord::Open)
-    } else {
-        None
-    }
-}
-
 /// What a record after the first means, or `None` where it is none of a plan.
 #[tactic(auto, unfolding(crate::specs::PlanRecords::plan_of_fields))]
 pub(crate) fn plan_record(alloc: Global, r: &Fields<'_>) -> Result<Option<PlanRecord>, Memory>
     ensures { IfOk result (λ o. o ≡ plan_of_fields r.now) }
 {
-    if r.kind == b"source".as_slice() {
+    if r.is_record(b"source", 2) {
         source_record(alloc, r)
-    } else if r.kind == b"point".as_slice() {
+    } else if r.is_record(b"point", 4) {
         point_record(alloc, r)
-    } else if r.kind == b"parcel".as_slice() {
+    } else if r.is_record(b"parcel", 3) {
         parcel_record(alloc, r)
-    } else if r.kind == b"string".as_slice() {
+    } else if r.is_record(b"string", 6) {
         string_record(alloc, r)
-    } else if r.kind == b"retired".as_slice() {
-        Ok(retired_record(r))
-    } else if r.kind == b"open".as_slice() {
-        Ok(open_record(r))
+    } else if r.is_record(b"retired", 1) {
+        Ok(row_number(r.a).map(PlanRecord::Retired))
+    } else if r.is_record(b"open", 0) {
+        Ok(Some(PlanRecord::Open))
     } else {
         Ok(None)
     }
