@@ -51,17 +51,6 @@ split_of_fields r =
     (number_of r.f)) (number_of r.e)) (coordinate_of r.d)) (coordinate_of r.c)) (number_of r.b))
     (number_of r.a)
 
--- a point, and the number of the joined string
-unfoldable pub join_of_fields : Seven → Option Edit
-join_of_fields r =
-    option_and_then (λ p. option_map (λ s. edits.Join p s) (number_of r.b)) (number_of r.a)
-
--- the face that is kept, and the one that ends
-unfoldable pub merge_of_fields : Seven → Option Edit
-merge_of_fields r =
-    option_and_then (λ kept. option_map (λ ended. edits.Merge kept ended) (face_of r.b))
-    (face_of r.a)
-
 -- the face divided along the chain
 abbrev pub division_of : NewParcel → Edit
 division_of n = edits.Divide n.face n.points n.strings n.parcel n.label n.source
@@ -78,8 +67,11 @@ numbers_edit_of r =
     else if is_record r (codes "drop-point") 1 then
     option_map (λ n. edits.DropPoint n) (number_of r.a)
     else if is_record r (codes "split") 6 then split_of_fields r
-    else if is_record r (codes "join") 2 then join_of_fields r
-    else if is_record r (codes "merge") 2 then merge_of_fields r
+    else if is_record r (codes "join") 2 then
+    option_and_then (λ p. option_map (λ s. edits.Join p s) (number_of r.b)) (number_of r.a)
+    else if is_record r (codes "merge") 2 then
+    option_and_then (λ kept. option_map (λ ended. edits.Merge kept ended) (face_of r.b))
+    (face_of r.a)
     else if is_record r (codes "move") 3 then
     option_map (λ (p : PlacedPoint). edits.Move p.point p.x p.y) (placed_point_of r)
     else if is_record r (codes "attach") 3 then

@@ -1,6 +1,6 @@
 //! The lines of a script that ask for edits.
 ghost use Rattle.std.specs.Prelude.{◌≡◌, Some, None, IfOk};
-ghost use Rattle.cad_files.specs.Line.{placed_point_of, attachment_of, new_parcel_of, division_of, enclosure_of, split_of_fields, join_of_fields, merge_of_fields, numbers_edit_of, edit_of_fields};
+ghost use Rattle.cad_files.specs.Line.{placed_point_of, attachment_of, new_parcel_of, division_of, enclosure_of, split_of_fields, numbers_edit_of, edit_of_fields};
 
 use crate::fields::{Fields, coordinate, face, item, number_and_text, row_number, text};
 use crate::lists::number_list;
@@ -114,39 +114,14 @@ fn read_new_parcel(alloc: Global, r: &Fields<'_>) -> Result<Option<NewParcel>, M
 fn split(r: &Fields<'_>) -> Option<Edit>
     ensures { result ≡ split_of_fields r.now }
 {
-    let string = row_number(r.a)?;
-    let point = row_number(r.b)?;
-    let x = coordinate(r.c)?;
-    let y = coordinate(r.d)?;
-    let first = row_number(r.e)?;
-    let second = row_number(r.f)?;
     Some(Edit::Split {
-        string,
-        point,
-        x,
-        y,
-        first,
-        second,
+        string: row_number(r.a)?,
+        point: row_number(r.b)?,
+        x: coordinate(r.c)?,
+        y: coordinate(r.d)?,
+        first: row_number(r.e)?,
+        second: row_number(r.f)?,
     })
-}
-
-// A point, and the number of the joined string.
-#[tactic(auto, unfolding(crate::specs::Line::join_of_fields))]
-fn join(r: &Fields<'_>) -> Option<Edit>
-    ensures { result ≡ join_of_fields r.now }
-{
-    let point = row_number(r.a)?;
-    let string = row_number(r.b)?;
-    Some(Edit::Join { point, string })
-}
-
-// The face that is kept, and the one that ends.
-#[tactic(auto, unfolding(crate::specs::Line::merge_of_fields))]
-fn merge(r: &Fields<'_>) -> Option<Edit>
-    ensures { result ≡ merge_of_fields r.now }
-{
-    let (kept, ended) = (face(r.a)?, face(r.b)?);
-    Some(Edit::Merge { kept, ended })
 }
 
 // The edit that seven fields ask for by numbers, faces and items alone, if they ask for one.
@@ -163,9 +138,11 @@ fn numbers_edit(r: &Fields<'_>) -> Option<Edit>
     } else if r.is_record(b"split", 6) {
         split(r)
     } else if r.is_record(b"join", 2) {
-        join(r)
+        let (point, string) = (row_number(r.a)?, row_number(r.b)?);
+        Some(Edit::Join { point, string })
     } else if r.is_record(b"merge", 2) {
-        merge(r)
+        let (kept, ended) = (face(r.a)?, face(r.b)?);
+        Some(Edit::Merge { kept, ended })
     } else if r.is_record(b"move", 3) {
         let PlacedPoint { point, x, y } = read_placed_point(r)?;
         Some(Edit::Move { point, x, y })
