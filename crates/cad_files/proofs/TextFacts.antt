@@ -2,9 +2,9 @@
 use Rattle.std.proofs.Common.{◌≡◌, ◌∙◌, sym, ap, refl, ℕ, ◌+◌, ◌<◌, ◌≤◌, List, [], ◌∷◌, ◌++◌, map, take, length, get_or, Some, slice_get, append_assoc, append-nil, arith, decimal}
 use Rattle.std.specs.List.{join_with_byte}
 use Rattle.std.proofs.lemmas.List.{map_more, take_more, length-map, length-take}
-use Rattle.std.proofs.lemmas.Option.{get_or_from_slice_get, slice_get-get_or}
+use Rattle.std.proofs.lemmas.Option.{get_or_from_slice_get, slice_get-get_or, slice_get-map}
 use Rattle.std.proofs.lemmas.Grind.{flat_map-append}
-use Rattle.std.specs.Prelude.{IfSome}
+use Rattle.std.specs.Prelude.{IfSome, option_map}
 use Rattle.std.specs.Global.{Vec}
 use Rattle.csv.specs.declared.writer.Writer.{Writer}
 use Rattle.cad_files.specs.Texts.{Record, HasAppended, text_of, record_text, list_field}
@@ -30,6 +30,10 @@ appended-next records i h before one =
       append-nil (record_text next),
       ← append_assoc text (text_of (take i records)) (record_text next),
     ) (step _ (before text w))
+
+-- what a row at a place becomes stands there
+pub made_at : {X Y : Type 0} (f : X → Y) (xs : List X) (place : ℕ) (x : X) → Some x ≡ slice_get xs place → slice_get (map f xs) place ≡ Some (f x)
+made_at f xs place x at = slice_get-map f xs place ∙ ap (option_map f) (sym at)
 
 -- a first and a last record round five lists
 pub text_of-between : (first last : Record) (a b c d e : List Record) → text_of (first ∷ (a ++ (b ++ (c ++ (d ++ (e ++ last ∷ [])))))) ≡ (((((([] ++ record_text first) ++ text_of a) ++ text_of b) ++ text_of c) ++ text_of d) ++ text_of e) ++ record_text last

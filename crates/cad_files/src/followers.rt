@@ -34,12 +34,7 @@ fn leaves_open(side: &Arrival, to: &Spoke, end: &Spoke) -> bool
 fn is_open(ends: &[Spoke], side: &Arrival, to: &Spoke) -> bool
     ensures { result ≡ list_all (leaves_open_in side.now to.now) ends.now }
 {
-    for end in ends {
-        if !leaves_open(side, to, end) {
-            return false;
-        }
-    }
-    true
+    ends.iter().all(|end| leaves_open(side, to, end))
 }
 
 // Whether the spoke leads to a point that may follow, where these are the spokes at the side's end.
@@ -62,12 +57,7 @@ fn is_barred(side: &Arrival, to: &Spoke, end: &Spoke) -> bool
 fn are_barred(ends: &[Spoke], side: &Arrival, to: &Spoke) -> bool
     ensures { result ≡ list_all (is_barred_in side.now to.now) ends.now }
 {
-    for end in ends {
-        if !is_barred(side, to, end) {
-            return false;
-        }
-    }
-    true
+    ends.iter().all(|end| is_barred(side, to, end))
 }
 
 // Of a spoke and the best so far the one that is met later.
