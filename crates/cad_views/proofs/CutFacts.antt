@@ -1,5 +1,5 @@
 -- Rings that are cut while they are walked along.
-use Rattle.std.proofs.Common.{◌≡◌, ◌≢◌, ◌∙◌, refl, sym, ap, subst, ℕ, zero, suc, ◌+◌, ◌<◌, ◌≤◌, ◌==◌, Bool, true, false, List, [], ◌∷◌, ◌++◌, length, length-append, append_assoc, append-nil, drop-cons, get_or, take, drop, map, filter, Some, None, arith, if◌then◌else◌}
+use Rattle.std.proofs.Common.{◌≡◌, ◌≢◌, ◌∙◌, refl, sym, ap, subst, ℕ, zero, suc, ◌+◌, ◌-◌, ◌<◌, ◌≤◌, ◌==◌, Bool, true, false, List, [], ◌∷◌, ◌++◌, length, length-append, length-drop, append_assoc, append-nil, drop-cons, get_or, take, drop, map, filter, Some, None, arith, if◌then◌else◌}
 use Rattle.std.specs.Prelude.{IsPermutation, flat_map, position}
 use Rattle.std.specs.List.{AllByRecursion, Contains, position_or_len}
 use Rattle.std.proofs.lemmas.Bool.{eqb-true, eqb-false, ne_eqb}
@@ -177,6 +177,27 @@ some-parts xs p i some =
     let within : i < length xs = found.0 in
     let back : drop i xs ≡ p ∷ drop (suc i) xs = drop-cons xs i 0 within ∙ ap (λ (q : ℕ). q ∷ drop (suc i) xs) is in
     (within, back, sym (take-append-drop i xs) ∙ ap (λ (l : List ℕ). take i xs ++ l) back, take_more xs i 0 within ∙ ap (λ (q : ℕ). take i xs ++ q ∷ []) is)
+
+-- ---- A point of the open path that is come to again
+
+module _ (path : List ℕ) (p place : ℕ) (some : position (λ q. p == q) path ≡ Some place) where
+  -- the path since then
+  pub since-then : (xs : List ℕ) → xs ≡ path → take (length xs - place) (drop place xs) ≡ p ∷ drop (suc place) path
+  since-then xs same =
+      take_all (length xs - place) (drop place xs) (omega (arith, length-drop place xs)) ∙ ap (drop place) same ∙ (some-parts path p place some).1
+
+  module _ (done : List ℕ) (pieces : List Ring) (w : IsWalked done path pieces) where
+    walked : IsWalked done (take place path ++ p ∷ drop (suc place) path) pieces
+    walked = subst (λ (l : List ℕ). IsWalked done l pieces) (some-parts path p place some).2 w
+
+    -- is a ring of two points at least
+    pub since-two : HaveTwoEnds done p → 2 ≤ length (p ∷ drop (suc place) path)
+    since-two apart = closed-two done (take place path) p (drop (suc place) path) pieces walked apart
+
+    -- and a piece, and the path goes on from the point
+    pub since-closed : 2 ≤ length (p ∷ drop (suc place) path) → IsWalked (done ++ p ∷ []) (take (place + 1) path) (pieces ++ (p ∷ drop (suc place) path) ∷ [])
+    since-closed two =
+        rw (some-parts path p place some).3 (walked-closed done (take place path) p (drop (suc place) path) pieces walked two)
 
 -- the sides of a ring up to one of its points
 pub front-apart : (ring : List ℕ) (done : List ℕ) (p : ℕ) (later : List ℕ) → ring ≡ done ++ p ∷ later → HasTwoEndsEach ring → HaveTwoEnds done p

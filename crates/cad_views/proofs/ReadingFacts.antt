@@ -1,10 +1,6 @@
 -- A text that is read as a plan.
-use Rattle.std.proofs.Common.{◌≡◌, ◌∙◌, sym, ap, refl, ℕ, List, [], Option, Some, None, inr, IfSome, option_map, false, length}
-use Rattle.std.proofs.lemmas.List.Elements.{All-nil}
-use Rattle.csv.specs.Reading.{Reached, default_config, source_of, strip_bom, reader_trim, reader_config, reader_state, is_flexible, names_headers, reader_headers, expected_len}
+use Rattle.std.proofs.Common.{◌≡◌, ℕ, List, Option}
 use Rattle.csv.specs.declared.reader.Reader.{Reader}
-use Rattle.csv.specs.declared.reader.Trim.TheVariants as trim
-use Rattle.csv.specs.declared.parser.State.TheVariants as st
 use Rattle.cad_files.specs.Input.{HasRead}
 use Rattle.cad_files.specs.Rows.{Rows}
 use Rattle.cad_files.specs.Plan.{plan_of, opened}

@@ -1,4 +1,4 @@
-use Rattle.std.proofs.Common.{◌∙◌, inl, inr}
+use Rattle.std.proofs.Common.{inl, inr}
 use Rattle.csv.specs.Reading.{strip_bom}
 use Rattle.cad_files.proofs.CallerLemmas.{if_some}
 use Rattle.cad_views.specs.Reading.{IsFaultOf}
