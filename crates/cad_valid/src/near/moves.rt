@@ -18,7 +18,7 @@ ghost use Rattle.cad_valid.specs.Seen.{IsInReach};
 
 use crate::near::Moved;
 use crate::near::rays::{MOST_RAYS, Ray, rays_at};
-use crate::near::seen::{Reach, grown};
+use crate::near::seen::{Reach, grown, is_small};
 use cad_map::{MapView, Walk, is_face, position};
 use cad_rows::{Face, PointNo};
 use cell_grid::{CellGrid, HeldPoint};
@@ -113,16 +113,19 @@ fn reach_round(at: Pt, from: Pt, rays: &[Ray]) -> Reach
     reach
 }
 
-/// Whether the moved point went past each other point that the grid holds with all its sides, or with
-/// none. It looks at those in the box round its rays: past all others it does.
+/// Whether the moved point is seen to have gone past each other point that the grid holds with all its
+/// sides, or with none. It looks at those in the box round its rays, where that is small: past all
+/// others it does.
 fn go_past_alike(grid: &CellGrid, moved: &Moved, at: Pt, rays: &[Ray]) -> bool
     ensures { IsTrue result → (n : ℕ) (q : Position) → HoldsPoint grid.now n q
         → n ≢ moved.now.point
         → IsTrue (goes_past_alike_of at moved.now.from rays.now q) }
 {
     let reach = reach_round(at, moved.from, rays);
-    grid.point_candidates(reach.low, reach.high)
-        .all(|held| is_past_alike(at, moved, rays, &held))
+    is_small(&reach)
+        && grid
+            .point_candidates(reach.low, reach.high)
+            .all(|held| is_past_alike(at, moved, rays, &held))
 }
 
 // ---- Rings

@@ -164,7 +164,7 @@ fn grown_by(reach: Reach, items: &[Lying]) -> Reach
 }
 
 /// Whether a box is small enough to be looked at whole.
-fn is_small(reach: &Reach) -> bool {
+pub(crate) fn is_small(reach: &Reach) -> bool {
     reach.high.x - reach.low.x <= MOST_REACH && reach.high.y - reach.low.y <= MOST_REACH
 }
 

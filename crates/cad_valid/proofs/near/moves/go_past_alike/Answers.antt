@@ -12,8 +12,8 @@ use Rattle.cad_valid.proofs.MovedSides.{far-alike}
 use Rattle.cad_valid.proofs.Passed.{passed-each}
 use Rattle.cad_valid.proofs.near.moves.go_past_alike.Goals as goal
 
-pub returns : goal.returns
-returns c = λ t n q held other.
+pub returns-then-is_small : goal.returns-then-is_small
+returns-then-is_small c = λ t n q held other.
     let at = c.args.at in
     let v = c.args.moved.now in
     let rays = c.args.rays.now in
