@@ -1,6 +1,7 @@
 use Rattle.std.proofs.Common.{◌∙◌, ap, subst, sym, refl}
 use Rattle.cad_map.specs.Effects.{after}
 use Rattle.map_parts.specs.Parts.{map_of}
+use Rattle.edit_records.specs.Record.{Holds}
 use Rattle.edit_records.proofs.Exchanges.{both-holds}
 use Rattle.cad_map.specs.Outcome.{out_of_memory}
 use Rattle.cad_map.specs.Valid.{IsValid}
@@ -61,6 +62,10 @@ returns-in-Ok-try_edit-clause-made g c =
 pub returns-in-Ok-try_edit-clause-valid : goal.returns-in-Ok-try_edit-clause-valid
 returns-in-Ok-try_edit-clause-valid g c =
     subst IsValid (sym (same-map c.try_edit.new.draft c.withdraw.new.self c.withdraw.ensures.beside)) c.in-Ok-try_edit.ensures.played.valid
+
+pub returns-in-Ok-try_edit-clause-holds : goal.returns-in-Ok-try_edit-clause-holds
+returns-in-Ok-try_edit-clause-holds g c =
+    subst (Holds c.in-Ok-try_edit.change) (same-map c.args.draft.now c.enter.new.self c.enter.ensures.beside) c.in-Ok-try_edit.ensures.holds
 
 pub returns-in-Ok-try_edit-clause-rest : goal.returns-in-Ok-try_edit-clause-rest
 returns-in-Ok-try_edit-clause-rest g c =
