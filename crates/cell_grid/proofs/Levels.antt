@@ -5,7 +5,7 @@ use Rattle.std.specs.Prelude.{◌↔◌, IsPermutation, count_by, Result, Ok, Er
 use Rattle.std.specs.List.{Contains}
 use Rattle.cell_grid.specs.declared.entry.Entry.{Entry}
 use Rattle.cell_grid.specs.declared.segments.Level.{Level}
-use Rattle.cell_grid.specs.declared.segments.Level.TheVariants.{Squares, LanesEast, LanesNorth, Long}
+use Rattle.cell_grid.specs.declared.segments.Level.TheVariants.{SmallSquares, Squares, LanesEast, LanesNorth, Long}
 use Rattle.cell_grid.specs.Entries.{is_same_entry}
 use Rattle.cell_grid.specs.Held.{HeldEntries}
 use Rattle.cell_grid.specs.declared.segments.Segments.{Segments}
@@ -19,34 +19,68 @@ abbrev pub IsSameElsewhere : Kept → Level → Kept → Type 0
 IsSameElsewhere old level new =
     (other : Level) → (other ≡ level) ⊎ ((x : Entry) → StandsAt new other x ↔ StandsAt old other x)
 
-module _ (a b c : HeldEntries) (long : List Entry) where
-  pub but-squares : (new : HeldEntries) → IsSameElsewhere
-      (record { squares = a; lanes_east = b; lanes_north = c; long = long }) Squares
-      (record { squares = new; lanes_east = b; lanes_north = c; long = long })
+-- one level may have changed
+module _ (k : Kept) where
+  pub but-small_squares : (new : HeldEntries) → IsSameElsewhere k SmallSquares (record {
+    small_squares = new;
+    squares = k.squares;
+    lanes_east = k.lanes_east;
+    lanes_north = k.lanes_north;
+    long = k.long;
+  })
+  but-small_squares new SmallSquares = inl refl
+  but-small_squares new Squares = inr (λ x. ((λ h. h), (λ h. h)))
+  but-small_squares new LanesEast = inr (λ x. ((λ h. h), (λ h. h)))
+  but-small_squares new LanesNorth = inr (λ x. ((λ h. h), (λ h. h)))
+  but-small_squares new Long = inr (λ x. ((λ h. h), (λ h. h)))
+
+  pub but-squares : (new : HeldEntries) → IsSameElsewhere k Squares (record {
+    small_squares = k.small_squares;
+    squares = new;
+    lanes_east = k.lanes_east;
+    lanes_north = k.lanes_north;
+    long = k.long;
+  })
+  but-squares new SmallSquares = inr (λ x. ((λ h. h), (λ h. h)))
   but-squares new Squares = inl refl
   but-squares new LanesEast = inr (λ x. ((λ h. h), (λ h. h)))
   but-squares new LanesNorth = inr (λ x. ((λ h. h), (λ h. h)))
   but-squares new Long = inr (λ x. ((λ h. h), (λ h. h)))
 
-  pub but-lanes_east : (new : HeldEntries) → IsSameElsewhere
-      (record { squares = a; lanes_east = b; lanes_north = c; long = long }) LanesEast
-      (record { squares = a; lanes_east = new; lanes_north = c; long = long })
+  pub but-lanes_east : (new : HeldEntries) → IsSameElsewhere k LanesEast (record {
+    small_squares = k.small_squares;
+    squares = k.squares;
+    lanes_east = new;
+    lanes_north = k.lanes_north;
+    long = k.long;
+  })
+  but-lanes_east new SmallSquares = inr (λ x. ((λ h. h), (λ h. h)))
   but-lanes_east new Squares = inr (λ x. ((λ h. h), (λ h. h)))
   but-lanes_east new LanesEast = inl refl
   but-lanes_east new LanesNorth = inr (λ x. ((λ h. h), (λ h. h)))
   but-lanes_east new Long = inr (λ x. ((λ h. h), (λ h. h)))
 
-  pub but-lanes_north : (new : HeldEntries) → IsSameElsewhere
-      (record { squares = a; lanes_east = b; lanes_north = c; long = long }) LanesNorth
-      (record { squares = a; lanes_east = b; lanes_north = new; long = long })
+  pub but-lanes_north : (new : HeldEntries) → IsSameElsewhere k LanesNorth (record {
+    small_squares = k.small_squares;
+    squares = k.squares;
+    lanes_east = k.lanes_east;
+    lanes_north = new;
+    long = k.long;
+  })
+  but-lanes_north new SmallSquares = inr (λ x. ((λ h. h), (λ h. h)))
   but-lanes_north new Squares = inr (λ x. ((λ h. h), (λ h. h)))
   but-lanes_north new LanesEast = inr (λ x. ((λ h. h), (λ h. h)))
   but-lanes_north new LanesNorth = inl refl
   but-lanes_north new Long = inr (λ x. ((λ h. h), (λ h. h)))
 
-  pub but-long : (new : List Entry) → IsSameElsewhere
-      (record { squares = a; lanes_east = b; lanes_north = c; long = long }) Long
-      (record { squares = a; lanes_east = b; lanes_north = c; long = new })
+  pub but-long : (new : List Entry) → IsSameElsewhere k Long (record {
+    small_squares = k.small_squares;
+    squares = k.squares;
+    lanes_east = k.lanes_east;
+    lanes_north = k.lanes_north;
+    long = new;
+  })
+  but-long new SmallSquares = inr (λ x. ((λ h. h), (λ h. h)))
   but-long new Squares = inr (λ x. ((λ h. h), (λ h. h)))
   but-long new LanesEast = inr (λ x. ((λ h. h), (λ h. h)))
   but-long new LanesNorth = inr (λ x. ((λ h. h), (λ h. h)))
@@ -216,17 +250,19 @@ pub held-sound : (s : Segments) → AreSpread s → (e : Entry) → IsHeld (kept
 held-sound s spread e held = by held.0 held.1
   where
     by : (level : Level) → StandsAt (kept s) level e → IsSoundEntry e
+    by SmallSquares h = spread.small_squares.sound e h
     by Squares h = spread.squares.sound e h
     by LanesEast h = spread.lanes_east.sound e h
     by LanesNorth h = spread.lanes_north.sound e h
     by Long h = spread.long_sound e h
 
 -- nothing is held where nothing stands
-pub held-none : (k : Kept) → StandsNone k.squares → StandsNone k.lanes_east
-    → StandsNone k.lanes_north → k.long ≡ [] → HoldsNone k
-held-none k squares east north long e held = by held.0 held.1
+pub held-none : (k : Kept) → StandsNone k.small_squares → StandsNone k.squares
+    → StandsNone k.lanes_east → StandsNone k.lanes_north → k.long ≡ [] → HoldsNone k
+held-none k small squares east north long e held = by held.0 held.1
   where
     by : (level : Level) → StandsAt k level e → ⊥
+    by SmallSquares h = small e h
     by Squares h = squares e h
     by LanesEast h = east e h
     by LanesNorth h = north e h
@@ -234,32 +270,48 @@ held-none k squares east north long e held = by held.0 held.1
         absurd (omega (arith, none.1))
 
 -- of what stands at each level the near ones are given, one level after another
-module _ (k : Kept) (near : Entry → Bool) (a b c : List Entry) where
-  pub given-held : ((e : Entry) → Contains a e → Stands k.squares e × (near e ≡ true))
-      → ((e : Entry) → Contains b e → Stands k.lanes_east e × (near e ≡ true))
-      → ((e : Entry) → Contains c e → Stands k.lanes_north e × (near e ≡ true))
-      → (e : Entry) → Contains (a ++ (b ++ (c ++ filter near k.long))) e → IsHeld k e × (near e ≡ true)
-  given-held of_a of_b of_c e h = elim (Contains-append_cases a _ e h) [
-    | inl t ↦ let f = of_a e t in ((Squares, f.0), f.1)
+module _ (k : Kept) (near : Entry → Bool) (a b c d : List Entry) where
+  abbrev given : List Entry
+  given = a ++ (b ++ (c ++ (d ++ filter near k.long)))
+
+  pub given-held : ((e : Entry) → Contains a e → Stands k.small_squares e × (near e ≡ true))
+      → ((e : Entry) → Contains b e → Stands k.squares e × (near e ≡ true))
+      → ((e : Entry) → Contains c e → Stands k.lanes_east e × (near e ≡ true))
+      → ((e : Entry) → Contains d e → Stands k.lanes_north e × (near e ≡ true))
+      → (e : Entry) → Contains given e → IsHeld k e × (near e ≡ true)
+  given-held of_a of_b of_c of_d e h = elim (Contains-append_cases a _ e h) [
+    | inl t ↦ let f = of_a e t in ((SmallSquares, f.0), f.1)
     | inr h ↦ elim (Contains-append_cases b _ e h) [
-      | inl t ↦ let f = of_b e t in ((LanesEast, f.0), f.1)
+      | inl t ↦ let f = of_b e t in ((Squares, f.0), f.1)
       | inr h ↦ elim (Contains-append_cases c _ e h) [
-        | inl t ↦ let f = of_c e t in ((LanesNorth, f.0), f.1)
-        | inr t ↦ let f = near-from near k.long e t in ((Long, f.0), f.1)
+        | inl t ↦ let f = of_c e t in ((LanesEast, f.0), f.1)
+        | inr h ↦ elim (Contains-append_cases d _ e h) [
+          | inl t ↦ let f = of_d e t in ((LanesNorth, f.0), f.1)
+          | inr t ↦ let f = near-from near k.long e t in ((Long, f.0), f.1)
+        ]
       ]
     ]
   ]
 
-  pub given-all : ((e : Entry) → Stands k.squares e → near e ≡ true → Contains a e)
-      → ((e : Entry) → Stands k.lanes_east e → near e ≡ true → Contains b e)
-      → ((e : Entry) → Stands k.lanes_north e → near e ≡ true → Contains c e)
-      → (e : Entry) → IsHeld k e → near e ≡ true → Contains (a ++ (b ++ (c ++ filter near k.long))) e
-  given-all in_a in_b in_c e held is = by held.0 held.1
+  pub given-all : ((e : Entry) → Stands k.small_squares e → near e ≡ true → Contains a e)
+      → ((e : Entry) → Stands k.squares e → near e ≡ true → Contains b e)
+      → ((e : Entry) → Stands k.lanes_east e → near e ≡ true → Contains c e)
+      → ((e : Entry) → Stands k.lanes_north e → near e ≡ true → Contains d e)
+      → (e : Entry) → IsHeld k e → near e ≡ true → Contains given e
+  given-all in_a in_b in_c in_d e held is = by held.0 held.1
     where
-      by : (level : Level) → StandsAt k level e → Contains (a ++ (b ++ (c ++ filter near k.long))) e
-      by Squares h = Contains-append_left a _ e (in_a e h is)
-      by LanesEast h = Contains-append_right a _ e (Contains-append_left b _ e (in_b e h is))
-      by LanesNorth h = Contains-append_right a _ e
-          (Contains-append_right b _ e (Contains-append_left c _ e (in_c e h is)))
-      by Long h = Contains-append_right a _ e
-          (Contains-append_right b _ e (Contains-append_right c _ e (near-has near k.long e h is)))
+      past_a : Contains (b ++ (c ++ (d ++ filter near k.long))) e → Contains given e
+      past_a = Contains-append_right a _ e
+
+      past_b : Contains (c ++ (d ++ filter near k.long)) e → Contains given e
+      past_b t = past_a (Contains-append_right b _ e t)
+
+      past_c : Contains (d ++ filter near k.long) e → Contains given e
+      past_c t = past_b (Contains-append_right c _ e t)
+
+      by : (level : Level) → StandsAt k level e → Contains given e
+      by SmallSquares h = Contains-append_left a _ e (in_a e h is)
+      by Squares h = past_a (Contains-append_left b _ e (in_b e h is))
+      by LanesEast h = past_b (Contains-append_left c _ e (in_c e h is))
+      by LanesNorth h = past_c (Contains-append_left d _ e (in_d e h is))
+      by Long h = past_c (Contains-append_right d _ e (near-has near k.long e h is))

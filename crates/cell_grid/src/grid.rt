@@ -23,13 +23,14 @@ use std::marker::Model;
 
 /// Strings, with the positions of their two ends, and points, by the cells that they touch.
 ///
-/// There are three kinds of cells: squares with the side, lanes from west to east, a thousand
-/// kilometres long and as wide as the side, and such lanes from south to north. The cell of a
-/// location is its two coordinates divided by the width and the height of the kind, rounded down. A
-/// string stands in every square that its box touches, where these are 64 at most; else in every
-/// lane from west to east, or from south to north, where these are eight at most; and else in a
-/// list of long ones, which are those that go slantwise over more than seven sides both ways. A
-/// number may stand at several positions at once.
+/// There are four kinds of cells: smaller squares with a side of their own, squares with the side,
+/// lanes from west to east, a thousand kilometres long and as wide as the side, and such lanes from
+/// south to north. The cell of a location is its two coordinates divided by the width and the height
+/// of the kind, rounded down. A string stands in every smaller square that its box touches, where
+/// these are 64 at most; else in every square, where these are 64 at most; else in every lane from
+/// west to east, or from south to north, where these are eight at most; and else in a list of long
+/// ones, which are those that go slantwise over more than seven sides both ways. A number may stand
+/// at several positions at once.
 ///
 /// Only `new` and the puts take memory: some 40 bytes for each cell that an entry stands in. A cell
 /// keeps the room that it was given. A call takes time by the cells of the box and the entries that
@@ -63,16 +64,23 @@ impl Model for CellGrid {
 }
 
 impl CellGrid {
-    /// A grid that holds nothing and will find cells by this hash. The side of a cell is in
-    /// millimetres, from 1,000 to 1,000,000,000.
-    pub fn new(alloc: Global, hash: NumberHash, side: u64) -> Result<CellGrid, Memory>
-        requires { IsSide side }
+    /// A grid that holds nothing and will find cells by this hash. The side of the smaller squares
+    /// and that of the others are in millimetres, from 1,000 to 1,000,000,000. The first is to be
+    /// the lesser one; where it isn't, what is found is the same.
+    pub fn new(
+        alloc: Global,
+        hash: NumberHash,
+        small_side: u64,
+        side: u64,
+    ) -> Result<CellGrid, Memory>
+        requires small { IsSide small_side }
+        requires side { IsSide side }
         ensures strings { IfOk result (λ grid. HoldsNone grid.strings) }
         ensures points { IfOk result (λ grid. HoldsNone grid.points) }
     {
         Ok(CellGrid {
-            strings: Segments::new(alloc, hash, side),
-            points: Segments::new(alloc, hash, side),
+            strings: Segments::new(alloc, hash, small_side, side),
+            points: Segments::new(alloc, hash, small_side, side),
         })
     }
 

@@ -5,7 +5,7 @@
 //! location have a cell in common, so the cells of a segment's box have all that may meet it. The
 //! method is that of cells in J. L. Bentley and J. H. Friedman, "Data structures for range
 //! searching" (1979), and of W. R. Franklin's "Adaptive grids for geometric operations" (1984).
-//! Cells are squares, and for long segments lanes either way.
+//! Cells are squares of two sizes, and for long segments lanes either way.
 #![tactic(auto)]
 
 mod block;

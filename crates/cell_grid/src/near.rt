@@ -187,9 +187,11 @@ impl Iterator for NearInLayer<'_> {
     }
 }
 
-/// The entries near a segment: those in squares, then those in lanes, then the long ones.
+/// The entries near a segment: those in smaller squares, then those in squares, then those in lanes,
+/// then the long ones.
 #[derive(Drop)]
 pub(crate) struct NearEntries<'a> {
+    small_squares: NearInLayer<'a>,
     squares: NearInLayer<'a>,
     lanes_east: NearInLayer<'a>,
     lanes_north: NearInLayer<'a>,
@@ -205,8 +207,8 @@ impl<'a> Model for NearEntries<'a> {
 
     ghost Value = { List Segment };
 
-    ghost view = { λ w. w.squares ++ (w.lanes_east ++ (w.lanes_north
-        ++ filter (is_near w.query) w.long.now)) };
+    ghost view = { λ w. w.small_squares ++ (w.squares ++ (w.lanes_east ++ (w.lanes_north
+        ++ filter (is_near w.query) w.long.now))) };
 }
 
 impl<'a> NearEntries<'a> {
@@ -221,6 +223,7 @@ impl<'a> NearEntries<'a> {
             → IsTrue (boxes_overlap from to e.from e.to) → Contains result e }
     {
         NearEntries {
+            small_squares: NearInLayer::of(&segments.small_squares, from, to),
             squares: NearInLayer::of(&segments.squares, from, to),
             lanes_east: NearInLayer::of(&segments.lanes_east, from, to),
             lanes_north: NearInLayer::of(&segments.lanes_north, from, to),
@@ -238,6 +241,9 @@ impl Iterator for NearEntries<'_> {
     ghost remaining = { item_count (λ w. w) };
 
     fn next(&mut self) -> Option<Entry> {
+        if let Some(entry) = self.small_squares.next() {
+            return Some(entry);
+        }
         if let Some(entry) = self.squares.next() {
             return Some(entry);
         }

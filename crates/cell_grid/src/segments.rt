@@ -16,10 +16,11 @@ use std::alloc::Global;
 /// How long a lane is, in millimetres.
 const LANE_LENGTH: u64 = 1_000_000_000;
 
-/// Where an entry stands: in square cells, in lanes from west to east, in lanes from south to
-/// north, or among the long ones.
+/// Where an entry stands: in the smaller squares, in the squares, in lanes from west to east, in
+/// lanes from south to north, or among the long ones.
 #[derive(Clone, Copy, Debug)]
 pub(crate) enum Level {
+    SmallSquares,
     Squares,
     LanesEast,
     LanesNorth,
@@ -30,6 +31,7 @@ pub(crate) enum Level {
 /// among the long ones, which are those of no kind.
 #[derive(Drop)]
 pub(crate) struct Segments {
+    pub small_squares: Layer,
     pub squares: Layer,
     pub lanes_east: Layer,
     pub lanes_north: Layer,
@@ -37,15 +39,22 @@ pub(crate) struct Segments {
 }
 
 impl Segments {
-    /// No segments, in squares with a side and lanes of that width, in millimetres.
-    pub(crate) fn new(alloc: Global, hash: NumberHash, side: u64) -> Segments
-        requires { IsSide side }
+    /// No segments, in smaller squares, and squares with a side and lanes of that width. Sides are
+    /// in millimetres.
+    pub(crate) fn new(alloc: Global, hash: NumberHash, small_side: u64, side: u64) -> Segments
+        requires small { IsSide small_side }
+        requires side { IsSide side }
+        ensures small_squares { result.small_squares.size ≡ squares_of small_side }
         ensures squares { result.squares.size ≡ squares_of side }
         ensures lanes_east { result.lanes_east.size ≡ lanes_east_of side }
         ensures lanes_north { result.lanes_north.size ≡ lanes_north_of side }
         ensures spread { AreSpread result }
         ensures empty { HoldsNone (kept result) }
     {
+        let small_squares = CellSize {
+            width: small_side,
+            height: small_side,
+        };
         let squares = CellSize {
             width: side,
             height: side,
@@ -59,6 +68,7 @@ impl Segments {
             height: LANE_LENGTH,
         };
         Segments {
+            small_squares: Layer::new(alloc, hash, small_squares),
             squares: Layer::new(alloc, hash, squares),
             lanes_east: Layer::new(alloc, hash, lanes_east),
             lanes_north: Layer::new(alloc, hash, lanes_north),
@@ -71,7 +81,9 @@ impl Segments {
         requires { AreSpread self.now }
         ensures { result ≡ level_of_entry self.now entry.now }
     {
-        if self.squares.fits(entry) {
+        if self.small_squares.fits(entry) {
+            Level::SmallSquares
+        } else if self.squares.fits(entry) {
             Level::Squares
         } else if self.lanes_east.fits(entry) {
             Level::LanesEast
@@ -93,6 +105,7 @@ impl Segments {
         ensures err { OnErr result (HoldsSame (kept self.old) (kept self.new)) }
     {
         match self.level_of(&entry) {
+            Level::SmallSquares => self.small_squares.put(entry),
             Level::Squares => self.squares.put(entry),
             Level::LanesEast => self.lanes_east.put(entry),
             Level::LanesNorth => self.lanes_north.put(entry),
@@ -108,6 +121,7 @@ impl Segments {
         ensures taken { HoldsOneLess (kept self.old) entry (kept self.new) }
     {
         match self.level_of(&entry) {
+            Level::SmallSquares => self.small_squares.take(&entry),
             Level::Squares => self.squares.take(&entry),
             Level::LanesEast => self.lanes_east.take(&entry),
             Level::LanesNorth => self.lanes_north.take(&entry),

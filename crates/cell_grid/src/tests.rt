@@ -142,7 +142,7 @@ const ALL: [bool; 7] = [true, true, true, true, true, true, true];
 
 #[test]
 fn strings_and_points_of_a_square(rt: HostRuntime) -> Result<(), Fail> {
-    let mut grid = CellGrid::new(rt.alloc(), NumberHash::fixed(), 1000)?;
+    let mut grid = CellGrid::new(rt.alloc(), NumberHash::fixed(), 1000, 8000)?;
     fill(&rt, &mut grid)?;
     assert_eq!(rt; strings_near(&rt, &grid, SOUTHWEST, NORTHEAST), ALL);
     assert_eq!(rt; points_near(&rt, &grid, SOUTHWEST, NORTHEAST), ALL);
@@ -159,7 +159,7 @@ fn strings_and_points_of_a_square(rt: HostRuntime) -> Result<(), Fail> {
 
 #[test]
 fn far_away(rt: HostRuntime) -> Result<(), Fail> {
-    let mut grid = CellGrid::new(rt.alloc(), NumberHash::fixed(), 1000)?;
+    let mut grid = CellGrid::new(rt.alloc(), NumberHash::fixed(), 1000, 8000)?;
     fill(&rt, &mut grid)?;
     let no = string(&rt, 41);
     let a = position(&rt, (-1_000_000, 0));
@@ -180,7 +180,7 @@ fn far_away(rt: HostRuntime) -> Result<(), Fail> {
 
 #[test]
 fn long_string_from_its_middle(rt: HostRuntime) -> Result<(), Fail> {
-    let mut grid = CellGrid::new(rt.alloc(), NumberHash::fixed(), 1000)?;
+    let mut grid = CellGrid::new(rt.alloc(), NumberHash::fixed(), 1000, 8000)?;
     let no = string(&rt, 51);
     let a = position(&rt, (0, 0));
     let b = position(&rt, (100_000, 100_000));
@@ -194,7 +194,7 @@ fn long_string_from_its_middle(rt: HostRuntime) -> Result<(), Fail> {
 
 #[test]
 fn taken_out(rt: HostRuntime) -> Result<(), Fail> {
-    let mut grid = CellGrid::new(rt.alloc(), NumberHash::fixed(), 1000)?;
+    let mut grid = CellGrid::new(rt.alloc(), NumberHash::fixed(), 1000, 8000)?;
     fill(&rt, &mut grid)?;
     let a = position(&rt, (-2500, 500));
     let b = position(&rt, (2500, 600));
@@ -214,11 +214,11 @@ fn taken_out(rt: HostRuntime) -> Result<(), Fail> {
 
 #[test]
 fn strings_across_many_cells(rt: HostRuntime) -> Result<(), Fail> {
-    let mut grid = CellGrid::new(rt.alloc(), NumberHash::fixed(), 1000)?;
+    let mut grid = CellGrid::new(rt.alloc(), NumberHash::fixed(), 1000, 8000)?;
     let a = position(&rt, (0, 0));
     let below = position(&rt, (30_000, -5));
     let above = position(&rt, (30_000, 5));
-    // 61 cells, each of which has it, and 71, so that it stands among the long ones.
+    // 61 of the smaller squares, each of which has it, and 71, so that it stands in others.
     for (number, east) in [(61, 60_000), (71, 70_000)] {
         let no = string(&rt, number);
         put(&rt, &mut grid, no, a, position(&rt, (east, 0)))?;
@@ -227,8 +227,8 @@ fn strings_across_many_cells(rt: HostRuntime) -> Result<(), Fail> {
     Ok(())
 }
 
-// Strings along both axes, each over more than 64 squares and in one lane, or in four; and a long
-// one.
+// Strings along both axes, each over more than 64 squares of a metre and in one lane, or in four; and
+// a long one.
 const LONG: [(u32, Place, Place); 5] = [
     (71, (0, 0), (70_000, 0)),
     (72, (0, 0), (0, 70_000)),
@@ -270,6 +270,32 @@ fn fill_long(rt: &impl Abort, grid: &mut CellGrid) -> Result<(), Memory> {
     Ok(())
 }
 
+// One that stands in a smaller square of a metre, one in squares of eight, one in lanes either way,
+// and a long one.
+const EACH_KIND: [(u32, Place, Place); 5] = [
+    (81, (0, 0), (900, 900)),
+    (82, (0, 0), (70_000, 900)),
+    (83, (-1_500_000_000, 0), (1_500_000_000, 900)),
+    (84, (0, -1_500_000_000), (900, 1_500_000_000)),
+    (85, (0, 0), (100_000, 100_000)),
+];
+
+#[test]
+fn each_kind_of_cell(rt: HostRuntime) -> Result<(), Fail> {
+    let mut grid = CellGrid::new(rt.alloc(), NumberHash::fixed(), 1000, 8000)?;
+    for (number, from, to) in EACH_KIND {
+        let no = string(&rt, number);
+        put_again(&rt, &mut grid, no, position(&rt, from), position(&rt, to))?;
+    }
+    let middle = position(&rt, (450, 450));
+    let beside = position(&rt, (100_001, -1));
+    for (number, _, _) in EACH_KIND {
+        assert!(rt; is_candidate(&grid, string(&rt, number), middle, middle));
+        assert!(rt; !is_candidate(&grid, string(&rt, number), beside, beside));
+    }
+    Ok(())
+}
+
 const WEST: i64 = -10_000_000_000;
 
 const EAST: i64 = 10_000_000_000;
@@ -304,7 +330,7 @@ const LOOKS: [(Place, Place, [bool; 5]); 8] = [
 
 #[test]
 fn lanes_both_ways(rt: HostRuntime) -> Result<(), Fail> {
-    let mut grid = CellGrid::new(rt.alloc(), NumberHash::fixed(), 1000)?;
+    let mut grid = CellGrid::new(rt.alloc(), NumberHash::fixed(), 1000, 1000)?;
     fill_long(&rt, &mut grid)?;
     for (from, to, seen) in LOOKS {
         assert_eq!(rt; long_near(&rt, &grid, from, to), seen);
@@ -314,7 +340,7 @@ fn lanes_both_ways(rt: HostRuntime) -> Result<(), Fail> {
 
 #[test]
 fn very_wide_search(rt: HostRuntime) -> Result<(), Fail> {
-    let mut grid = CellGrid::new(rt.alloc(), NumberHash::fixed(), 1000)?;
+    let mut grid = CellGrid::new(rt.alloc(), NumberHash::fixed(), 1000, 8000)?;
     fill(&rt, &mut grid)?;
     fill_long(&rt, &mut grid)?;
     assert_eq!(rt; points_near(&rt, &grid, (WEST, WEST), (EAST, EAST)), ALL);
@@ -327,7 +353,8 @@ fn very_wide_search(rt: HostRuntime) -> Result<(), Fail> {
 
 const RAYS: u32 = 200;
 
-// One of many strings from one point: near ones in squares, and far ones in lanes or long.
+// One of many strings from one point: near ones in the smaller squares, and far ones in others, in
+// lanes or long.
 fn ray(rt: &impl Abort, number: u32) -> (Pt, Pt) {
     let turn = number as i64;
     let end = if number % 2 == 0 {
@@ -365,7 +392,7 @@ fn rays_near(rt: &impl Abort, grid: &CellGrid) -> u32 {
 
 #[test]
 fn many_taken_out_together(rt: HostRuntime) -> Result<(), Fail> {
-    let mut grid = CellGrid::new(rt.alloc(), NumberHash::fixed(), 1000)?;
+    let mut grid = CellGrid::new(rt.alloc(), NumberHash::fixed(), 1000, 8000)?;
     let star = star(&rt, rt.alloc())?;
     grid.put_all(&star)?;
     assert_eq!(rt; rays_near(&rt, &grid), 199);

@@ -48,7 +48,7 @@ pub fn grid_of(alloc: Global, map: &PlainMap) -> Result<CellGrid, Memory>
     requires { HasSoundRows map.now }
     ensures { IfOk result (λ grid. IsGridOf grid map.now) }
 {
-    let mut grid = CellGrid::new(alloc, map.hash(), CELL_SIDE)?;
+    let mut grid = CellGrid::new(alloc, map.hash(), CELL_SIDE, CELL_SIDE)?;
     put_strings(&mut grid, map)?;
     put_points(&mut grid, map)?;
     Ok(grid)

@@ -12,17 +12,17 @@ returns-clause-held c =
     let k = kept c.args.segments.now in
     let near = λ (e : Entry). boxes_overlap c.args.from c.args.to e.from e.to in
     subst (λ (long : List Entry). (e : Entry)
-    → Contains (c.of.result ++ (c.of-2.result ++ (c.of-3.result ++ filter near long))) e
+    → Contains (c.of.result ++ (c.of-2.result ++ (c.of-3.result ++ (c.of-4.result ++ filter near long)))) e
     → IsHeld k e × IsTrue (near e)) (sym c.as_slice.ensures.value)
-    (given-held k near c.of.result c.of-2.result c.of-3.result c.of.ensures.held
-    c.of-2.ensures.held c.of-3.ensures.held)
+    (given-held k near c.of.result c.of-2.result c.of-3.result c.of-4.result c.of.ensures.held
+    c.of-2.ensures.held c.of-3.ensures.held c.of-4.ensures.held)
 
 pub returns-clause-all : goal.returns-clause-all
 returns-clause-all c =
     let k = kept c.args.segments.now in
     let near = λ (e : Entry). boxes_overlap c.args.from c.args.to e.from e.to in
     subst (λ (long : List Entry). (e : Entry) → IsHeld k e → IsTrue (near e)
-    → Contains (c.of.result ++ (c.of-2.result ++ (c.of-3.result ++ filter near long))) e)
+    → Contains (c.of.result ++ (c.of-2.result ++ (c.of-3.result ++ (c.of-4.result ++ filter near long)))) e)
     (sym c.as_slice.ensures.value)
-    (given-all k near c.of.result c.of-2.result c.of-3.result c.of.ensures.all
-    c.of-2.ensures.all c.of-3.ensures.all)
+    (given-all k near c.of.result c.of-2.result c.of-3.result c.of-4.result c.of.ensures.all
+    c.of-2.ensures.all c.of-3.ensures.all c.of-4.ensures.all)

@@ -3,39 +3,65 @@ use Rattle.std.specs.Prelude.{count_by}
 use Rattle.std.specs.List.{Contains}
 use Rattle.cell_grid.specs.declared.entry.Entry.{Entry}
 use Rattle.cell_grid.specs.declared.segments.Segments.{Segments}
-use Rattle.cell_grid.specs.declared.segments.Level.TheVariants.{Squares, LanesEast, LanesNorth, Long}
+use Rattle.cell_grid.specs.declared.segments.Level.TheVariants.{SmallSquares, Squares, LanesEast, LanesNorth, Long}
 use Rattle.cell_grid.specs.Entries.{is_same_entry}
 use Rattle.cell_grid.specs.Spread.{IsSoundEntry}
 use Rattle.cell_grid.specs.Kept.{kept, level_of}
 use Rattle.cell_grid.proofs.Spreads.{count_pushed}
-use Rattle.cell_grid.proofs.Levels.{IsPutAt, but-squares, but-lanes_east, but-lanes_north, but-long, put-more, put-same, put-levels, on_ok, on_err, either, long-more}
+use Rattle.cell_grid.proofs.Levels.{IsPutAt, but-small_squares, but-squares, but-lanes_east, but-lanes_north, but-long, put-more, put-same, put-levels, on_ok, on_err, either, long-more}
 use Rattle.cell_grid.proofs.Together.{each-push}
 use Rattle.cell_grid.proofs.segments.Segments.put.Goals as goal
 
-pub returns-in-Squares : goal.returns-in-Squares
-returns-in-Squares c =
+pub returns-in-SmallSquares : goal.returns-in-SmallSquares
+returns-in-SmallSquares c =
     let old = c.args.self.now in
     let was = c.requires.spread in
     let told = c.put.ensures in
-    let new : Segments = record { squares = c.put.new.self; lanes_east = old.lanes_east; lanes_north = old.lanes_north; long = old.long } in
-    let put : IsPutAt c.put.result (kept old) Squares c.args.entry (kept new) = record {
-      elsewhere = but-squares old.squares.lists old.lanes_east.lists old.lanes_north.lists
-          old.long.entries.items c.put.new.self.lists;
+    let new : Segments = record { small_squares = c.put.new.self; squares = old.squares; lanes_east = old.lanes_east; lanes_north = old.lanes_north; long = old.long } in
+    let put : IsPutAt c.put.result (kept old) SmallSquares c.args.entry (kept new) = record {
+      elsewhere = but-small_squares (kept old) c.put.new.self.lists;
       more = told.put;
       same = told.err;
     } in
     record {
       spread = record {
+        small_squares = told.spread;
+        squares = was.squares;
+        lanes_east = was.lanes_east;
+        lanes_north = was.lanes_north;
+        long_once = was.long_once;
+        long_sound = was.long_sound;
+        at_level = rw told.size (put-levels c.put.result (kept old) (kept new) SmallSquares c.args.entry put
+            (level_of old) was.at_level (sym c.in-SmallSquares.is ∙ c.level_of.ensures));
+      };
+      put = put-more c.put.result (kept old) (kept new) SmallSquares c.args.entry put;
+      err = put-same c.put.result (kept old) (kept new) SmallSquares c.args.entry put;
+    }
+
+pub returns-in-Squares : goal.returns-in-Squares
+returns-in-Squares c =
+    let old = c.args.self.now in
+    let was = c.requires.spread in
+    let told = c.put-in-Squares.ensures in
+    let new : Segments = record { small_squares = old.small_squares; squares = c.put-in-Squares.new.self; lanes_east = old.lanes_east; lanes_north = old.lanes_north; long = old.long } in
+    let put : IsPutAt c.put-in-Squares.result (kept old) Squares c.args.entry (kept new) = record {
+      elsewhere = but-squares (kept old) c.put-in-Squares.new.self.lists;
+      more = told.put;
+      same = told.err;
+    } in
+    record {
+      spread = record {
+        small_squares = was.small_squares;
         squares = told.spread;
         lanes_east = was.lanes_east;
         lanes_north = was.lanes_north;
         long_once = was.long_once;
         long_sound = was.long_sound;
-        at_level = rw told.size (put-levels c.put.result (kept old) (kept new) Squares c.args.entry put
+        at_level = rw told.size (put-levels c.put-in-Squares.result (kept old) (kept new) Squares c.args.entry put
             (level_of old) was.at_level (sym c.in-Squares.is ∙ c.level_of.ensures));
       };
-      put = put-more c.put.result (kept old) (kept new) Squares c.args.entry put;
-      err = put-same c.put.result (kept old) (kept new) Squares c.args.entry put;
+      put = put-more c.put-in-Squares.result (kept old) (kept new) Squares c.args.entry put;
+      err = put-same c.put-in-Squares.result (kept old) (kept new) Squares c.args.entry put;
     }
 
 pub returns-in-LanesEast : goal.returns-in-LanesEast
@@ -43,15 +69,15 @@ returns-in-LanesEast c =
     let old = c.args.self.now in
     let was = c.requires.spread in
     let told = c.put-in-LanesEast.ensures in
-    let new : Segments = record { squares = old.squares; lanes_east = c.put-in-LanesEast.new.self; lanes_north = old.lanes_north; long = old.long } in
+    let new : Segments = record { small_squares = old.small_squares; squares = old.squares; lanes_east = c.put-in-LanesEast.new.self; lanes_north = old.lanes_north; long = old.long } in
     let put : IsPutAt c.put-in-LanesEast.result (kept old) LanesEast c.args.entry (kept new) = record {
-      elsewhere = but-lanes_east old.squares.lists old.lanes_east.lists old.lanes_north.lists
-          old.long.entries.items c.put-in-LanesEast.new.self.lists;
+      elsewhere = but-lanes_east (kept old) c.put-in-LanesEast.new.self.lists;
       more = told.put;
       same = told.err;
     } in
     record {
       spread = record {
+        small_squares = was.small_squares;
         squares = was.squares;
         lanes_east = told.spread;
         lanes_north = was.lanes_north;
@@ -69,15 +95,15 @@ returns-in-LanesNorth c =
     let old = c.args.self.now in
     let was = c.requires.spread in
     let told = c.put-in-LanesNorth.ensures in
-    let new : Segments = record { squares = old.squares; lanes_east = old.lanes_east; lanes_north = c.put-in-LanesNorth.new.self; long = old.long } in
+    let new : Segments = record { small_squares = old.small_squares; squares = old.squares; lanes_east = old.lanes_east; lanes_north = c.put-in-LanesNorth.new.self; long = old.long } in
     let put : IsPutAt c.put-in-LanesNorth.result (kept old) LanesNorth c.args.entry (kept new) = record {
-      elsewhere = but-lanes_north old.squares.lists old.lanes_east.lists old.lanes_north.lists
-          old.long.entries.items c.put-in-LanesNorth.new.self.lists;
+      elsewhere = but-lanes_north (kept old) c.put-in-LanesNorth.new.self.lists;
       more = told.put;
       same = told.err;
     } in
     record {
       spread = record {
+        small_squares = was.small_squares;
         squares = was.squares;
         lanes_east = was.lanes_east;
         lanes_north = told.spread;
@@ -99,14 +125,15 @@ returns-in-Long c =
     let told = c.put-in-Long.ensures in
     let xs = old.long.entries.items in
     let ys = c.put-in-Long.new.self.entries.items in
-    let new : Segments = record { squares = old.squares; lanes_east = old.lanes_east; lanes_north = old.lanes_north; long = c.put-in-Long.new.self } in
+    let new : Segments = record { small_squares = old.small_squares; squares = old.squares; lanes_east = old.lanes_east; lanes_north = old.lanes_north; long = c.put-in-Long.new.self } in
     let put : IsPutAt r (kept old) Long e (kept new) = record {
-      elsewhere = but-long old.squares.lists old.lanes_east.lists old.lanes_north.lists xs ys;
+      elsewhere = but-long (kept old) ys;
       more = on_ok r (λ is. rw is (long-more xs e)) told.put;
       same = on_err r (λ is. rw is (λ x. ((λ h. h), (λ h. h)))) told.err;
     } in
     record {
       spread = record {
+        small_squares = was.small_squares;
         squares = was.squares;
         lanes_east = was.lanes_east;
         lanes_north = was.lanes_north;
