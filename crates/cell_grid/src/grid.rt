@@ -25,12 +25,12 @@ use std::marker::Model;
 ///
 /// There are four kinds of cells: smaller squares with a side of their own, squares with the side,
 /// lanes from west to east, a thousand kilometres long and as wide as the side, and such lanes from
-/// south to north. The cell of a location is its two coordinates divided by the width and the height
-/// of the kind, rounded down. A string stands in every smaller square that its box touches, where
-/// these are 64 at most; else in every square, where these are 64 at most; else in every lane from
-/// west to east, or from south to north, where these are eight at most; and else in a list of long
-/// ones, which are those that go slantwise over more than seven sides both ways. A number may stand
-/// at several positions at once.
+/// south to north. The cell of a location is its two coordinates divided by the width and the
+/// height of the kind, rounded down. A string stands in every smaller square that its box touches,
+/// where these are 64 at most; else in every square, where these are 64 at most; else in every lane
+/// from west to east, or from south to north, where these are eight at most; and else in a list of
+/// long ones, which are those that go slantwise over more than seven sides both ways. A number may
+/// stand at several positions at once.
 ///
 /// Only `new` and the puts take memory: some 40 bytes for each cell that an entry stands in. A cell
 /// keeps the room that it was given. A call takes time by the cells of the box and the entries that
@@ -65,8 +65,8 @@ impl Model for CellGrid {
 
 impl CellGrid {
     /// A grid that holds nothing and will find cells by this hash. The side of the smaller squares
-    /// and that of the others are in millimetres, from 1,000 to 1,000,000,000. The first is to be
-    /// the lesser one; where it isn't, what is found is the same.
+    /// and that of the others are in millimetres, from 1,000 to 1,000,000,000. What is found is the
+    /// same with any sides; the first is meant to be the lesser one, or the same.
     pub fn new(
         alloc: Global,
         hash: NumberHash,

@@ -187,8 +187,8 @@ impl Iterator for NearInLayer<'_> {
     }
 }
 
-/// The entries near a segment: those in smaller squares, then those in squares, then those in lanes,
-/// then the long ones.
+/// The entries near a segment: those in smaller squares, then those in squares, then those in
+/// lanes, then the long ones.
 #[derive(Drop)]
 pub(crate) struct NearEntries<'a> {
     small_squares: NearInLayer<'a>,

@@ -227,8 +227,8 @@ fn strings_across_many_cells(rt: HostRuntime) -> Result<(), Fail> {
     Ok(())
 }
 
-// Strings along both axes, each over more than 64 squares of a metre and in one lane, or in four; and
-// a long one.
+// Strings along both axes, each over more than 64 squares of a metre and in one lane, or in four;
+// and a long one.
 const LONG: [(u32, Place, Place); 5] = [
     (71, (0, 0), (70_000, 0)),
     (72, (0, 0), (0, 70_000)),
