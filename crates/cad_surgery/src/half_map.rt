@@ -65,8 +65,8 @@ impl<T: Tally> HalfMap<T> {
         self.draft.table()
     }
 
-    /// The grid of the map's strings and points, in cells of 100,000 mm: it holds just these, at
-    /// their positions. It takes no memory.
+    /// The grid of the map's strings and points, in squares of 100,000 mm and in smaller ones, and in
+    /// lanes: it holds just these, at their positions. It takes no memory.
     pub fn grid(&self) -> &CellGrid
         ensures is { result.now ≡ self.now.grid }
         ensures just { IsGridOf result.now (map_of self.now) }

@@ -1,19 +1,58 @@
 //! The grid of a map's strings and points.
-ghost use Rattle.std.specs.Prelude.{IfOk, OnOk, OnErr};
+ghost use Rattle.std.specs.Prelude.{◌≤◌, IfOk, OnOk, OnErr};
 ghost use Rattle.cad_map.specs.Map.{Map};
 ghost use Rattle.cad_map.specs.Valid.{HasSoundRows};
+ghost use Rattle.cell_grid.specs.Cells.{IsSide};
 ghost use Rattle.cell_grid.specs.Kept.{HoldsNone, HoldsSame};
 ghost use Rattle.cell_grid.specs.Together.{Listed};
 ghost use Rattle.edit_records.specs.Gridded.{HoldsJust, IsGridOf, string_entries, point_entries};
 ghost use Rattle.edit_records.specs.Exchanged.{IsExchange, IsGridOfBoth, CanEnter, CanLeave};
 
 use cad_map::{MapView, PlainMap, position};
-use cad_rows::Memory;
+use cad_rows::{Memory, StringRow};
 use cell_grid::{CellGrid, Entries};
 use std::alloc::Global;
 
-/// The side of a cell in millimetres.
+/// The side of the squares, which is also the greatest of the smaller ones, in millimetres.
 const CELL_SIDE: u64 = 100_000;
+
+/// The least side of the smaller squares, in millimetres.
+const LEAST_SIDE: u64 = 1_000;
+
+/// How many times the mean extent of a string the side of the smaller squares is.
+const EXTENTS_A_SIDE: u64 = 4;
+
+/// How many strings of a map are measured at most.
+const MEASURED: usize = 1_000;
+
+// How far the box of a string goes from west to east or from south to north, whichever is more.
+fn extent(map: &PlainMap, row: &StringRow) -> u64
+    ensures { result ≤ 20_000_000_000 }
+{
+    let from = position(map, row.from);
+    let to = position(map, row.to);
+    from.x.abs_diff(to.x).max(from.y.abs_diff(to.y))
+}
+
+// The side of the smaller squares in the grid of a map, by the mean extent of some of its strings,
+// which are taken evenly over all.
+fn small_side(map: &PlainMap) -> u64
+    ensures { IsSide result }
+{
+    let step = map.counts().strings / MEASURED + 1;
+    let mut total = 0;
+    let mut measured = 0;
+    for turn in 0..MEASURED {
+        if let Some(row) = map.string_at(turn * step) {
+            total += extent(map, row);
+            measured += 1;
+        }
+    }
+    if measured == 0 {
+        return CELL_SIDE;
+    }
+    (EXTENTS_A_SIDE * total / measured).clamp(LEAST_SIDE, CELL_SIDE)
+}
 
 // Puts the strings of a map, at the positions of their ends, into a grid that holds none.
 fn put_strings(grid: &mut CellGrid, map: &PlainMap) -> Result<(), Memory>
@@ -48,7 +87,7 @@ pub fn grid_of(alloc: Global, map: &PlainMap) -> Result<CellGrid, Memory>
     requires { HasSoundRows map.now }
     ensures { IfOk result (λ grid. IsGridOf grid map.now) }
 {
-    let mut grid = CellGrid::new(alloc, map.hash(), CELL_SIDE, CELL_SIDE)?;
+    let mut grid = CellGrid::new(alloc, map.hash(), small_side(map), CELL_SIDE)?;
     put_strings(&mut grid, map)?;
     put_points(&mut grid, map)?;
     Ok(grid)
