@@ -12,8 +12,9 @@ pub use Rattle.cad_laws.proofs.JoinedCorners.{join-at}
 pub use Rattle.cad_laws.proofs.SplitAt.{split-between}
 -- that the rings are whole after each edit
 pub use Rattle.cad_laws.proofs.WholeAfter.{whole-after, join-breaks}
--- what each edit touches, and that the corners elsewhere are the same
+-- what each edit touches, the ways straight past a point, and that the corners elsewhere are the same
 pub use Rattle.cad_laws.proofs.TouchedAfter.{touched-after}
+pub use Rattle.cad_laws.proofs.StraightAt.{straight-turned}
 pub use Rattle.cad_laws.proofs.CornersElsewhere.{corners-parted, corners-island, corners-joined, to-point}
 -- rows and positions where one row comes, goes or changes, and lists that a test leaves empty
 pub use Rattle.cad_laws.proofs.Elsewhere.{same-pushed, same-without, same-with_row, own-with_row, filter-none}

@@ -475,7 +475,8 @@ module _ (m : Map) (valid : IsValid m) (p : ℕ) (s t : StringRow)
       let r = map-Contains (dropped p) m.boundaries part.0 part.1 in
       (r.0, r.1, subst (λ (d : Boundary). Contains (corners_of d.ring) c) (sym r.2) part.2)
 
-  joined-at : IsJoinedAt m made p a b
+  -- the two strings may be told in either order
+  pub joined-at : IsJoinedAt m made p a b
   joined-at =
       let F = maps.in_ring-of m valid p s t at (corner a p b) first in
       let S = maps.in_ring-of m valid p s t at (corner b p a) second in

@@ -20,6 +20,7 @@ pub mod StandsElsewhere
 pub mod CornersElsewhere
 pub mod TouchedParcels
 pub mod TouchedMerger
+pub mod StraightAt
 pub mod TouchedPoints
 pub mod TouchedRows
 pub mod TouchedAfter

@@ -9,7 +9,7 @@ use Rattle.cad_rows.specs.declared.rows.StringRow.{StringRow}
 use Rattle.cad_rings.specs.Cycle.{Ring, Corner}
 use Rattle.cad_map.specs.Boundaries.{bounding}
 use Rattle.cad_map.specs.Map.{Map, has_point, has_face, position_of, is_end, far_end, strings_at, rings_of, all_corners}
-use Rattle.cad_map.specs.Touched.{Touched, neighbours, PointStands, StringStands, FaceStands, ComesByMove, IsTouched}
+use Rattle.cad_map.specs.Touched.{Touched, neighbours, PointStands, StringStands, FaceStands, ComesByMove, ComesBySplit, ComesByJoin, IsTouched}
 use Rattle.cad_map.specs.Valid.{HasSoundRows}
 use Rattle.cad_map.proofs.CallerLemmas.{All-at_each, All-from_each, Contains-filter, filter-Contains, ends, ring-there}
 use Rattle.cad_laws.specs.Parting.{HasCorner}
@@ -48,7 +48,8 @@ module _ (old new : Map) (t : Touched) (sound : HasSoundRows old) where
   module _ (Ok : ℕ → Type 0) (on_points : KeepsPoints Ok) (on_strings : KeepsStrings Ok)
       (on_corners : KeepsCorners)
       (on_faces : (f : Face) → IsTrue (has_face new f) → Contains t.faces f ⊎ KeepsFace Ok f)
-      (on_move : IfSome t.moved (ComesByMove old new)) where
+      (on_move : IfSome t.moved (λ v. ComesByMove old new v ⊎ ComesBySplit old new v))
+      (on_join : IfSome t.joined (ComesByJoin old new)) where
     same-strings : (q : ℕ) → IsTrue (has_point new q) → (¬ Contains t.points q)
         → strings_at new q ≡ strings_at old q
     same-strings q known off =
@@ -158,4 +159,5 @@ module _ (old new : Map) (t : Touched) (sound : HasSoundRows old) where
         | inr k ↦ inr (face-stands f k)
       ];
       moved = on_move;
+      joined = on_join;
     }

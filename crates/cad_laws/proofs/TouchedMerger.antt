@@ -238,7 +238,7 @@ module _ (m : Map) (k e : ℕ) (valid : IsValid m) (can : CanMerge m k e) where
               rings = same-rings f not_k k.1;
               points = λ r there q has. tt;
             })
-      ]) tt
+      ]) tt tt
     where
       same-rings : (f : Face) → f ≢ K → f ≢ E → rings_of made f
           ≡ rings_of m f

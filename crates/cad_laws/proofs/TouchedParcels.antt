@@ -119,7 +119,7 @@ module _ (m : Map) (valid : IsValid m) (face : Face) (parcel : ℕ) (label : Lis
             points = λ r there q has. tt;
           })
         ]
-      ]) tt
+      ]) tt tt
 
   -- the rings of another face are among those that stay
   pub placed-rings : (left right : Ring) (those : List Boundary) (f : Face) → f ≢ face

@@ -1,10 +1,10 @@
 -- What a split, a join and a move touch.
-use Rattle.std.proofs.Common.{◌≡◌, ◌≢◌, ℕ, ℤ, ◌⊎◌, inl, inr, refl, sym, ap, subst, ◌∙◌, List, [], ◌∷◌, map, filter, Bool, true, false, true≢false, not, nat_eq, ◌==◌, Option, None, Some, is_some, arith}
+use Rattle.std.proofs.Common.{◌≡◌, ◌≢◌, ℕ, ℤ, ◌⊎◌, inl, inr, refl, sym, ap, subst, ◌∙◌, List, [], ◌∷◌, ◌++◌, map, filter, Bool, true, false, true≢false, not, nat_eq, ◌==◌, Option, None, Some, is_some, arith}
 use Rattle.std.proofs.lemmas.Bool.{eqb-true, eq-eqb}
 use Rattle.std.proofs.lemmas.List.{append-nil}
-use Rattle.std.proofs.lemmas.List.Sorted.{IsPermutation-sym, Contains-permutation}
+use Rattle.std.proofs.lemmas.List.Sorted.{IsPermutation-refl, IsPermutation-sym, Contains-permutation}
 use Rattle.std.proofs.lemmas.Option.{same_Some}
-use Rattle.std.specs.Prelude.{IsTrue, ◌||◌, if◌then◌else◌, flat_map, unwrap_or, option_map}
+use Rattle.std.specs.Prelude.{IsTrue, IfSome, IsPermutation, ◌||◌, if◌then◌else◌, flat_map, unwrap_or, option_map}
 use Rattle.std.specs.List.{Contains}
 use Rattle.cad_rows.specs.declared.edits.Edit.TheVariants.{Split, Join, Move}
 use Rattle.cad_rows.specs.declared.names.Face.{Face}
@@ -22,16 +22,19 @@ use Rattle.cad_map.specs.Effects.{after}
 use Rattle.cad_map.specs.Map.{Map, point_of, string_of, has_point, has_face, position_of, origin, is_end, far_end, strings_at, side_of}
 use Rattle.cad_map.specs.Refusals.{first_refusal}
 use Rattle.cad_map.specs.Rings.{HasWholeRings}
-use Rattle.cad_map.specs.Touched.{Touched, neighbours, ComesByMove, IsTouched}
+use Rattle.cad_map.specs.Table.{row_with}
+use Rattle.cad_map.specs.Touched.{Touched, neighbours, ComesByMove, ComesByJoin, IsTouched}
 use Rattle.cad_map.specs.Valid.{IsValid}
-use Rattle.cad_map.proofs.CallerLemmas.{IsAllowed, allowed, there-one, two-joined, Contains-cases, Contains-first, Contains-later, Contains-map, list_any-Contains, Contains-filter, find-Contains, is_face-same, row-found, dropped, MeetAt, meet-at, differs, split_boundary, found-number, found-with_row, ends, is_end-of, other_end, whole_valid}
+use Rattle.cad_map.proofs.CallerLemmas.{IsAllowed, allowed, canonical_order-canonical_order, free-split, there-one, two-joined, Contains-cases, Contains-first, Contains-later, Contains-map, list_any-Contains, Contains-filter, find-Contains, is_face-same, row-found, dropped, MeetAt, meet-at, differs, split_boundary, found-number, found-with_row, ends, is_end-of, other_end, whole_valid}
 use Rattle.cad_laws.specs.Joining.{IsJoinedAt}
-use Rattle.cad_laws.specs.Touching.{touching, faces_where, passes, goes_along, touched_by_split, touched_by_move, touched_by}
+use Rattle.cad_laws.specs.Touching.{faces_where, passes, goes_along, joined_between, touched_by_split, touched_by_join, touched_by_move, touched_by}
 use Rattle.cad_laws.proofs.CornersElsewhere.{corners-joined}
 use Rattle.cad_laws.proofs.Elsewhere.{face-or_not, filter-changed, rings-elsewhere, found-pushed, same-pushed, same-without, in-without, same-with_row}
-use Rattle.cad_laws.proofs.JoinedCorners.{join-at}
+use Rattle.cad_laws.proofs.JoinedCorners.{joined-at, join-at}
+use Rattle.cad_laws.proofs.RowsBack.{without-push}
 use Rattle.cad_laws.proofs.SplitAt.{starts-of, split-between}
 use Rattle.cad_laws.proofs.StandsElsewhere.{KeepsPoints, KeepsStrings, stands-elsewhere}
+use Rattle.cad_laws.proofs.StraightAt.{straight-at}
 use Rattle.cad_laws.proofs.WholeAfter.{whole-after}
 
 -- ---- Faces whose rings pass a test
@@ -215,8 +218,17 @@ module _ (m : Map) (valid : IsValid m) (row : StringRow) (there : Contains m.str
           (put_on-none (side_of row) p b.ring e)
           ∙ ap (bounding b.face) (put_on-none (opposite (side_of row)) p b.ring d)
 
-  touched-split : IsJoinedAt made m p row.from row.to → HasWholeRings made → IsTouched m made named
-  touched-split it rings =
+  -- each point but the new one lies where it lay
+  lies-beside : point_of m p ≡ None → (q : ℕ) → q ≢ p → position_of m q ≡ position_of made q
+  lies-beside new q off =
+      let number : PointRow → ℕ = λ r. r.number in
+      ap (λ (o : Option PointRow). unwrap_or (option_map (λ r. r.position) o) origin)
+      (ap (row_with number q) (sym (without-push number m.points point new))
+      ∙ same-without number q p (m.points ++ point ∷ []) off)
+
+  touched-split : point_of m p ≡ None → IsJoinedAt made m p row.from row.to → HasWholeRings made
+      → IsTouched m made named
+  touched-split new it rings =
       stands-elsewhere m made named valid.sound.v1 Any split-points split-strings
       (λ q known off c at.
       let both =
@@ -235,7 +247,14 @@ module _ (m : Map) (valid : IsValid m) (row : StringRow) (there : Contains m.str
               (λ b. refl) f off);
           points = λ r h q has. tt;
         })
-      ]) tt
+      ]) (inr (record {
+        first = row.from;
+        second = row.to;
+        from = refl;
+        straight =
+            straight-at made m p row.from row.to rings it valid.sound.v1.canonical refl
+            (lies-beside new);
+      })) tt
 
 pub split-touched : (m : Map) (s p : ℕ) (x y : ℤ) (first second : ℕ) → IsValid m
     → GivesInRange (Split s p x y first second)
@@ -258,8 +277,9 @@ split-touched m s p x y first second valid given none = by (string_of m s) refl
         let there = (find-Contains (λ (r : StringRow). r.number == s) m.strings row is).0 in
         let it = (split-between m s p x y first second row valid given none is).0 in
         let rings = whole-after m (Split s p x y first second) valid given none tt in
+        let new = (free-split m s p x y first second free.taken).0 in
         let t =
-        touched-split m valid row there p x y first second
+        touched-split m valid row there p x y first second new
         (rw is at it) (rw is at rings) in
         rw is t
 
@@ -270,7 +290,7 @@ module _ (m : Map) (valid : IsValid m) (p new : ℕ) (two : MeetAt m p) where
   joined = join m p new
 
   abbrev far : Touched
-  far = touching (neighbours m p) (new ∷ []) (faces_where m (passes p))
+  far = touched_by_join m p new
 
   abbrev Off : ℕ → Type 0
   Off q = q ≢ p
@@ -278,11 +298,14 @@ module _ (m : Map) (valid : IsValid m) (p new : ℕ) (two : MeetAt m p) where
   not-dropped : (q : ℕ) → IsTrue (has_point joined q) → IsTrue (has_point m q) × Off q
   not-dropped q known = in-without (λ (r : PointRow). r.number) q p m.points known
 
+  lies-off : (q : ℕ) → Off q → position_of joined q ≡ position_of m q
+  lies-off q off =
+      ap (λ (o : Option PointRow). unwrap_or (option_map (λ r. r.position) o) origin)
+      (same-without (λ (r : PointRow). r.number) q p m.points off)
+
   join-points : KeepsPoints m joined far valid.sound.v1 Off
   join-points = record {
-    position = λ q known off.
-        ap (λ (o : Option PointRow). unwrap_or (option_map (λ r. r.position) o) origin)
-        (same-without (λ (r : PointRow). r.number) q p m.points off);
+    position = λ q known off. lies-off q off;
     points = λ q known. inr (not-dropped q known);
   }
 
@@ -358,6 +381,27 @@ module _ (m : Map) (valid : IsValid m) (p new : ℕ) (two : MeetAt m p) where
   join-face Outside known = refl
   join-face (Parcel n) known = known
 
+  -- the new string goes straight from one far end to the other
+  comes-by_join : IfSome (joined_between m p (neighbours m p)) (ComesByJoin m joined)
+  comes-by_join = by (strings_at m p) refl
+    where
+      by : (rows : List StringRow) → strings_at m p ≡ rows
+          → IfSome (joined_between m p (map (λ s. far_end s p) rows)) (ComesByJoin m joined)
+      by [] is = tt
+      by (s ∷ []) is = tt
+      by (s ∷ t ∷ r ∷ rows) is = tt
+      by (s ∷ t ∷ []) is =
+          let at : IsPermutation (strings_at m p) (s ∷ t ∷ []) =
+          subst (IsPermutation (strings_at m p)) is (IsPermutation-refl (strings_at m p)) in
+          record {
+            lay = refl;
+            straight =
+                straight-at m joined p (far_end s p) (far_end t p) (whole_valid m valid)
+                (joined-at m valid p s t at joined)
+                (canonical_order-canonical_order (map (dropped p) m.boundaries)) refl
+                lies-off;
+          }
+
   touched-join : IsJoinedAt m joined p (far_end two.first p) (far_end two.second p)
       → IsTouched m joined far
   touched-join it =
@@ -379,7 +423,7 @@ module _ (m : Map) (valid : IsValid m) (p new : ℕ) (two : MeetAt m p) where
           points = λ r h q has.
               not-passed p r (none-where m (passes p) f off (bounding f r) h refl) q has;
         })
-      ]) tt
+      ]) tt comes-by_join
 
 pub join-touched : (m : Map) (p new : ℕ) → IsValid m → first_refusal m (Join p new) ≡ None
     → IsTouched m (after m (Join p new)) (touched_by m (Join p new))
@@ -468,7 +512,7 @@ module _ (m : Map) (valid : IsValid m) (p : ℕ) (x y : ℤ) (row : PointRow)
           points = λ r h q has.
               not-passed p r (none-where m (passes p) f off (bounding f r) h refl) q has;
         })
-      ]) comes-by_move
+      ]) (inl comes-by_move) tt
 
 pub move-touched : (m : Map) (p : ℕ) (x y : ℤ) → IsValid m → first_refusal m (Move p x y) ≡ None
     → IsTouched m (after m (Move p x y)) (touched_by m (Move p x y))

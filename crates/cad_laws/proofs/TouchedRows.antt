@@ -19,7 +19,7 @@ use Rattle.cad_map.specs.Effects.{after}
 use Rattle.cad_map.specs.Map.{Map, point_of, string_of, parcel_of, has_point, has_face, position_of, origin, is_end, far_end, rings_at, rings_of, is_free}
 use Rattle.cad_map.specs.Refusals.{first_refusal}
 use Rattle.cad_map.specs.Table.{row_with, without_row}
-use Rattle.cad_map.specs.Touched.{Touched, neighbours, StringStands, ComesByMove, IsTouched}
+use Rattle.cad_map.specs.Touched.{Touched, neighbours, StringStands, ComesByMove, ComesBySplit, ComesByJoin, IsTouched}
 use Rattle.cad_map.specs.Valid.{IsValid}
 use Rattle.cad_map.proofs.CallerLemmas.{allowed, free-dropped, Contains-first, Contains-map, All-at_each, All-from_each, map-Contains, is_nothing, no_end, differs, found-number, found-with_row, map-with_row-same}
 use Rattle.cad_map.proofs.CallerLemmas as maps
@@ -94,6 +94,7 @@ nothing-touched old new position points strings boundaries faces = record {
         All-from_each (λ q. position_of new q ≡ position_of old q) r (λ q k. position q));
   });
   moved = tt;
+  joined = tt;
 }
   where
     near : (q : ℕ) → neighbours new q ≡ neighbours old q
@@ -209,9 +210,10 @@ module _ (m : Map) (valid : IsValid m) (new : Map) (same_strings : new.strings �
     (t : Touched) (Ok : ℕ → Type 0)
     (ends_ok : (s : StringRow) → Contains m.strings s → Ok s.from × Ok s.to)
     (rings_ok : (b : Boundary) → Contains m.boundaries b → (q : ℕ) → Contains b.ring q → Ok q) where
-  touched-points : KeepsPoints m new t valid.sound.v1 Ok → IfSome t.moved (ComesByMove m new)
-      → IsTouched m new t
-  touched-points on_points on_move =
+  touched-points : KeepsPoints m new t valid.sound.v1 Ok
+      → IfSome t.moved (λ v. ComesByMove m new v ⊎ ComesBySplit m new v)
+      → IfSome t.joined (ComesByJoin m new) → IsTouched m new t
+  touched-points on_points on_move on_join =
       stands-elsewhere m new t valid.sound.v1 Ok on_points (record {
         stays = λ s. true;
         added = [];
@@ -229,7 +231,7 @@ module _ (m : Map) (valid : IsValid m) (new : Map) (same_strings : new.strings �
         there = same-face m new same_parcels f known;
         rings = ap (λ (bs : List Boundary). rings_at f bs) same_rings;
         points = λ r h q has. rings_ok (bounding f r) h q has;
-      })) on_move
+      })) on_move on_join
     where
       all : (l : List StringRow) → filter (λ s. true) l ≡ l
       all [] = refl
@@ -250,7 +252,7 @@ added-touched m p x y valid =
         | inl e ↦ inl (subst (Contains (p ∷ [])) e (Contains-first p []))
         | inr k ↦ inr (k, tt)
       ];
-    }) tt
+    }) tt tt
 
 pub dropped-touched : (m : Map) (p : ℕ) → IsValid m → first_refusal m (DropPoint p) ≡ None
     → IsTouched m (after m (DropPoint p)) (touched_by m (DropPoint p))
@@ -266,7 +268,7 @@ dropped-touched m p valid none =
           ap (λ (o : Option PointRow). unwrap_or (option_map (λ r. r.position) o) origin)
           (same-without (λ (r : PointRow). r.number) q p m.points off);
       points = λ q known. inr (in-without (λ (r : PointRow). r.number) q p m.points known);
-    }) tt
+    }) tt tt
   where
     new : Map
     new = record m { points = without_row (λ (r : PointRow). r.number) p m.points }

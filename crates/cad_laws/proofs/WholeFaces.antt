@@ -1,5 +1,5 @@
 -- The faces of sides where the rings are whole, whether or not the map is valid.
-use Rattle.std.proofs.Common.{◌≡◌, ◌≢◌, sym, ap, ◌∙◌, Some}
+use Rattle.std.proofs.Common.{◌≡◌, ◌≢◌, inl, inr, refl, sym, ap, subst, ◌∙◌, Some}
 use Rattle.std.proofs.lemmas.List.Sorted.{IsPermutation-sym, Contains-permutation}
 use Rattle.std.specs.List.{Contains}
 use Rattle.std.specs.Prelude.{flat_map}
@@ -60,3 +60,18 @@ module _ (m : Map) (whole : HasWholeRings m) where
   faces-differ t f g h left right same =
       All-at_each (λ s. left_face m s ≢ right_face m s) m.strings t whole.v5.two_faces h
       (face-told f (side_of t) left ∙ ap Some same ∙ sym (face-told g (opposite (side_of t)) right))
+
+  -- so no face has a side and its opposite
+  pub not-both_hands : (s : Side) (f : Face) → Contains (all_sides m) s → HasSide m f s
+      → HasSide m f (opposite s) → ⊥
+  not-both_hands s f h has back =
+      let k = side-string s h in
+      elim k.is [
+        | inl e ↦
+            faces-differ k.string f f k.there (subst (HasSide m f) e has)
+            (subst (λ (t : Side). HasSide m f (opposite t)) e back) refl
+        | inr e ↦
+            faces-differ k.string f f k.there
+            (subst (λ (t : Side). HasSide m f (opposite t)) e back)
+            (subst (HasSide m f) e has) refl
+      ]

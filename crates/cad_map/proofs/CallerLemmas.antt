@@ -19,7 +19,7 @@ pub use Rattle.cad_map.proofs.Boundaries.Looks.{first_face-some, is_face-refl, p
 pub use Rattle.cad_map.proofs.Boundaries.RingsOfMap.{ring-sides-few, rings_of_map, side_is_told, side_told, string-side-points, whole_valid}
 -- walks along rings, and the corners that are met
 pub use Rattle.cad_map.proofs.Walks.AlongRing.{HaveDistinctSides, begins_with, corner-found, corner-only, is_side-refl, once-from_pairs, once-in_ring, side_before, side_behind, sides-before, sides-behind, sides_in-before}
-pub use Rattle.cad_map.proofs.Walks.Walked.{anchor-there, first_points, inside-more, least-all, least-more, placed-fits, position-on_map, sum-fits, sum-more, walked, walked-all, walked-points}
+pub use Rattle.cad_map.proofs.Walks.Walked.{anchor-there, first_points, inside-more, least-all, least-more, placed-fits, position-on_map, sum-bounded, sum-fits, sum-more, walked, walked-all, walked-points}
 pub use Rattle.cad_map.proofs.Walks.RingsFrom.{all-from, begins-from, few-from, only-from, ring_on, same-from, walked-from}
 pub use Rattle.cad_map.proofs.Walks.Counted.{counted-Contains, parted-at, permuted-from_times, times, times-append, times-cons, times-flat_map, times-permuted}
 pub use Rattle.cad_map.proofs.Walks.CornersAt.{corners_at, new_side, old_sides, sides-without, through-corners}

@@ -10,7 +10,13 @@ mod PlacedStrings
 mod Whole
 mod InsideBox
 mod MovedSides
+mod StraightRings
+mod StraightFaces
+mod JoinedFaces
+mod LeftFaces
+mod ClearWays
 mod MovedRings
+mod ClearPoints
 mod AnchorFacts
 mod Sweeping
 mod PlacedRings

@@ -18,11 +18,11 @@ use Rattle.cad_valid.proofs.InsideBox.{differ, low, counted-left, inside-cons, r
 
 -- ---- One of two, and not both
 
-differ-none : (a : Bool) → differ a false ≡ a
+pub differ-none : (a : Bool) → differ a false ≡ a
 differ-none true = refl
 differ-none false = refl
 
-differ-itself : (a : Bool) → differ a a ≡ false
+pub differ-itself : (a : Bool) → differ a a ≡ false
 differ-itself true = refl
 differ-itself false = refl
 

@@ -31,6 +31,12 @@ module _ {X : Type 0} (P : X → Type 0) where
       let is = passed-each xs b passed in
       ((λ t. All-from_each P xs (is.0 t)), (λ all. is.1 (λ x h. All-at_each P xs x all h)))
 
+-- what each passed, where all did, whatever a failure tells
+pub passed-where_true : {X : Type 0} (P N : X → Type 0) (xs : List X) (b : Bool)
+    → MatchBool b (AllWithin P xs 0 (length xs)) ((k : ℕ) × (k < length xs) × HoldsAt N xs k) → IsTrue b → (x : X) → Contains xs x → P x
+passed-where_true P N xs true all t x h = subst P h.2 (all h.0 x (omega arith) h.1)
+passed-where_true P N xs false one t x h = absurd (true≢false (sym t))
+
 -- Of rows with numbers those are near whose numbers are given, and those that aren't near pass.
 module _ {R : Type 0} (number : R → ℕ) (rows : List R) (P Near : R → Type 0) where
   -- it holds of the row with this number

@@ -10,7 +10,7 @@ use Rattle.cad_valid.proofs.NearFaces.{near-outlines, near-holes}
 use Rattle.cad_valid.proofs.Whole.{whole}
 
 pub kept-untouched : (old new : Map) → IsValid old → CanBeTested new
-    → IsTouched old new (record { points = []; strings = []; faces = []; moved = None }) → KeepsAll new
+    → IsTouched old new (record { points = []; strings = []; faces = []; moved = None; joined = None }) → KeepsAll new
 kept-untouched old new valid tested touched =
     let v3 = (near-points old new _ valid tested.v1 tested.v2 touched).0 tt in
     let v4 = (near-strings old new _ valid tested.v1 touched).0 (tt, tt) in

@@ -28,6 +28,7 @@ touched_of t =
       strings = t.strings.items;
       faces = t.faces.items;
       moved = t.moved;
+      joined = t.joined;
     }
 
 -- a valid map led here by an edit that touched no more than this

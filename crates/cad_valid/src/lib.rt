@@ -33,7 +33,7 @@ use crate::points::has_distinct_positions;
 use crate::swept::{has_distinct_positions_swept, has_no_crossing_swept};
 use cad_map::{MapView, PlainMap};
 use cad_rows::{Memory, Rule};
-pub use near::{Moved, Touched, first_broken_near};
+pub use near::{Joined, Moved, Touched, first_broken_near};
 pub use rings::{anchor_of, is_hole};
 use std::alloc::Global;
 

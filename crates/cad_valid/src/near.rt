@@ -13,6 +13,7 @@ ghost use Rattle.cad_valid.specs.Seen.{IsSeen};
 
 mod corners;
 mod faces;
+mod joins;
 mod many;
 mod moves;
 mod points;
@@ -21,6 +22,7 @@ mod seen;
 mod sight;
 mod strings;
 mod turns;
+mod ways;
 
 use crate::near::corners::{are_empty_at, are_empty_at_ends};
 use crate::near::faces::{FaceRules, rules_of_faces};
@@ -36,7 +38,8 @@ use geo_exact::Pt;
 use std::alloc::Global;
 use std::marker::Model;
 
-/// A point that was moved, and where it lay.
+/// A point that was moved, and where it lay. One that came between the ends of a string counts as
+/// moved from where the first of them lies.
 #[derive(Clone, Copy, Debug)]
 pub struct Moved {
     pub point: PointNo,
@@ -56,18 +59,51 @@ impl Model for Moved {
     ghost inverse = { λ v. record { point = v.point; from = v.from } };
 }
 
+/// A point that went from between two others, which one string joins then, and where it lay.
+#[derive(Clone, Copy, Debug)]
+pub struct Joined {
+    pub point: PointNo,
+    pub position: Pt,
+    pub first: PointNo,
+    pub second: PointNo,
+}
+
+impl Model for Joined {
+    ghost use Rattle.geo_exact.specs.Position.{OnTheMap};
+    ghost use Rattle.cad_map.specs.Touched.{Joined};
+
+    ghost Value = { Joined };
+
+    ghost view = { λ j. record {
+      point = j.point;
+      position = j.position;
+      first = j.first;
+      second = j.second;
+    } };
+
+    ghost invariant = { λ j. OnTheMap j.position };
+
+    ghost inverse = { λ j. record {
+      point = j.point;
+      position = j.position;
+      first = j.first;
+      second = j.second;
+    } };
+}
+
 /// What an edit touched. More may be named than was.
 ///
 /// The points are those that are new, lie elsewhere, or have other strings or corners. The strings
 /// are those that are new, have other ends, or an end that lies elsewhere. The faces are those that
-/// are new, have other rings, or a point that lies elsewhere. Where the edit moved a point and did
-/// no more, it may be told; then less has to be looked at.
+/// are new, have other rings, or a point that lies elsewhere. Where the edit moved a point, split a
+/// string at one or joined two there, and did no more, it may be told; then less has to be looked at.
 #[derive(Drop)]
 pub struct Touched {
     pub points: Vec<PointNo>,
     pub strings: Vec<StringNo>,
     pub faces: Vec<Face>,
     pub moved: Option<Moved>,
+    pub joined: Option<Joined>,
 }
 
 /// The first rule that a map breaks, as [`first_broken`](crate::first_broken) tells it, of a map
@@ -77,8 +113,8 @@ pub struct Touched {
 /// A touched face of many rings is looked at whole: its rings are walked once and laid out in memory,
 /// 32 bytes a side, with a box for each hole and at most three spans a box. Where there is no memory
 /// it does without and answers the same, by walks round each two of the rings. Where a point was moved
-/// that few strings have, and the move is seen to leave the rings as they were to one another, only
-/// those that pass it are walked. At a touched point of
+/// that few strings have, a string was split or two were joined, and that is seen to leave the rings as
+/// they were to one another, only those that pass there are walked. At a touched point of
 /// more than eight strings these are laid out too and sorted by their directions, 32 bytes a string;
 /// without memory each corner there is compared with each of them. Where 64 strings or more were
 /// touched, what the grid holds near them is laid out and compared by a sort of its boxes, some 200
@@ -217,5 +253,6 @@ fn rules_near<M: MapView>(alloc: Global, map: &M, grid: &CellGrid, touched: &Tou
         grid,
         touched.faces.as_slice(),
         touched.moved.as_ref(),
+        touched.joined.as_ref(),
     )
 }

@@ -1,13 +1,14 @@
 -- What is listed of an edit's touch.
 use Rattle.std.proofs.Common.{◌≡◌, ◌<◌, take, get_or, ◌≤◌, ◌+◌, ◌⊎◌, inl, inr, ℕ, List, [], ◌∷◌, Bool, true, false, nat_eq, ◌==◌, map, refl, sym, ap, ◌∙◌, subst, Option, Some, None, true≢false, filter, length, ℤ, arith}
-use Rattle.std.specs.Prelude.{IsTrue, ◌||◌, is_some, IfNone, IfSome, flat_map, option_map, unwrap_or}
+use Rattle.std.specs.Prelude.{IsTrue, IsPermutation, ◌||◌, is_some, IfNone, IfSome, flat_map, option_map, unwrap_or}
 use Rattle.std.specs.List.{Contains, list_any}
 use Rattle.std.proofs.lemmas.Bool.{eqb-true, eq-eqb}
 use Rattle.std.proofs.lemmas.Option.{same_Some}
 use Rattle.std.proofs.lemmas.Grind.{flat_map-append}
 use Rattle.std.proofs.lemmas.List.Elements.{Contains-append_cases}
 use Rattle.std.proofs.lemmas.List.{length-take-le, take_more}
-use Rattle.std.proofs.lemmas.List.Sorted.{IsPermutation-sym, Contains-permutation}
+use Rattle.std.proofs.lemmas.List.Sorted.{IsPermutation-sym, length_permutation, sum_by-IsPermutation, Contains-permutation}
+use Rattle.std.proofs.lemmas.List.Sums.{sum_by-cons}
 use Rattle.cad_rows.specs.declared.edits.Edit.{Edit}
 use Rattle.cad_rows.specs.declared.edits.Edit.TheVariants.{AddPoint, Split, Join, Merge, Move}
 use Rattle.cad_rows.specs.declared.names.Face.{Face}
@@ -20,23 +21,25 @@ use Rattle.cad_map.specs.Boundaries.{is_face, canonical_form, canonical_order}
 use Rattle.cad_map.specs.Effects.{after}
 use Rattle.cad_map.specs.Map.{Map, position_of, string_of, strings_at, side_of, is_end, far_end, rings_at, all_sides}
 use Rattle.cad_map.specs.Merger.{ChainInRings, shared_chains, shared_sides}
-use Rattle.cad_map.specs.Touched.{Touched, Moved, ComesByMove, IsTouched, StringStands, neighbours}
+use Rattle.cad_map.specs.Touched.{Touched, Moved, Joined, ComesByMove, ComesBySplit, ComesByJoin, IsTouched, StringStands, neighbours}
 use Rattle.cad_map.specs.Valid.{IsValid}
 use Rattle.cad_map.specs.Views.{HasFaces, HasNoFaces, HasSide, IsNoSide}
 use Rattle.cad_map.proofs.CallerLemmas.{All-follows, Contains-cases, Contains-first, Contains-later, Contains-filter, Contains-flat_map, Contains-map, filter-Contains, map-Contains, faces-told, some-faces, find-Contains, of_string, one_ring, Contains-has_side, has_side-Contains, Contains-in_part, list_any-Contains, beside, IsPermutation-canonical_order, is_face-refl, along-passed, row-found, IsFound, found}
 use Rattle.cad_laws.specs.Faces.{IsMergedIn}
-use Rattle.cad_laws.specs.Touching.{touching, touched_by, touched_by_split, faces_where, goes_along, passes, points_of_shared_chain}
+use Rattle.cad_laws.specs.Touching.{touching, joined_between, touched_by, touched_by_split, faces_where, goes_along, passes, points_of_shared_chain}
 use Rattle.cad_laws.specs.Tried.{IsTried}
-use Rattle.cad_laws.proofs.CallerLemmas.{touched-after, merged-faces}
+use Rattle.cad_laws.proofs.CallerLemmas.{touched-after, merged-faces, straight-turned}
+use Rattle.edit_records.specs.Told.{Tells}
 
 -- more may be named
 pub more-touched : (old new : Map) (t u : Touched) → IsTouched old new t → ((p : ℕ) → Contains t.points p → Contains u.points p)
-    → ((s : ℕ) → Contains t.strings s → Contains u.strings s) → ((f : Face) → Contains t.faces f → Contains u.faces f) → IfSome u.moved (ComesByMove old new) → IsTouched old new u
-more-touched old new t u is points strings faces moved = record {
+    → ((s : ℕ) → Contains t.strings s → Contains u.strings s) → ((f : Face) → Contains t.faces f → Contains u.faces f) → IfSome u.moved (λ v. ComesByMove old new v ⊎ ComesBySplit old new v) → IfSome u.joined (ComesByJoin old new) → IsTouched old new u
+more-touched old new t u is points strings faces moved joined = record {
   points = λ p there. either (points p) (is.points p there);
   strings = All-follows (λ s. Contains t.strings s.number ⊎ StringStands old new s) (λ s. Contains u.strings s.number ⊎ StringStands old new s) (λ s. either (strings s.number)) new.strings is.strings;
   faces = λ f there. either (faces f) (is.faces f there);
   moved = moved;
+  joined = joined;
 }
   where
     either : {X Y Z : Type 0} → (X → Y) → X ⊎ Z → Y ⊎ Z
@@ -166,16 +169,35 @@ chain-end (a ∷ b ∷ c ∷ rest) q long h =
           (more.0, Contains-later (a, b) (sides_of_chain (b ∷ c ∷ rest)) more.0 more.1, more.2)
     ]
 
+-- two in some order
+two-turned : (x y a b : ℕ) → IsPermutation (x ∷ y ∷ []) (a ∷ b ∷ []) → ((x ≡ a) × (y ≡ b)) ⊎ ((x ≡ b) × (y ≡ a))
+two-turned x y a b same =
+    let sum = sum_by-IsPermutation (λ (n : ℕ). n) (x ∷ y ∷ []) (a ∷ b ∷ []) same in
+    let one = sum_by-cons (λ (n : ℕ). n) x (y ∷ []) in
+    let two = sum_by-cons (λ (n : ℕ). n) y [] in
+    let three = sum_by-cons (λ (n : ℕ). n) a (b ∷ []) in
+    let four = sum_by-cons (λ (n : ℕ). n) b [] in
+    elim (Contains-cases a (b ∷ []) x (Contains-permutation (x ∷ y ∷ []) (a ∷ b ∷ []) x same (Contains-first x (y ∷ [])))) [
+      | inl e ↦ inl (sym e, omega (arith, sum, one, two, three, four, e))
+      | inr later ↦ elim (Contains-cases b [] x later) [
+        | inl e ↦ inr (sym e, omega (arith, sum, one, two, three, four, e))
+        | inr none ↦ let low = none.1 in absurd (omega arith)
+      ]
+    ]
+
 -- what is named of an edit
 module _ (m : Map) (u : Touched) where
-  -- that nothing was moved
-  none-moved : (n : Map) → u.moved ≡ None → IfSome u.moved (ComesByMove m n)
-  none-moved n none = subst (λ (o : Option Moved). IfSome o (ComesByMove m n)) (sym none) tt
+  -- what was moved, and what was joined
+  moved-told : (n : Map) (o : Option Moved) → u.moved ≡ o → IfSome o (λ v. ComesByMove m n v ⊎ ComesBySplit m n v) → IfSome u.moved (λ v. ComesByMove m n v ⊎ ComesBySplit m n v)
+  moved-told n o is comes = subst (λ (o : Option Moved). IfSome o (λ v. ComesByMove m n v ⊎ ComesBySplit m n v)) (sym is) comes
 
-  pub point-more : (p : ℕ) (x y : ℤ) → IsTried m (AddPoint p x y) → Contains u.points p → u.moved ≡ None → IsTouched m (after m (AddPoint p x y)) u
+  joined-told : (n : Map) (o : Option Joined) → u.joined ≡ o → IfSome o (ComesByJoin m n) → IfSome u.joined (ComesByJoin m n)
+  joined-told n o is comes = subst (λ (o : Option Joined). IfSome o (ComesByJoin m n)) (sym is) comes
+
+  pub point-more : (p : ℕ) (x y : ℤ) → IsTried m (AddPoint p x y) → Contains u.points p → Tells u None None → IsTouched m (after m (AddPoint p x y)) u
   point-more p x y t there none =
       more-touched m (after m (AddPoint p x y)) (touching (p ∷ []) [] []) u (touched-after m (AddPoint p x y) t.valid t.given t.allowed)
-      (λ q h. one q h) (λ s h. absurd (no s h)) (λ f h. absurd (no f h)) (none-moved (after m (AddPoint p x y)) none)
+      (λ q h. one q h) (λ s h. absurd (no s h)) (λ f h. absurd (no f h)) (moved-told (after m (AddPoint p x y)) None none.moves tt) (joined-told (after m (AddPoint p x y)) None none.joins tt)
     where
       no : {X : Type 0} (x : X) → Contains [] x → ⊥
       no x h = let low = h.1 in omega arith
@@ -193,13 +215,13 @@ module _ (m : Map) (u : Touched) where
   pub move-more : (p : ℕ) (x y : ℤ) → IsTried m (Move p x y) → Contains u.points p
       → ((s : StringRow) → Contains (strings_at m p) s → Contains u.strings s.number)
       → ((b : Boundary) → Contains m.boundaries b → IsTrue (passes p b.ring) → Contains u.faces b.face)
-      → u.moved ≡ Some (record { point = p; from = position_of m p }) → IsTouched m (after m (Move p x y)) u
-  move-more p x y t there strings faces moved =
+      → Tells u (Some (record { point = p; from = position_of m p })) None → IsTouched m (after m (Move p x y)) u
+  move-more p x y t there strings faces told =
       more-touched m (after m (Move p x y)) (touched_by m (Move p x y)) u (touched-after m (Move p x y) t.valid t.given t.allowed)
       one
       (λ n h. let s = map-Contains (λ (s : StringRow). s.number) (strings_at m p) n h in subst (Contains u.strings) s.2 (strings s.0 s.1))
       (faces-all (passes p) faces)
-      (subst (λ (o : Option Moved). IfSome o (ComesByMove m (after m (Move p x y)))) (sym moved) (touched-after m (Move p x y) t.valid t.given t.allowed).moved)
+      (moved-told (after m (Move p x y)) _ told.moves (touched-after m (Move p x y) t.valid t.given t.allowed).moved) (joined-told (after m (Move p x y)) None told.joins tt)
     where
       one : (q : ℕ) → Contains (p ∷ []) q → Contains u.points q
       one q h = elim (Contains-cases p [] q h) [ inl same ↦ subst (Contains u.points) same there | inr later ↦ let low = later.1 in absurd (omega arith) ]
@@ -207,21 +229,39 @@ module _ (m : Map) (u : Touched) where
   -- the ends of a string that is split, and the faces on both its sides
   pub split-more : (s p : ℕ) (x y : ℤ) (first second : ℕ) (row : StringRow) → IsTried m (Split s p x y first second) → string_of m s ≡ Some row
       → u.points ≡ p ∷ row.from ∷ row.to ∷ [] → u.strings ≡ first ∷ second ∷ []
-      → ((b : Boundary) → Contains m.boundaries b → IsTrue (goes_along row b.ring) → Contains u.faces b.face) → u.moved ≡ None → IsTouched m (after m (Split s p x y first second)) u
-  split-more s p x y first second row t found points strings faces none =
+      → ((b : Boundary) → Contains m.boundaries b → IsTrue (goes_along row b.ring) → Contains u.faces b.face) → Tells u (Some (record { point = p; from = position_of m row.from })) None → IsTouched m (after m (Split s p x y first second)) u
+  split-more s p x y first second row t found points strings faces told =
       let is : touched_by m (Split s p x y first second) ≡ touched_by_split m p first second row =
       ap (λ (o : Option StringRow). unwrap_or (option_map (touched_by_split m p first second) o) (touching [] [] [])) found in
-      more-touched m (after m (Split s p x y first second)) (touched_by_split m p first second row) u
-      (subst (IsTouched m (after m (Split s p x y first second))) is (touched-after m (Split s p x y first second) t.valid t.given t.allowed))
+      let by = subst (IsTouched m (after m (Split s p x y first second))) is (touched-after m (Split s p x y first second) t.valid t.given t.allowed) in
+      more-touched m (after m (Split s p x y first second)) (touched_by_split m p first second row) u by
       (λ q h. subst (λ (l : List ℕ). Contains l q) (sym points) h) (λ n h. subst (λ (l : List ℕ). Contains l n) (sym strings) h)
-      (faces-all (goes_along row) faces) (none-moved (after m (Split s p x y first second)) none)
+      (faces-all (goes_along row) faces)
+      (moved-told (after m (Split s p x y first second)) _ told.moves by.moved) (joined-told (after m (Split s p x y first second)) None told.joins tt)
 
-  -- the far ends of two strings that are joined, and the faces round the point
-  pub join-more : (p new : ℕ) → IsTried m (Join p new) → ((q : ℕ) → Contains (neighbours m p) q → Contains u.points q) → u.strings ≡ new ∷ []
-      → ((b : Boundary) → Contains m.boundaries b → IsTrue (passes p b.ring) → Contains u.faces b.face) → u.moved ≡ None → IsTouched m (after m (Join p new)) u
-  join-more p new t points strings faces none =
-      more-touched m (after m (Join p new)) (touched_by m (Join p new)) u (touched-after m (Join p new) t.valid t.given t.allowed)
-      points (λ n h. subst (λ (l : List ℕ). Contains l n) (sym strings) h) (faces-all (passes p) faces) (none-moved (after m (Join p new)) none)
+  -- the far ends of two strings that are joined, the faces round the point, and the point between the two
+  pub join-more : (p new : ℕ) → IsTried m (Join p new) → IsPermutation (neighbours m p) u.points → u.strings ≡ new ∷ []
+      → ((b : Boundary) → Contains m.boundaries b → IsTrue (passes p b.ring) → Contains u.faces b.face) → Tells u None (joined_between m p u.points) → IsTouched m (after m (Join p new)) u
+  join-more p new t points strings faces told =
+      let by = touched-after m (Join p new) t.valid t.given t.allowed in
+      more-touched m (after m (Join p new)) (touched_by m (Join p new)) u by
+      (λ q h. Contains-permutation (neighbours m p) u.points q points h) (λ n h. subst (λ (l : List ℕ). Contains l n) (sym strings) h) (faces-all (passes p) faces)
+      (moved-told (after m (Join p new)) None told.moves tt)
+      (joined-told (after m (Join p new)) (joined_between m p u.points) told.joins (either-way (neighbours m p) u.points points by.joined))
+    where
+      -- in whatever order the two are
+      either-way : (qs rs : List ℕ) → IsPermutation qs rs → IfSome (joined_between m p qs) (ComesByJoin m (after m (Join p new))) → IfSome (joined_between m p rs) (ComesByJoin m (after m (Join p new)))
+      either-way qs [] same comes = tt
+      either-way qs (a ∷ []) same comes = tt
+      either-way qs (a ∷ b ∷ c ∷ rs) same comes = tt
+      either-way [] (a ∷ b ∷ []) same comes = let e = length_permutation [] (a ∷ b ∷ []) same in absurd (omega (arith, e))
+      either-way (x ∷ []) (a ∷ b ∷ []) same comes = let e = length_permutation (x ∷ []) (a ∷ b ∷ []) same in absurd (omega (arith, e))
+      either-way (x ∷ y ∷ z ∷ qs) (a ∷ b ∷ []) same comes = let e = length_permutation (x ∷ y ∷ z ∷ qs) (a ∷ b ∷ []) same in absurd (omega (arith, e))
+      either-way (x ∷ y ∷ []) (a ∷ b ∷ []) same comes = elim (two-turned x y a b same) [
+        | inl e ↦ subst (λ (l : List ℕ). IfSome (joined_between m p l) (ComesByJoin m (after m (Join p new)))) (λ i. e.0 i ∷ e.1 i ∷ []) comes
+        | inr e ↦ subst (λ (l : List ℕ). IfSome (joined_between m p l) (ComesByJoin m (after m (Join p new)))) (λ i. e.1 i ∷ e.0 i ∷ [])
+            (record { lay = comes.lay; straight = straight-turned comes.straight })
+      ]
 
   -- just what is named
   pub just-touched : (e : Edit) → IsTried m e → u ≡ touched_by m e → IsTouched m (after m e) u
@@ -248,7 +288,7 @@ module _ (m : Map) (u : Touched) where
         let two = both-ends side.0 (it.1.in_kept side.0 side.1) (it.1.in_ended side.0 side.1) in
         elim side.2 [ inl first ↦ subst (Contains u.points) first two.0 | inr last ↦ subst (Contains u.points) last two.1 ]
 
-    pub merge-more : Contains u.faces kept → u.moved ≡ None → IsTouched m (after m (Merge kept ended)) u
+    pub merge-more : Contains u.faces kept → Tells u None None → IsTouched m (after m (Merge kept ended)) u
     merge-more face none =
         more-touched m (after m (Merge kept ended)) (touched_by m (Merge kept ended)) u (touched-after m (Merge kept ended) t.valid t.given t.allowed)
         (λ q h.
@@ -256,7 +296,7 @@ module _ (m : Map) (u : Touched) where
         chain-points x.0 (found m t.valid kept ended x.0 x.1) (merged-faces m kept ended x.0 t.valid t.allowed x.1) q x.2)
         (λ n h. let low = h.1 in absurd (omega arith))
         (λ f h. elim (Contains-cases kept [] f h) [ inl same ↦ subst (Contains u.faces) same face | inr later ↦ let low = later.1 in absurd (omega arith) ])
-        (none-moved (after m (Merge kept ended)) none)
+        (moved-told (after m (Merge kept ended)) None none.moves tt) (joined-told (after m (Merge kept ended)) None none.joins tt)
 
 -- ---- Rings as a view keeps them
 

@@ -4,3 +4,4 @@ pub mod Gridded
 pub mod Exchanged
 pub mod GridEdits
 pub mod GridLists
+pub mod Told

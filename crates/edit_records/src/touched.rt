@@ -1,5 +1,5 @@
 //! What an edit touches, listed on the map before it.
-ghost use Rattle.std.specs.Prelude.{◌≡◌, ◌<◌, ◌∷◌, [], ℕ, length, IsTrue, IsSome, Some, None, IfOk, OnOk};
+ghost use Rattle.std.specs.Prelude.{◌≡◌, ◌<◌, ◌∷◌, [], ℕ, length, IsTrue, IsSome, Some, None, IfOk, OnOk, IsPermutation};
 ghost use Rattle.std.specs.List.{Contains};
 ghost use Rattle.cad_rings.specs.Cycle.{Side, opposite, sides_of};
 ghost use Rattle.cad_rows.specs.declared.names.Face.{Face as FaceOf};
@@ -12,14 +12,15 @@ ghost use Rattle.cad_map.specs.Rings.{HasWholeRings, ring_at};
 ghost use Rattle.cad_map.specs.Touched.{IsTouched, neighbours};
 ghost use Rattle.cad_map.specs.Valid.{IsValid};
 ghost use Rattle.cad_map.specs.Views.{HasSide};
-ghost use Rattle.cad_laws.specs.Touching.{goes_along, passes, touching};
+ghost use Rattle.cad_laws.specs.Touching.{goes_along, joined_between, passes, touching};
 ghost use Rattle.cad_laws.specs.Tried.{IsTried};
 ghost use Rattle.cad_valid.specs.Near.{touched_of};
+ghost use Rattle.edit_records.specs.Told.{Tells};
 
 use crate::point_strings::string_at;
 use cad_map::{MapView, Walk, far_end, is_face, position, ring_count};
 use cad_rows::{Edit, Face, Memory, ParcelNo, PointNo, StringNo, StringRow};
-use cad_valid::{Moved, Touched};
+use cad_valid::{Joined, Moved, Touched};
 use std::alloc::Global;
 
 /// Adds the faces on both sides of a string: those of the rings that go along it.
@@ -114,13 +115,14 @@ fn nothing(alloc: Global) -> Touched
         strings: Vec::new(alloc),
         faces: Vec::new(alloc),
         moved: None,
+        joined: None,
     }
 }
 
 // A point that is on no string.
 fn lone(alloc: Global, point: PointNo) -> Result<Touched, Memory>
     ensures point { IfOk result (λ t. Contains t.points.items point) }
-    ensures moved { IfOk result (λ t. (touched_of t).moved ≡ None) }
+    ensures told { IfOk result (λ t. Tells (touched_of t) None None) }
 {
     let mut touched = nothing(alloc);
     touched.points.push(point)?;
@@ -136,8 +138,8 @@ fn around<M: MapView>(alloc: Global, map: &M, point: PointNo) -> Result<Touched,
         → Contains t.strings.items s.number) }
     ensures faces { IfOk result (λ t. (b : BoundaryOf) → Contains (M.map map.now).boundaries b
         → IsTrue (passes point b.ring) → Contains t.faces.items b.face) }
-    ensures moved { IfOk result (λ t. (touched_of t).moved
-        ≡ Some (record { point = point; from = position_of (M.map map.now) point })) }
+    ensures told { IfOk result (λ t. Tells (touched_of t)
+        (Some (record { point = point; from = position_of (M.map map.now) point })) None) }
 {
     let mut points = Vec::new(alloc);
     points.push(point)?;
@@ -149,10 +151,12 @@ fn around<M: MapView>(alloc: Global, map: &M, point: PointNo) -> Result<Touched,
         strings,
         faces,
         moved: Some(Moved { point, from }),
+        joined: None,
     })
 }
 
-// A string that is split: the point and the string's ends, its halves, and the faces on both sides.
+// A string that is split: the point and the string's ends, its halves, the faces on both sides, and
+// where the point comes from.
 fn beside<M: MapView>(
     alloc: Global,
     map: &M,
@@ -169,7 +173,9 @@ fn beside<M: MapView>(
     ensures faces { IfOk result (λ t. (s : StringOf) (b : BoundaryOf)
         → string_of (M.map map.now) string ≡ Some s → Contains (M.map map.now).boundaries b
         → IsTrue (goes_along s b.ring) → Contains t.faces.items b.face) }
-    ensures moved { IfOk result (λ t. (touched_of t).moved ≡ None) }
+    ensures told { IfOk result (λ t. (s : StringOf) → string_of (M.map map.now) string ≡ Some s
+        → Tells (touched_of t)
+        (Some (record { point = point; from = position_of (M.map map.now) s.from })) None) }
 {
     let row = map.string(string).unwrap();
     let mut points = Vec::new(alloc);
@@ -181,18 +187,20 @@ fn beside<M: MapView>(
     strings.push(second)?;
     let mut faces = Vec::new(alloc);
     add_faces(&mut faces, map, string)?;
+    let from = position(map, row.from);
     Ok(Touched {
         points,
         strings,
         faces,
-        moved: None,
+        moved: Some(Moved { point, from }),
+        joined: None,
     })
 }
 
 // The points at the other ends of a point's strings.
 fn far_ends<M: MapView>(alloc: Global, map: &M, point: PointNo) -> Result<Vec<PointNo>, Memory>
-    ensures { IfOk result (λ points. (p : ℕ) → Contains (neighbours (M.map map.now) point) p
-        → Contains points.items p) }
+    ensures { IfOk result
+        (λ points. IsPermutation (neighbours (M.map map.now) point) points.items) }
 {
     let mut points = Vec::new(alloc);
     for place in 0..map.degree(point) {
@@ -202,8 +210,23 @@ fn far_ends<M: MapView>(alloc: Global, map: &M, point: PointNo) -> Result<Vec<Po
     Ok(points)
 }
 
-// Two strings that are joined at a point: their far ends, the new string, and the faces round the
-// point.
+// The point, and where it lies, between two others, if there are two.
+fn joined_at<M: MapView>(map: &M, point: PointNo, ends: &[PointNo]) -> Option<Joined>
+    ensures { result ≡ joined_between (M.map map.now) point ends.now }
+{
+    if ends.len() != 2 {
+        return None;
+    }
+    Some(Joined {
+        point,
+        position: position(map, point),
+        first: ends[0],
+        second: ends[1],
+    })
+}
+
+// Two strings that are joined at a point: their far ends, the new string, the faces round the point,
+// and the point between the two.
 fn across<M: MapView>(
     alloc: Global,
     map: &M,
@@ -211,22 +234,25 @@ fn across<M: MapView>(
     string: StringNo,
 ) -> Result<Touched, Memory>
     requires { IsValid (M.map map.now) }
-    ensures points { IfOk result (λ t. (p : ℕ) → Contains (neighbours (M.map map.now) point) p
-        → Contains t.points.items p) }
+    ensures points { IfOk result
+        (λ t. IsPermutation (neighbours (M.map map.now) point) t.points.items) }
     ensures strings { IfOk result (λ t. t.strings.items ≡ string ∷ []) }
     ensures faces { IfOk result (λ t. (b : BoundaryOf) → Contains (M.map map.now).boundaries b
         → IsTrue (passes point b.ring) → Contains t.faces.items b.face) }
-    ensures moved { IfOk result (λ t. (touched_of t).moved ≡ None) }
+    ensures told { IfOk result (λ t. Tells (touched_of t) None
+        (joined_between (M.map map.now) point t.points.items)) }
 {
     let points = far_ends(alloc, map, point)?;
     let mut strings = Vec::new(alloc);
     strings.push(string)?;
     let faces = faces_at(alloc, map, point)?;
+    let joined = joined_at(map, point, points.as_slice());
     Ok(Touched {
         points,
         strings,
         faces,
         moved: None,
+        joined,
     })
 }
 
@@ -249,6 +275,7 @@ fn along(
         strings: Vec::from_slice(alloc, strings)?,
         faces,
         moved: None,
+        joined: None,
     })
 }
 
@@ -333,7 +360,7 @@ fn between<M: MapView>(alloc: Global, map: &M, kept: &Face, ended: &Face) -> Res
         → HasSide (M.map map.now) kept.now (opposite s)
         → Contains t.points.items s.0 × Contains t.points.items s.1) }
     ensures face { IfOk result (λ t. Contains t.faces.items kept.now) }
-    ensures moved { IfOk result (λ t. (touched_of t).moved ≡ None) }
+    ensures told { IfOk result (λ t. Tells (touched_of t) None None) }
 {
     let points = shared_ends(alloc, map, ended, kept)?;
     let mut faces = Vec::new(alloc);
@@ -343,6 +370,7 @@ fn between<M: MapView>(alloc: Global, map: &M, kept: &Face, ended: &Face) -> Res
         strings: Vec::new(alloc),
         faces,
         moved: None,
+        joined: None,
     })
 }
 

@@ -1,6 +1,6 @@
 //! Larger maps: a plan beside a hundred squares of a metre, each a kilometre east of the one before it, and a lot with
 //! many points.
-ghost use Rattle.std.specs.Prelude.{◌≤◌, ◌<◌};
+ghost use Rattle.std.specs.Prelude.{length, ◌≤◌, ◌<◌};
 
 use std::alloc::{AllocError, Global};
 use std::test::Fail;
@@ -65,30 +65,56 @@ pub(crate) fn long_lot(alloc: Global, half: u32) -> Result<String, Fail>
     Ok(text)
 }
 
-/// Appends the records of an island in parcel 1: a triangle with its tip in the east, the first one taller than the others.
-fn append_island(text: &mut String, place: u32) -> Result<(), AllocError>
-    requires { place ≤ 1000 }
+/// The corners of an island, in millimetres.
+pub(crate) type Corners = &'static [(u32, u32)];
+
+/// A triangle with its tip in the east, taller than the islands east of it.
+pub(crate) const TALL: Corners = &[(1000, 500), (1300, 1200), (1000, 1700)];
+
+/// The same with its tip low down.
+pub(crate) const LOW: Corners = &[(1000, 500), (1300, 600), (1000, 1700)];
+
+/// The same with a point between its tip and the corner after it.
+pub(crate) const POINTED: Corners = &[(1000, 500), (1300, 1200), (1200, 1500), (1000, 1700)];
+
+/// An island round three sides of the next one, open to the east.
+pub(crate) const ROUND_NEXT: Corners = &[
+    (1000, 500),
+    (2950, 600),
+    (1200, 1300),
+    (2950, 1750),
+    (900, 1750),
+];
+
+/// Appends the records of an island in parcel 1 with these corners. Its points and its strings are numbered from ten
+/// times its place and ten on.
+fn append_island(text: &mut String, place: u32, corners: &[(u32, u32)]) -> Result<(), AllocError>
+    requires place { place ≤ 1000 }
+    requires corners { length corners.now ≤ 10 }
 {
-    let (a, west) = (10 + 3 * place, 1000 * place + 1000);
-    let (low, high) = if place == 0 {
-        (500, 1700)
-    } else {
-        (1000, 1400)
-    };
-    let (b, c, parcel) = (a + 1, a + 2, place + 2);
-    for (number, x, y) in [(a, west, low), (b, west + 300, 1200), (c, west, high)] {
-        writeln!(text, "point,{number},{x},{y},,,")?;
+    let (first, parcel) = (10 + 10 * place, place + 2);
+    let count = corners.len() as u32;
+    for at in 0..count {
+        let (x, y) = corners[at as usize];
+        writeln!(text, "point,{},{x},{y},,,", first + at)?;
     }
     writeln!(text, "parcel,{parcel},I,,,,")?;
-    for (number, to) in [(a, b), (b, c), (c, a)] {
+    for at in 0..count {
+        let (number, to) = (first + at, first + (at + 1) % count);
         writeln!(text, "string,{number},{number},{to},{parcel},1,")?;
     }
     Ok(())
 }
 
-/// The plan of a lot with so many islands in a row, a metre from one to the next.
-pub(crate) fn with_islands(alloc: Global, count: u32) -> Result<String, Fail>
-    requires { count ≤ 1000 }
+/// The plan of a lot with so many islands in a row, a metre from one to the next, of which the first one has these
+/// corners.
+pub(crate) fn with_first_island(
+    alloc: Global,
+    count: u32,
+    corners: &[(u32, u32)],
+) -> Result<String, Fail>
+    requires count { count ≤ 1000 }
+    requires corners { length corners.now ≤ 10 }
 {
     let mut text = format!(in alloc; "plan,2,,,,,\nparcel,1,A,,,,\n")?;
     let width = 1000 * count + 1000;
@@ -98,11 +124,24 @@ pub(crate) fn with_islands(alloc: Global, count: u32) -> Result<String, Fail>
     for (number, to) in [(1, 2), (2, 3), (3, 4), (4, 1)] {
         writeln!(text, "string,{number},{number},{to},1,0,")?;
     }
-    for place in 0..count {
-        append_island(&mut text, place)?;
+    append_island(&mut text, 0, corners)?;
+    for place in 1..count {
+        let west = 1000 * place + 1000;
+        append_island(
+            &mut text,
+            place,
+            &[(west, 1000), (west + 300, 1200), (west, 1400)],
+        )?;
     }
     text.push_str("open,,,,,,\n")?;
     Ok(text)
+}
+
+/// The plan of a lot with so many islands in a row, of which the first one is taller than the others.
+pub(crate) fn with_islands(alloc: Global, count: u32) -> Result<String, Fail>
+    requires { count ≤ 1000 }
+{
+    with_first_island(alloc, count, TALL)
 }
 
 /// Appends the records of a petal: a triangle of point 1 and two points in the east, north of the petals before.

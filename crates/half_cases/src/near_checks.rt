@@ -1,13 +1,15 @@
 //! The check near an edit beside the whole one: both tell the same of the map that an edit makes. The near one goes
 //! through no list of all rows, and asks no more often where the map is larger.
-ghost use Rattle.std.specs.Prelude.{◌≡◌, ◌≤◌};
+ghost use Rattle.std.specs.Prelude.{◌≡◌, ◌≤◌, length};
 ghost use Rattle.cad_map.specs.Effects.{after};
 ghost use Rattle.cad_map.specs.Valid.{IsValid, CanBeTested};
 ghost use Rattle.cad_laws.specs.Tried.{IsTried};
 ghost use Rattle.cad_valid.specs.Near.{HoldsMap, ComesFromValid, touched_of};
 
 use crate::counted::Counted;
-use crate::far::{far_plan, with_islands, with_petals};
+use crate::far::{
+    Corners, LOW, POINTED, ROUND_NEXT, TALL, far_plan, with_first_island, with_islands, with_petals,
+};
 use crate::plans::{ISLAND, Plan, SQUARE, SQUARE_RECORDS, edit_of, map_of, text_of};
 use crate::plans_after::{DIVIDED, DIVIDED_ISLAND, JOINED};
 use crate::plans_enclosed::{FREE_CORNERS, WITH_FRAME};
@@ -315,18 +317,66 @@ fn corners_at_a_point_of_many_strings_are_told_as_others(rt: HostRuntime) -> Res
 fn many_rings_are_walked_once_each(rt: HostRuntime) -> Result<(), Fail> {
     let few = with_islands(rt.alloc(), 12)?;
     let many = with_islands(rt.alloc(), 24)?;
-    // The point is its island's anchor: of each ring it is asked whether that lies inside.
-    let calls = near_calls(&rt, few.as_str(), "move,10,900,500,,,")?;
-    let more = near_calls(&rt, many.as_str(), "move,10,900,500,,,")?;
+    // The tip goes past the next island, so each ring is looked at.
+    let calls = near_calls(&rt, few.as_str(), "move,11,2900,1200,,,")?;
+    let more = near_calls(&rt, many.as_str(), "move,11,2900,1200,,,")?;
     assert!(rt; calls < more && more < calls.saturating_mul(3));
     Ok(())
 }
 
 #[test]
 fn a_move_among_many_rings_walks_those_that_pass_the_point(rt: HostRuntime) -> Result<(), Fail> {
-    let few = with_islands(rt.alloc(), 12)?;
-    let many = with_islands(rt.alloc(), 24)?;
-    check_larger(&rt, few.as_str(), many.as_str(), "move,11,1400,1200,,,")
+    check_among_islands(&rt, TALL, "move,11,1400,1200")?;
+    // It goes up past a neighbour in the west.
+    check_among_islands(&rt, TALL, "move,11,1400,1750")?;
+    // The point is its island's anchor.
+    check_among_islands(&rt, TALL, "move,10,900,500")
+}
+
+/// Fails where an edit of a lot with many islands, of which the first one has these corners, asks more or less often
+/// among more of them.
+fn check_among_islands<R: Abort + AllocGlobal>(
+    rt: &R,
+    corners: Corners,
+    edit: &str,
+) -> Result<(), Fail>
+    requires { length corners.now ≤ 10 }
+{
+    let few = with_first_island(rt.alloc(), 12, corners)?;
+    let many = with_first_island(rt.alloc(), 24, corners)?;
+    check_larger(rt, few.as_str(), many.as_str(), edit)
+}
+
+#[test]
+fn a_split_and_a_join_among_many_rings_walk_those_that_pass_there(
+    rt: HostRuntime,
+) -> Result<(), Fail> {
+    check_among_islands(&rt, TALL, "split,11,900,1400,1500,901,902")?;
+    check_among_islands(&rt, POINTED, "join,12,900")
+}
+
+/// Fails where an edit of a lot with many islands, of which the first one has these corners, breaks another rule.
+fn check_first_island<R: Abort + AllocGlobal>(
+    rt: &R,
+    corners: Corners,
+    edit: &str,
+    rule: Option<Rule>,
+) -> Result<(), Fail>
+    requires { length corners.now ≤ 10 }
+{
+    let plan = with_first_island(rt.alloc(), 12, corners)?;
+    assert!(rt; rule_after(rt, plan.as_str(), edit)? == rule);
+    Ok(())
+}
+
+#[test]
+fn a_split_and_a_join_among_many_rings_are_told_as_others(rt: HostRuntime) -> Result<(), Fail> {
+    check_first_island(&rt, TALL, "split,11,900,1400,1500,901,902", None)?;
+    // The two new sides go round the next island.
+    check_first_island(&rt, LOW, "split,11,900,2950,1200,901,902", Some(Rule::V8))?;
+    check_first_island(&rt, POINTED, "join,12,900", None)?;
+    // The new side closes the island that goes round the next one.
+    check_first_island(&rt, ROUND_NEXT, "join,12,900", Some(Rule::V8))
 }
 
 #[test]

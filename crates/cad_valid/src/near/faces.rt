@@ -5,6 +5,7 @@ ghost use Rattle.cad_rows.specs.Limits.{string_limit};
 ghost use Rattle.cad_map.specs.Boundaries.{canonical_order};
 ghost use Rattle.cad_map.specs.Map.{rings_at, position_of};
 ghost use Rattle.cad_map.specs.Rings.{HasWholeRings, ring_at};
+ghost use Rattle.cad_valid.specs.Joins.{JoinsValid};
 ghost use Rattle.cad_valid.specs.Moves.{MovesValid};
 ghost use Rattle.cad_valid.specs.Near.{HoldsMap};
 ghost use Rattle.cad_valid.specs.Near.{OfFace, HasOutlines, HasSoundHoles};
@@ -13,8 +14,9 @@ ghost use Rattle.cad_valid.specs.Shapes.{shape_of, told_apart};
 
 use crate::face_shapes::FaceShapes;
 use crate::holes::has_sound_holes;
-use crate::near::Moved;
+use crate::near::joins::joins_face;
 use crate::near::moves::leaves_face;
+use crate::near::{Joined, Moved};
 use crate::outlines::has_outlines;
 use crate::shapes::PlacedRing;
 use cad_map::{MapView, Walk, has_face, ring_count};
@@ -42,10 +44,12 @@ pub(crate) fn rules_of_faces<M: MapView>(
     grid: &CellGrid,
     faces: &[Face],
     moved: Option<&Moved>,
+    joined: Option<&Joined>,
 ) -> FaceRules
     requires whole { HasWholeRings (M.map map.now) }
     requires held { HoldsMap grid.now (M.map map.now) }
     requires moved { IfSome moved (λ v. MovesValid (M.map map.now) v.now) }
+    requires joined { IfSome joined (λ j. JoinsValid (M.map map.now) j.now) }
     ensures outlines { IsTrue result.outlines
         ↔ AllByRecursion (OfFace (M.map map.now) (HasOutlines (M.map map.now))) faces.now }
     ensures holes { IsTrue result.holes
@@ -54,14 +58,14 @@ pub(crate) fn rules_of_faces<M: MapView>(
     let mut outlines = true;
     let mut holes = true;
     for face in faces {
-        let rules = rules_of_face_if_there(alloc, map, grid, face, moved);
+        let rules = rules_of_face_if_there(alloc, map, grid, face, moved, joined);
         outlines &= rules.outlines;
         holes &= rules.holes;
     }
     FaceRules { outlines, holes }
 }
 
-/// What the rings of a face tell, if the map has it. Where it has many, and a move is seen to leave
+/// What the rings of a face tell, if the map has it. Where it has many, and the edit is seen to leave
 /// them as they were to one another, they aren't looked at: they broke no rule before.
 fn rules_of_face_if_there<M: MapView>(
     alloc: Global,
@@ -69,16 +73,20 @@ fn rules_of_face_if_there<M: MapView>(
     grid: &CellGrid,
     face: &Face,
     moved: Option<&Moved>,
+    joined: Option<&Joined>,
 ) -> FaceRules
     requires whole { HasWholeRings (M.map map.now) }
     requires held { HoldsMap grid.now (M.map map.now) }
     requires moved { IfSome moved (λ v. MovesValid (M.map map.now) v.now) }
+    requires joined { IfSome joined (λ j. JoinsValid (M.map map.now) j.now) }
     ensures outlines { IsTrue result.outlines
         ↔ OfFace (M.map map.now) (HasOutlines (M.map map.now)) face.now }
     ensures holes { IsTrue result.holes
         ↔ OfFace (M.map map.now) (HasSoundHoles (M.map map.now)) face.now }
 {
-    if has_many_rings(map, face) && leaves_face(map, grid, face, moved) {
+    if has_many_rings(map, face)
+        && (leaves_face(map, grid, face, moved) || joins_face(map, grid, face, joined))
+    {
         return FaceRules {
             outlines: true,
             holes: true,

@@ -1,17 +1,18 @@
 //! Whether a move leaves rings as they were to one another: seen by the rings that pass the point, and
-//! by the points that lie near it.
-ghost use Rattle.std.specs.Prelude.{◌≡◌, ◌≢◌, ℕ, pos, int_lt, not, IsTrue, IfSome};
+//! by the points that lie near it. A split counts as a move of the new point.
+ghost use Rattle.std.specs.Prelude.{◌≡◌, ◌≢◌, ◌==◌, ◌||◌, ℕ, pos, int_lt, true, not, IsTrue, IfSome};
 ghost use Rattle.std.specs.List.{AllByRecursion, Contains, list_all};
 ghost use Rattle.geo_exact.specs.Position.{Position};
 ghost use Rattle.cad_rows.specs.declared.names.Face.{Face as FaceOf};
 ghost use Rattle.cell_grid.specs.Grid.{HoldsPoint};
 ghost use Rattle.cad_rings.specs.Cycle.{Side};
-ghost use Rattle.cad_map.specs.Map.{all_sides};
+ghost use Rattle.cad_map.specs.Map.{all_sides, position_of};
 ghost use Rattle.cad_map.specs.Rings.{HasWholeRings};
 ghost use Rattle.cad_valid.specs.Moves.{lay as lay_of, is_counted_anew as is_counted_anew_of};
 ghost use Rattle.cad_valid.specs.Moves.{goes_past_alike as goes_past_alike_of};
+ghost use Rattle.cad_valid.specs.Moves.{goes_past_but as goes_past_but_of};
 ghost use Rattle.cad_valid.specs.Moves.{is_past_alike as is_past_alike_of};
-ghost use Rattle.cad_valid.specs.Moves.{LeavesRings, MovesValid, TurnAlong};
+ghost use Rattle.cad_valid.specs.Moves.{GoesClear, IsPast, LeavesRings, MovesValid, TurnAlong};
 ghost use Rattle.cad_valid.specs.Near.{HoldsMap, OfFace, HasOutlines, HasSoundHoles};
 ghost use Rattle.cad_valid.specs.Rays.{AreRaysOf};
 ghost use Rattle.cad_valid.specs.Seen.{IsInReach};
@@ -19,6 +20,7 @@ ghost use Rattle.cad_valid.specs.Seen.{IsInReach};
 use crate::near::Moved;
 use crate::near::rays::{MOST_RAYS, Ray, rays_at};
 use crate::near::seen::{Reach, grown, is_small};
+use crate::near::ways::{goes_clear, is_alone_at};
 use cad_map::{MapView, Walk, is_face, position};
 use cad_rows::{Face, PointNo};
 use cell_grid::{CellGrid, HeldPoint};
@@ -55,8 +57,34 @@ fn leaves_rings<M: MapView>(map: &M, grid: &CellGrid, face: &Face, moved: &Moved
     }
     let rays = rays_at(map, moved.point);
     let at = position(map, moved.point);
-    go_past_alike(grid, moved, at, rays.as_slice())
-        && turn_as_before(map, face, moved, rays.as_slice())
+    if !go_past(map, grid, face, moved, at, rays.as_slice()) {
+        return false;
+    }
+    if turn_as_before(map, face, moved, false, rays.as_slice()) {
+        return true;
+    }
+    leaves_anchor(map, grid, face, moved, at, rays.as_slice())
+}
+
+/// Whether the rings of a face that pass a moved point turn as before, whose rays these are, and it went
+/// clear of others, so that it may be the anchor of one.
+fn leaves_anchor<M: MapView>(
+    map: &M,
+    grid: &CellGrid,
+    face: &Face,
+    moved: &Moved,
+    at: Pt,
+    rays: &[Ray],
+) -> bool
+    requires whole { HasWholeRings (M.map map.now) }
+    requires held { HoldsMap grid.now (M.map map.now) }
+    requires rays { AreRaysOf (M.map map.now) moved.now.point rays.now }
+    requires at { at ≡ position_of (M.map map.now) moved.now.point }
+    ensures clear { IsTrue result → GoesClear (M.map map.now) face.now moved.now }
+    ensures turn { IsTrue result → AllByRecursion
+        (λ r. TurnAlong (M.map map.now) face.now moved.now true r.far) rays.now }
+{
+    goes_clear(map, grid, face, moved, at, rays) && turn_as_before(map, face, moved, true, rays)
 }
 
 // ---- Points
@@ -100,6 +128,55 @@ fn is_past_alike(at: Pt, moved: &Moved, rays: &[Ray], held: &HeldPoint) -> bool
     held.point.get() == moved.point.get() || goes_past_alike(at, moved.from, rays, held.position)
 }
 
+/// Whether a point went past a held one with all its sides but the one to that.
+fn goes_past_with_all_but(at: Pt, from: Pt, rays: &[Ray], held: &HeldPoint) -> bool
+    ensures { result ≡ list_all (λ r. (r.far == held.now.point)
+        || is_counted_anew_of at from held.now.position r.position) rays.now }
+{
+    rays.iter().all(|ray| {
+        ray.far.get() == held.point.get() || is_counted_anew(at, from, held.position, ray)
+    })
+}
+
+/// Whether it went past that with none of them.
+fn goes_past_with_none_but(at: Pt, from: Pt, rays: &[Ray], held: &HeldPoint) -> bool
+    ensures { result ≡ list_all (λ r. (r.far == held.now.point)
+        || not (is_counted_anew_of at from held.now.position r.position)) rays.now }
+{
+    rays.iter().all(|ray| {
+        ray.far.get() == held.point.get() || !is_counted_anew(at, from, held.position, ray)
+    })
+}
+
+/// Whether it went past that with all of them, or with none.
+fn goes_past_but(at: Pt, from: Pt, rays: &[Ray], held: &HeldPoint) -> bool
+    ensures { result ≡ goes_past_but_of at from rays.now held.now }
+{
+    goes_past_with_all_but(at, from, rays, held) || goes_past_with_none_but(at, from, rays, held)
+}
+
+/// Whether it went past a held point with all its sides or with none, or did so but for the side to that,
+/// which one ring of the face alone passes.
+fn goes_past<M: MapView>(
+    map: &M,
+    face: &Face,
+    moved: &Moved,
+    at: Pt,
+    rays: &[Ray],
+    held: &HeldPoint,
+) -> bool
+    requires { HasWholeRings (M.map map.now) }
+    ensures { IsTrue result → IsPast (M.map map.now) face.now moved.now at rays.now held.now }
+{
+    if is_past_alike(at, moved, rays, held) {
+        return true;
+    }
+    if !goes_past_but(at, moved.from, rays, held) {
+        return false;
+    }
+    is_alone_at(map, face, held.point)
+}
+
 /// The box of a point, of where it lay, and of the ends of its rays.
 fn reach_round(at: Pt, from: Pt, rays: &[Ray]) -> Reach
     ensures at { IsInReach result at }
@@ -116,7 +193,7 @@ fn reach_round(at: Pt, from: Pt, rays: &[Ray]) -> Reach
 /// Whether the moved point is seen to have gone past each other point that the grid holds with all its
 /// sides, or with none. It looks at those in the box round its rays, where that is small: past all
 /// others it does.
-fn go_past_alike(grid: &CellGrid, moved: &Moved, at: Pt, rays: &[Ray]) -> bool
+pub(crate) fn go_past_alike(grid: &CellGrid, moved: &Moved, at: Pt, rays: &[Ray]) -> bool
     ensures { IsTrue result → (n : ℕ) (q : Position) → HoldsPoint grid.now n q
         → n ≢ moved.now.point
         → IsTrue (goes_past_alike_of at moved.now.from rays.now q) }
@@ -126,6 +203,28 @@ fn go_past_alike(grid: &CellGrid, moved: &Moved, at: Pt, rays: &[Ray]) -> bool
         && grid
             .point_candidates(reach.low, reach.high)
             .all(|held| is_past_alike(at, moved, rays, &held))
+}
+
+/// Whether it is seen to have gone past each other point that the grid holds as the rings of a face ask.
+/// It looks at those in the same box.
+fn go_past<M: MapView>(
+    map: &M,
+    grid: &CellGrid,
+    face: &Face,
+    moved: &Moved,
+    at: Pt,
+    rays: &[Ray],
+) -> bool
+    requires { HasWholeRings (M.map map.now) }
+    ensures { IsTrue result → (n : ℕ) (q : Position) → HoldsPoint grid.now n q → n ≢ moved.now.point
+        → IsPast (M.map map.now) face.now moved.now at rays.now
+        (record { point = n; position = q }) }
+{
+    let reach = reach_round(at, moved.from, rays);
+    is_small(&reach)
+        && grid
+            .point_candidates(reach.low, reach.high)
+            .all(|held| goes_past(map, face, moved, at, rays, &held))
 }
 
 // ---- Rings
@@ -142,7 +241,7 @@ fn lay(moved: &Moved, point: PointNo, at: Pt) -> Pt
 }
 
 /// Whether two doubled areas are both positive, both negative, or both nothing.
-fn is_same_turn(a: i128, b: i128) -> bool
+pub(crate) fn is_same_turn(a: i128, b: i128) -> bool
     ensures positive { IsTrue result → int_lt (pos 0) a ≡ int_lt (pos 0) b }
     ensures negative { IsTrue result → int_lt a (pos 0) ≡ int_lt b (pos 0) }
 {
@@ -150,11 +249,11 @@ fn is_same_turn(a: i128, b: i128) -> bool
 }
 
 /// Whether the ring that leaves a moved point along one side is positive or negative as it was, and
-/// has its anchor elsewhere.
-fn turns_as_before<M: MapView>(map: &M, moved: &Moved, to: PointNo) -> bool
+/// has its anchor elsewhere, unless the point went clear.
+fn turns_as_before<M: MapView>(map: &M, moved: &Moved, clear: bool, to: PointNo) -> bool
     requires whole { HasWholeRings (M.map map.now) }
     requires side { Contains {X = Side} (all_sides (M.map map.now)) (moved.now.point, to) }
-    ensures { IsTrue result → (f : FaceOf) → TurnAlong (M.map map.now) f moved.now to }
+    ensures { IsTrue result → (f : FaceOf) → TurnAlong (M.map map.now) f moved.now clear to }
 {
     let mut area = 0;
     let mut area_before = 0;
@@ -167,32 +266,49 @@ fn turns_as_before<M: MapView>(map: &M, moved: &Moved, to: PointNo) -> bool
             least = from;
         }
     }
-    least.get() < moved.point.get() && is_same_turn(area, area_before)
+    if !clear {
+        if least.get() >= moved.point.get() {
+            return false;
+        }
+    }
+    is_same_turn(area, area_before)
 }
 
 /// Whether it does, where it is a ring of a face.
-fn turns_if_of_face<M: MapView>(map: &M, face: &Face, moved: &Moved, to: PointNo) -> bool
+fn turns_if_of_face<M: MapView>(
+    map: &M,
+    face: &Face,
+    moved: &Moved,
+    clear: bool,
+    to: PointNo,
+) -> bool
     requires whole { HasWholeRings (M.map map.now) }
     requires side { Contains {X = Side} (all_sides (M.map map.now)) (moved.now.point, to) }
-    ensures { IsTrue result → TurnAlong (M.map map.now) face.now moved.now to }
+    ensures { IsTrue result → TurnAlong (M.map map.now) face.now moved.now clear to }
 {
     if let Some(left) = map.face_of(moved.point, to) {
         if !is_face(face, &left) {
             return true;
         }
     }
-    turns_as_before(map, moved, to)
+    turns_as_before(map, moved, clear, to)
 }
 
 /// Whether all rings of a face that pass a moved point do, whose rays these are.
-fn turn_as_before<M: MapView>(map: &M, face: &Face, moved: &Moved, rays: &[Ray]) -> bool
+fn turn_as_before<M: MapView>(
+    map: &M,
+    face: &Face,
+    moved: &Moved,
+    clear: bool,
+    rays: &[Ray],
+) -> bool
     requires whole { HasWholeRings (M.map map.now) }
     requires rays { AreRaysOf (M.map map.now) moved.now.point rays.now }
     ensures { IsTrue result
-        → AllByRecursion (λ r. TurnAlong (M.map map.now) face.now moved.now r.far) rays.now }
+        → AllByRecursion (λ r. TurnAlong (M.map map.now) face.now moved.now clear r.far) rays.now }
 {
     for ray in rays {
-        if !turns_if_of_face(map, face, moved, ray.far) {
+        if !turns_if_of_face(map, face, moved, clear, ray.far) {
             return false;
         }
     }

@@ -1,9 +1,9 @@
 use Rattle.std.proofs.Common.{◌≤◌, ℕ, sym, ap, subst, ◌∙◌, List, [], ◌∷◌, ◌++◌, take, map, length}
-use Rattle.std.specs.List.{Contains}
-use Rattle.std.proofs.lemmas.List.Sorted.{Contains-permutation}
+use Rattle.std.specs.Prelude.{IsPermutation}
+use Rattle.std.proofs.lemmas.List.Sorted.{IsPermutation-map}
 use Rattle.cad_rows.specs.declared.rows.StringRow.{StringRow}
 use Rattle.cad_map.specs.Map.{far_end, strings_at}
-use Rattle.cad_map.proofs.CallerLemmas.{take-more, all-told, Contains-map, map-Contains}
+use Rattle.cad_map.proofs.CallerLemmas.{take-more, all-told}
 use Rattle.edit_records.proofs.GridRows.{map-last}
 use Rattle.edit_records.proofs.touched.far_ends.Goals as goal
 
@@ -21,13 +21,10 @@ loop-place-preserved g c =
     }
 
 pub returns : goal.returns
-returns g c q there =
+returns g c =
     let m = g.M.MapView.map c.args.map.now in
     let far : StringRow → ℕ = λ s. far_end s c.args.point in
     let strings = g.M.MapView.view_strings c.args.map.now c.args.point in
     let past : length (strings_at m c.args.point) ≤ c.loop-place.place = subst (λ (n : ℕ). n ≤ c.loop-place.place) c.degree-place-end.ensures c.loop-place-test.false in
-    let s = map-Contains far (strings_at m c.args.point) q there in
-    subst (Contains c.loop-place.points.items) s.2
-    (subst (λ (l : List ℕ). Contains l (far s.0)) (sym c.loop-place.invariant.points)
-    (Contains-map far (take c.loop-place.place strings) s.0
-    (Contains-permutation (strings_at m c.args.point) (take c.loop-place.place strings) s.0 (all-told m c.args.point strings c.loop-place.place past c.loop-place.invariant.each) s.1)))
+    subst (IsPermutation (map far (strings_at m c.args.point))) (sym c.loop-place.invariant.points)
+    (IsPermutation-map far (strings_at m c.args.point) (take c.loop-place.place strings) (all-told m c.args.point strings c.loop-place.place past c.loop-place.invariant.each))

@@ -1,4 +1,4 @@
-use Rattle.std.proofs.Common.{◌≡◌, ℕ, refl, sym, subst, ap, ◌∙◌, [], ◌∷◌, ◌++◌, ℤ, ◌+ℤ◌, to_z, of_z, to_z-of_z, FitsSigned, length, ◌≤◌, ◌*◌, Some, arith}
+use Rattle.std.proofs.Common.{◌⊎◌, inl, inr, ◌<◌, true, ◌≡◌, ℕ, refl, sym, subst, ap, ◌∙◌, [], ◌∷◌, ◌++◌, ℤ, ◌+ℤ◌, to_z, of_z, to_z-of_z, FitsSigned, length, ◌≤◌, ◌*◌, Some, arith}
 use Rattle.std.specs.Int.{w128}
 use Rattle.std.proofs.lemmas.Int.{ints}
 use Rattle.std.specs.Prelude.{unsigned_abs}
@@ -12,7 +12,7 @@ use Rattle.cad_map.specs.Walk.{walking, IsOnRing}
 use Rattle.cad_map.proofs.CallerLemmas.{few-from, walked-from, placed-fits, sum-fits, least-more, sum-more, position-on_map}
 use Rattle.cad_valid.specs.Moves.{position_before, lay}
 use Rattle.cad_valid.proofs.MovedRings.{HasRing, before-on_map, ring-with, ring_from, turns-walked}
-use Rattle.cad_valid.proofs.near.moves.turns_as_before.Goals.{After-next, In-Some, After-of-area, After-of-area_before}
+use Rattle.cad_valid.proofs.near.moves.turns_as_before.Goals.{After-next, In-Some, After-of-area, After-of-area_before, then-not-clear+else-get-2, else-not-clear}
 use Rattle.cad_valid.proofs.near.moves.turns_as_before.Goals as goal
 
 -- the side that the walk begins with, and the ring that has it
@@ -140,17 +140,27 @@ loop-from-preserved g c =
       least = omega (arith, less, from, least, so_far, more);
     }
 
-pub returns-then-get-2 : goal.returns-then-get-2
-returns-then-get-2 g c same f b there own has =
+-- a lesser point was met, or the point went clear
+abbrev lesser-or_clear : (g : _) (c : goal.After-next g) → Type 0
+lesser-or_clear g c = (c.args.clear ≡ true) ⊎ (c.loop-from.least < c.args.moved.now.point)
+
+pub returns : goal.returns
+returns g c same f b there own has =
     let m = g.M.MapView.map c.args.map.now in
-    let walked = (goal.at.returns-then-get-2 g c).After-next in
+    let walked = (goal.at.returns g c).After-next in
     let none = rw c.in-None.is at c.next.ensures.steps in
     let signs = c.is_same_turn.ensures in
-    let less = c.if-get-2.true in
-    let least = c.get-2.ensures.value in
-    let point = c.get-3.ensures.value ∙ ap (λ (v : Moved). v.point) c.moved.view_is in
-    turns-walked m c.requires.whole (side g walked) (ring g walked) c.args.moved.now refl c.loop-from.yielded
-    (walking g.M.MapView.map g.M.MapView.view_next c.loop-from.from-iterator) (on g walked) none.first.0
+    let view = ap (λ (v : Moved). v.point) c.moved.view_is in
+    let lesser : lesser-or_clear g walked = elim c.if-not-clear.branch [
+      | then-not-clear+else-get-2 w ↦
+          let low = w.if-get-2.false in
+          let least = w.get-then-not-clear.ensures.value in
+          let point = w.get-then-not-clear-2.ensures.value ∙ view in
+          inr (omega (arith, low, least, point))
+      | else-not-clear w ↦ inl w.if-not-clear.false
+    ] in
+    turns-walked m c.requires.whole (side g walked) (ring g walked) c.loop-from.yielded
+    (walking g.M.MapView.map g.M.MapView.view_next c.loop-from.from-iterator) (on g walked) none.first.0 c.args.moved.now c.args.clear refl
     (to_z w128 c.loop-from.area-bits) (to_z w128 c.loop-from.area_before-bits) c.loop-from.least
-    c.loop-from.invariant.area c.loop-from.invariant.area_before c.loop-from.invariant.least (omega (arith, less, least, point))
+    c.loop-from.invariant.area c.loop-from.invariant.area_before c.loop-from.invariant.least lesser
     (signs.positive same) (signs.negative same) b there has
