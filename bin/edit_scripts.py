@@ -23,6 +23,10 @@ On a town of `bin/bench --write town SIZE` or `--write streets SIZE`:
 
     edge          a point of two lots at the edge of a block, to another place near it
 
+On a town of `bin/bench --write town SIZE`:
+
+    kerb          the south side of a lot at the edge of a block, split near its middle, and joined again
+
 On a field of `bin/bench --write holes SIZE`:
 
     island        the tip of an island, to another place near it
@@ -99,6 +103,10 @@ class Town:
     def lot(self, block, column, row):
         """The lot to the north-east of such a point."""
         return (block * self.LOTS + row) * self.LOTS + column + 1
+
+    def south_side(self, block, column):
+        """The string along the south of a lot at the southern edge of a block, behind the four round the town."""
+        return 4 + 2 * block * self.LOTS * (self.LOTS + 1) + column + 1
 
     def corner(self, column, row):
         """The crossing of two streets."""
@@ -218,16 +226,25 @@ def chain(grid, draws):
         yield from ['undo'] * 3
 
 
-def split_join(grid, draws):
+def split_and_join(sides, draws):
+    """Each of these sides, a place with its string and the positions of its ends, split near its middle and joined
+    again."""
     numbers, new = {}, NEW_STRING
-    while True:
-        place = draws.below(grid.size), 1 + draws.below(grid.size - 1)
-        (x, y), (far_x, far_y) = grid.position(*place), grid.position(place[0] + 1, place[1])
+    for place, string, (x, y), (far_x, far_y) in sides:
         middle = (x + far_x) // 2, (y + far_y) // 2 + draws.below(200) - 100
-        string = numbers.get(place, grid.eastward(*place))
-        yield f'split,{string},{NEW_POINT},{middle[0]},{middle[1]},{new},{new + 1}'
+        yield f'split,{numbers.get(place, string)},{NEW_POINT},{middle[0]},{middle[1]},{new},{new + 1}'
         yield f'join,{NEW_POINT},{new + 2}'
         numbers[place], new = new + 2, new + 3
+
+
+def split_join(grid, draws):
+    def sides():
+        while True:
+            column, row = draws.below(grid.size), 1 + draws.below(grid.size - 1)
+            yield ((column, row), grid.eastward(column, row), grid.position(column, row),
+                   grid.position(column + 1, row))
+
+    yield from split_and_join(sides(), draws)
 
 
 def move(grid, draws):
@@ -361,6 +378,16 @@ def edge(town, draws):
         yield f'move,{town.point(block, column, row)},{x},{y}'
 
 
+def kerb(town, draws):
+    def sides():
+        while True:
+            block, column = draws.below(town.blocks()), draws.below(town.LOTS)
+            yield ((block, column), town.south_side(block, column), town.position(block, column, 0),
+                   town.position(block, column + 1, 0))
+
+    yield from split_and_join(sides(), draws)
+
+
 def island(islands, draws):
     while True:
         place = draws.below(islands.size)
@@ -391,7 +418,7 @@ def common(petals, draws):
 
 KINDS = {'divide-undo': divide_undo, 'divide-merge': divide_merge, 'chain': chain, 'split-join': split_join,
          'move': move, 'points': points, 'enclose': enclose, 'attach': attach, 'undo-walk': undo_walk, 'mixed': mixed}
-FACE_KINDS = {'edge': (Town, edge), 'island': (Islands, island), 'centre': (Star, centre),
+FACE_KINDS = {'edge': (Town, edge), 'kerb': (Town, kerb), 'island': (Islands, island), 'centre': (Star, centre),
               'strip': (Strips, strip), 'common': (Petals, common)}
 
 
