@@ -1,5 +1,5 @@
 -- A move that is seen to leave rings as they were keeps what their faces tell.
-use Rattle.std.proofs.Common.{◌≡◌, ◌≢◌, ◌⊎◌, ℕ, ◌≤◌, ◌<◌, inl, inr, refl, sym, ap, subst, ◌∙◌, List, [], ◌∷◌, ◌++◌, length, map, filter, min, fold, Bool, true, false, not, ℤ, pos, ◌+ℤ◌, true≢false, arith, ◌==◌}
+use Rattle.std.proofs.Common.{◌≡◌, ◌≢◌, ◌⊎◌, ℕ, ◌≤◌, inl, inr, refl, sym, ap, subst, ◌∙◌, List, [], ◌∷◌, ◌++◌, length, map, filter, min, fold, Bool, true, false, not, ℤ, pos, true≢false, arith, ◌==◌}
 use Rattle.std.proofs.lemmas.Bool.{eqb-true, eqb-false, eq-eqb, not-true}
 use Rattle.std.proofs.lemmas.List.Elements.{Contains-push_cases}
 use Rattle.std.proofs.lemmas.Int.{ints}
@@ -19,14 +19,14 @@ use Rattle.cad_map.specs.declared.boundary.Boundary.{Boundary}
 use Rattle.cad_map.specs.Boundaries.{is_face, sides_in}
 use Rattle.cad_map.specs.Map.{Map, all_sides, string_sides, strings_at, side_of, is_end, far_end, has_point, face_sides, position_of, rings_at, rings_of, is_positive, is_negative, is_in_ring}
 use Rattle.cad_map.specs.Rings.{HasWholeRings}
-use Rattle.cad_map.specs.Touched.{Moved, Joined, ComesByMove}
+use Rattle.cad_map.specs.Touched.{Moved, ComesByMove}
 use Rattle.cad_map.specs.Valid.{IsValid, has_outlines, has_sound_holes}
 use Rattle.cad_map.specs.Views.{HasSide}
 use Rattle.cad_map.specs.Walk.{Walking, sides_ahead, IsOnRing}
 use Rattle.cad_map.proofs.CallerLemmas.{All-at_each, All-from_each, Contains-first, ends-along, Contains-in_part, Contains-flat_map, Contains-map, Contains-filter, filter-Contains, map-Contains, is_face-refl, list_all-at, list_any-Contains, list_any-found, both_sides, Joins, joins-far, face-ring, has_side-Contains, once-from_pairs, one_boundary, whole_valid, all-from, only-from, ring_on, same-from, begins-from, first_points, least-all}
 use Rattle.cad_valid.specs.declared.near.rays.Ray.{Ray}
-use Rattle.cad_valid.specs.Moves.{position_before, is_counted_anew, goes_past_alike, goes_past_but, passes, TurnsAsBefore, TurnAlong, PassesAlone, GoesClear, GoesPast, GoesPastBut, IsPast, LeavesRings}
-use Rattle.cad_valid.specs.Joins.{area_of_bend, TurnsRound}
+use Rattle.cad_valid.specs.Moves.{position_before, is_counted_anew, goes_past_alike, goes_past_but, passes, IsRound, TurnsAsBefore, TurnAlong, PassesAlone, GoesClear, GoesPast, GoesPastBut, IsPast, LeavesRings}
+use Rattle.cad_valid.specs.declared.near.rounds.Round.{Round}
 use Rattle.cad_valid.specs.Rays.{ray_of, AreRaysOf}
 use Rattle.cad_valid.proofs.ClearWays.{IsClear, inside-clear}
 use Rattle.cad_valid.proofs.MovedSides.{IsAlike, inside-before}
@@ -87,40 +87,12 @@ module _ (m : Map) (whole : HasWholeRings m) (s : Side) (r : HasRing m s) where
         ∙ least-all s ring_from (begins-from m whole r.boundary.face s r.boundary.ring r.there r.has)
         ∙ sym (anchor_of-same r.boundary.ring ring_from same)
 
-    -- where the walk meets a lesser point, and the same sign before and after the move, the ring turns as before
-    pub turns-walked : (v : Moved) (clear : Bool) → s.0 ≡ v.point → (area area_before : ℤ) (least : ℕ)
-        → area ≡ sum_over doubled_area (placed (position_of m) given) → area_before ≡ sum_over doubled_area (placed (position_before (position_of m) v) given)
-        → least ≡ fold min v.point (map (λ (t : Side). t.0) given) → (clear ≡ true) ⊎ (least < v.point)
-        → int_lt (pos 0) area ≡ int_lt (pos 0) area_before → int_lt area (pos 0) ≡ int_lt area_before (pos 0)
-        → (b : Boundary) → Contains m.boundaries b → Contains (sides_of b.ring) s → TurnsAsBefore m v clear b.ring
-    turns-walked v clear from area area_before least area_is before_is least_is less positive negative b there has =
-        let now = area_is ∙ sum-walked (position_of m) in
-        let before = before_is ∙ sum-walked (position_before (position_of m) v) in
-        let anchor = least_is ∙ (λ i. fold min (sym from i) (map (λ (t : Side). t.0) given)) ∙ anchor-walked in
-        let is = only-from m whole r.boundary.face s r.boundary.ring r.there r.has b there has in
-        subst (TurnsAsBefore m v clear) (sym is)
-        (record {
-          positive = sym (ap (int_lt (pos 0)) now) ∙ positive ∙ ap (int_lt (pos 0)) before;
-          negative = sym (ap (λ (z : ℤ). int_lt z (pos 0)) now) ∙ negative ∙ ap (λ (z : ℤ). int_lt z (pos 0)) before;
-          anchor = elim less [ inl is_clear ↦ inl is_clear | inr low ↦ inr (λ at. omega (arith, anchor, at, low)) ];
-        })
-
-    -- and where it has the same sign by the point that went, it turns as round by that
-    pub round-walked : (j : Joined) (area bend : ℤ) (least : ℕ) → area ≡ sum_over doubled_area (placed (position_of m) given)
-        → bend ≡ area_of_bend (position_of m s.0) j.position (position_of m s.1)
-        → least ≡ fold min s.0 (map (λ (t : Side). t.0) given) → least < j.point
-        → int_lt (pos 0) area ≡ int_lt (pos 0) (area +ℤ bend) → int_lt area (pos 0) ≡ int_lt (area +ℤ bend) (pos 0)
-        → (b : Boundary) → Contains m.boundaries b → Contains (sides_of b.ring) s → TurnsRound m j s b.ring
-    round-walked j area bend least area_is bend_is least_is less positive negative b there has =
-        let now = area_is ∙ sum-walked (position_of m) in
-        let round : area +ℤ bend ≡ ring_sum doubled_area (position_of m) r.boundary.ring +ℤ area_of_bend (position_of m s.0) j.position (position_of m s.1) = λ i. now i +ℤ bend_is i in
-        let is = only-from m whole r.boundary.face s r.boundary.ring r.there r.has b there has in
-        subst (TurnsRound m j s) (sym is)
-        (record {
-          positive = sym (ap (int_lt (pos 0)) now) ∙ positive ∙ ap (int_lt (pos 0)) round;
-          negative = sym (ap (λ (z : ℤ). int_lt z (pos 0)) now) ∙ negative ∙ ap (λ (z : ℤ). int_lt z (pos 0)) round;
-          anchor = let anchor = least_is ∙ anchor-walked in omega (arith, anchor, less);
-        })
+    -- so of each ring that has the side
+    pub round-walked : (v : Moved) (r : Round) → r.area ≡ sum_over doubled_area (placed (position_of m) given) → r.area_before ≡ sum_over doubled_area (placed (position_before (position_of m) v) given)
+        → r.least ≡ fold min s.0 (map (λ (t : Side). t.0) given) → (b : Boundary) → Contains m.boundaries b → Contains (sides_of b.ring) s → IsRound m v b.ring r
+    round-walked v walked area before least b there has =
+        subst (λ (ring : Ring). IsRound m v ring walked) (sym (only-from m whole r.boundary.face s r.boundary.ring r.there r.has b there has))
+        (record { area = area ∙ sum-walked (position_of m); before = before ∙ sum-walked (position_before (position_of m) v); least = least ∙ anchor-walked })
 
 -- ---- Points of rings, and sides and strings at the point
 

@@ -15,6 +15,7 @@ use Rattle.cad_map.specs.Map.{Map, position_of, far_end, is_end, strings_at, is_
 use Rattle.cad_map.specs.Touched.{Moved, ComesByMove, ComesBySplit}
 use Rattle.cad_map.specs.Valid.{IsValid, is_same_position}
 use Rattle.cad_valid.specs.declared.near.rays.Ray.{Ray}
+use Rattle.cad_valid.specs.declared.near.rounds.Round.{Round}
 
 -- a valid map led here by this move, or by a split that counts as one
 pub record MovesValid (m : Map) (v : Moved) : Type 0 where
@@ -61,6 +62,12 @@ lies_elsewhere v h = (h.point == v.point) || not (is_same_position h.position v.
 -- the ring passes the point
 abbrev pub passes : ℕ → Ring → Bool
 passes p ring = list_any (λ q. q == p) ring
+
+-- what a walk round a ring tells: its doubled area, the one before the move, and its anchor
+pub record IsRound (m : Map) (v : Moved) (ring : Ring) (r : Round) : Type 0 where
+  pub area : r.area ≡ ring_sum doubled_area (position_of m) ring
+  pub before : r.area_before ≡ ring_sum doubled_area (position_before (position_of m) v) ring
+  pub least : r.least ≡ anchor_of ring
 
 -- a ring that passes the point is positive or negative as it was, and has its anchor elsewhere where that is asked
 pub record TurnsAsBefore (m : Map) (v : Moved) (clear : Bool) (ring : Ring) : Type 0 where

@@ -18,6 +18,7 @@ mod many;
 mod moves;
 mod points;
 mod rays;
+mod rounds;
 mod seen;
 mod sight;
 mod strings;

@@ -14,8 +14,9 @@ ghost use Rattle.cad_valid.specs.Near.{HoldsMap, OfFace, HasOutlines, HasSoundHo
 
 use crate::near::moves::{go_past_alike, is_same_turn};
 use crate::near::rays::Ray;
+use crate::near::rounds::round_along;
 use crate::near::{Joined, Moved};
-use cad_map::{MapView, Walk, is_face, position};
+use cad_map::{MapView, is_face, position};
 use cad_rows::{Face, PointNo};
 use cell_grid::CellGrid;
 use geo_exact::{DoubledArea, Pt, SideMeasure};
@@ -99,16 +100,13 @@ fn turns_round<M: MapView>(map: &M, joined: &Joined, from: PointNo, to: PointNo)
     requires side { Contains {X = Side} (all_sides (M.map map.now)) (from, to) }
     ensures { IsTrue result → (f : FaceOf) → TurnsAlong (M.map map.now) f joined.now (from, to) }
 {
-    let mut area = 0;
-    let mut least = from;
-    for (at, end) in Walk::from(map, from, to) {
-        area += DoubledArea.of(position(map, at), position(map, end));
-        if at.get() < least.get() {
-            least = at;
-        }
-    }
+    let moved = Moved {
+        point: joined.point,
+        from: joined.position,
+    };
+    let round = round_along(map, &moved, from, to);
     let bend = area_of_bend(position(map, from), joined.position, position(map, to));
-    least.get() < joined.point.get() && is_same_turn(area, area + bend)
+    round.least.get() < joined.point.get() && is_same_turn(round.area, round.area + bend)
 }
 
 /// Twice the area between the sides from a by p to b and the side from a to b.

@@ -8,7 +8,7 @@ ghost use Rattle.cell_grid.specs.Grid.{HoldsPoint};
 ghost use Rattle.cad_rings.specs.Cycle.{Side};
 ghost use Rattle.cad_map.specs.Map.{all_sides, position_of};
 ghost use Rattle.cad_map.specs.Rings.{HasWholeRings};
-ghost use Rattle.cad_valid.specs.Moves.{lay as lay_of, is_counted_anew as is_counted_anew_of};
+ghost use Rattle.cad_valid.specs.Moves.{is_counted_anew as is_counted_anew_of};
 ghost use Rattle.cad_valid.specs.Moves.{goes_past_alike as goes_past_alike_of};
 ghost use Rattle.cad_valid.specs.Moves.{goes_past_but as goes_past_but_of};
 ghost use Rattle.cad_valid.specs.Moves.{is_past_alike as is_past_alike_of};
@@ -19,12 +19,13 @@ ghost use Rattle.cad_valid.specs.Seen.{IsInReach};
 
 use crate::near::Moved;
 use crate::near::rays::{MOST_RAYS, Ray, rays_at};
+use crate::near::rounds::round_along;
 use crate::near::seen::{Reach, grown, is_small};
 use crate::near::ways::{goes_clear, is_alone_at};
-use cad_map::{MapView, Walk, is_face, position};
+use cad_map::{MapView, is_face, position};
 use cad_rows::{Face, PointNo};
 use cell_grid::{CellGrid, HeldPoint};
-use geo_exact::{DoubledArea, Pt, SideMeasure, crosses};
+use geo_exact::{Pt, crosses};
 
 /// Whether a move, if there was one, is seen to leave the rings of a face as they were to one another.
 /// It walks along those that pass the point, and looks at what the grid holds near it.
@@ -229,17 +230,6 @@ fn go_past<M: MapView>(
 
 // ---- Rings
 
-/// Where a point that is at a position lay before a move.
-fn lay(moved: &Moved, point: PointNo, at: Pt) -> Pt
-    ensures { result ≡ lay_of moved.now point at }
-{
-    if point.get() == moved.point.get() {
-        moved.from
-    } else {
-        at
-    }
-}
-
 /// Whether two doubled areas are both positive, both negative, or both nothing.
 pub(crate) fn is_same_turn(a: i128, b: i128) -> bool
     ensures positive { IsTrue result → int_lt (pos 0) a ≡ int_lt (pos 0) b }
@@ -255,23 +245,13 @@ fn turns_as_before<M: MapView>(map: &M, moved: &Moved, clear: bool, to: PointNo)
     requires side { Contains {X = Side} (all_sides (M.map map.now)) (moved.now.point, to) }
     ensures { IsTrue result → (f : FaceOf) → TurnAlong (M.map map.now) f moved.now clear to }
 {
-    let mut area = 0;
-    let mut area_before = 0;
-    let mut least = moved.point;
-    for (from, end) in Walk::from(map, moved.point, to) {
-        let (a, b) = (position(map, from), position(map, end));
-        area += DoubledArea.of(a, b);
-        area_before += DoubledArea.of(lay(moved, from, a), lay(moved, end, b));
-        if from.get() < least.get() {
-            least = from;
-        }
-    }
+    let round = round_along(map, moved, moved.point, to);
     if !clear {
-        if least.get() >= moved.point.get() {
+        if round.least.get() >= moved.point.get() {
             return false;
         }
     }
-    is_same_turn(area, area_before)
+    is_same_turn(round.area, round.area_before)
 }
 
 /// Whether it does, where it is a ring of a face.
