@@ -1,13 +1,10 @@
 -- The rules of a face's rings answer the same of the rings as they are kept and in canonical order.
-use Rattle.std.proofs.Common.{◌≡◌, ℕ, ◌%◌, refl, sym, ap, subst, ◌∙◌, List, filter, Bool, true, false, not, cond, nat_eq, ℤ, pos}
-use Rattle.std.proofs.lemmas.List.Sorted.{IsPermutation-map, sum_by-IsPermutation}
+use Rattle.std.proofs.Common.{◌≡◌, ℕ, refl, sym, ap, subst, ◌∙◌, List, filter, Bool, true, false, not, nat_eq, ℤ, pos}
 use Rattle.std.specs.Prelude.{◌&&◌, ◌||◌, count_by, int_lt}
 use Rattle.std.specs.List.{list_all}
-use Rattle.geo_exact.specs.Position.{Position}
 use Rattle.geo_exact.specs.Measure.{doubled_area}
-use Rattle.geo_exact.specs.Inside.{is_counted}
 use Rattle.cad_rows.specs.declared.names.Face.{Face}
-use Rattle.cad_rings.specs.Cycle.{Ring, Side, sides_of, placed, anchor_of}
+use Rattle.cad_rings.specs.Cycle.{Ring, sides_of, anchor_of}
 use Rattle.cad_rings.proofs.CallerLemmas.{sides_of-same, ring_sum-same_ring, anchor_of-same}
 use Rattle.cad_map.specs.declared.boundary.Boundary.{Boundary}
 use Rattle.cad_map.specs.Boundaries.{canonical_order}
@@ -16,6 +13,7 @@ use Rattle.cad_map.specs.Valid.{each_pair, has_outlines, are_holes_inside, are_h
 use Rattle.cad_map.proofs.CallerLemmas.{list_all-same, IsOfRing, IsOfTwoRings, TestAlike, rings_at-canonical_order, list_all-filter, list_all-none, each_pair-filter}
 use Rattle.cad_valid.specs.Outlines.{is_either}
 use Rattle.cad_valid.specs.Holes.{has_inside_if_outline, is_inside_if_hole, are_apart, is_apart_if_hole, is_apart_from_holes, are_apart_if_holes}
+use Rattle.cad_valid.proofs.StraightRings.{inside-permuted}
 
 module _ (m : Map) where
   -- ---- Where a ring is written from doesn't matter
@@ -27,11 +25,7 @@ module _ (m : Map) where
   negative-of_ring r s same = ap (λ (z : ℤ). int_lt z (pos 0)) (ring_sum-same_ring doubled_area (position_of m) r s same)
 
   inside-of_ring : (p : ℕ) → IsOfRing (λ r. is_in_ring m r p)
-  inside-of_ring p r s same =
-      let place : Side → Position × Position = λ t. (position_of m t.0, position_of m t.1) in
-      let counted : Position × Position → ℕ = λ side. cond (is_counted side.0 side.1 (position_of m p)) 1 0 in
-      ap (λ (n : ℕ). nat_eq (n % 2) 1)
-      (sym (sum_by-IsPermutation counted (placed (position_of m) (sides_of r)) (placed (position_of m) (sides_of s)) (IsPermutation-map place (sides_of r) (sides_of s) (sides_of-same r s same))))
+  inside-of_ring p r s same = inside-permuted (position_of m) (position_of m p) (sides_of r) (sides_of s) (sides_of-same r s same)
 
   outline-of_ring : (p : ℕ) → IsOfRing (has_inside_if_outline m p)
   outline-of_ring p r s same = λ i. not (positive-of_ring r s same i) || inside-of_ring p r s same i

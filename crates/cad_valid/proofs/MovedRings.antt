@@ -172,6 +172,14 @@ module _ (m : Map) (whole : HasWholeRings m) (p : ℕ) where
 -- ---- What was seen
 
 -- the rays' tests are tests of the strings
+-- of two tests the second holds where the first fails
+second-of : {k n : ℕ} {c : Bool} → k ≢ n → ((k == n) || c) ≡ true → c ≡ true
+second-of {k = k} {n = n} {c = c} other either = by (k == n) refl either
+  where
+    by : (t : Bool) → (k == n) ≡ t → (t || c) ≡ true → c ≡ true
+    by true is either = absurd (other (eqb-true k n is))
+    by false is either = either
+
 module _ (m : Map) (v : Moved) (rays : List Ray) (are : AreRaysOf m v.point rays) (at : Position) (lies : at ≡ position_of m v.point) where
   ray-of : (s : StringRow) → Contains (strings_at m v.point) s → Contains rays (ray_of m v.point s)
   ray-of s h =
@@ -197,21 +205,13 @@ module _ (m : Map) (v : Moved) (rays : List Ray) (are : AreRaysOf m v.point rays
       here : (s : StringRow) → is_counted_anew at v.from q (position_of m (far_end s v.point)) ≡ is_counted_anew (position_of m v.point) v.from q (position_of m (far_end s v.point))
       here s = ap (λ (p : Position). is_counted_anew p v.from q (position_of m (far_end s v.point))) lies
 
-      -- of two tests of which the first fails
-      second : (k : ℕ) (c : Bool) → k ≢ n → ((k == n) || c) ≡ true → c ≡ true
-      second k c other either = by (k == n) refl either
-        where
-          by : (t : Bool) → (k == n) ≡ t → (t || c) ≡ true → c ≡ true
-          by true is either = absurd (other (eqb-true k n is))
-          by false is either = either
-
       by : (b : Bool) → list_all (λ r. (r.far == n) || is_counted_anew at v.from q r.position) rays ≡ b
           → (b || list_all (λ r. (r.far == n) || not (is_counted_anew at v.from q r.position)) rays) ≡ true → GoesPastBut m v n q
-      by true all t = (true, λ s h other. sym (here s) ∙ second (far_end s v.point) _ other (list_all-at (λ r. (r.far == n) || is_counted_anew at v.from q r.position) rays (ray_of m v.point s) all (ray-of s h)))
+      by true all t = (true, λ s h other. sym (here s) ∙ second-of other (list_all-at (λ r. (r.far == n) || is_counted_anew at v.from q r.position) rays (ray_of m v.point s) all (ray-of s h)))
       by false none all = (
         false,
         λ s h other. sym (here s) ∙ not-true (is_counted_anew at v.from q (position_of m (far_end s v.point)))
-            (second (far_end s v.point) _ other (list_all-at (λ r. (r.far == n) || not (is_counted_anew at v.from q r.position)) rays (ray_of m v.point s) all (ray-of s h))),
+            (second-of other (list_all-at (λ r. (r.far == n) || not (is_counted_anew at v.from q r.position)) rays (ray_of m v.point s) all (ray-of s h))),
       )
 
   pub leaves-rings : (f : Face) → HasWholeRings m → (clear : Bool) → (clear ≡ true → GoesClear m f v)
@@ -225,20 +225,13 @@ module _ (m : Map) (v : Moved) (rays : List Ray) (are : AreRaysOf m v.point rays
         let r = row-of m n (point-there m whole b there n h) in
         let off = λ (same : r.row.number ≡ v.point). other (sym r.number ∙ same) in
         elim (past r.row r.there off) [
-          | inl alike ↦ inl (subst (GoesPast m v) r.position (alike-strings r.row.position (second-of r.row.number off alike)))
+          | inl alike ↦ inl (subst (GoesPast m v) r.position (alike-strings r.row.position (second-of off alike)))
           | inr but ↦ inr (
             subst (GoesPastBut m v n) r.position (subst (λ (k : ℕ). GoesPastBut m v k r.row.position) r.number (but-strings r.row.number r.row.position but.0)),
             subst (PassesAlone m f) r.number but.1,
           )
         ];
   }
-    where
-      second-of : (k : ℕ) {c : Bool} → k ≢ v.point → ((k == v.point) || c) ≡ true → c ≡ true
-      second-of k {c = c} off either = by (k == v.point) refl either
-        where
-          by : (t : Bool) → (k == v.point) ≡ t → (t || c) ≡ true → c ≡ true
-          by true is either = absurd (off (eqb-true k v.point is))
-          by false is either = either
 
 -- ---- What the rings of a face tell, by where the point lay
 

@@ -120,6 +120,11 @@ module _ (position : ℕ → Position) (v : Moved) (q : Position) (anew : Bool) 
 
 -- ---- Positions far from the point
 
+-- of two tests one holds where the second does
+pub or_second : (a : Bool) {b : Bool} → b ≡ true → (a || b) ≡ true
+or_second true is = refl
+or_second false is = is
+
 -- the point goes past with all or with none where all its sides change alike
 alike-from : (at from q : Position) (rays : List Ray) (anew : Bool) → AllByRecursion (λ r. is_counted_anew at from q r.position ≡ anew) rays → goes_past_alike at from rays q ≡ true
 alike-from at from q rays true all = rw (each rays all) refl
@@ -129,10 +134,6 @@ alike-from at from q rays true all = rw (each rays all) refl
     each (r ∷ rays) all = and_from (is_counted_anew at from q r.position) (list_all (λ r. is_counted_anew at from q r.position) rays) all.0 (each rays all.1)
 alike-from at from q rays false all = or_second (list_all (λ r. is_counted_anew at from q r.position) rays) (each rays all)
   where
-    or_second : (a : Bool) {b : Bool} → b ≡ true → (a || b) ≡ true
-    or_second true is = refl
-    or_second false is = is
-
     each : (rays : List Ray) → AllByRecursion (λ r. is_counted_anew at from q r.position ≡ false) rays → list_all (λ r. not (is_counted_anew at from q r.position)) rays ≡ true
     each [] all = refl
     each (r ∷ rays) all =

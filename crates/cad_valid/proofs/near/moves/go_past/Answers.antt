@@ -1,13 +1,12 @@
 use Rattle.std.proofs.Common.{◌≡◌, ◌==◌, Bool, true, false, refl, subst, inl, rules, tests}
 use Rattle.std.proofs.lemmas.Iterator.{cases_from_all}
 use Rattle.std.proofs.lemmas.Iterator.Consumers.{YieldsList-from_first}
-use Rattle.std.specs.Prelude.{◌||◌}
 use Rattle.geo_exact.specs.SignTest.{boxes_overlap}
 use Rattle.cell_grid.specs.declared.entry.HeldPoint.{HeldPoint}
 use Rattle.cad_map.specs.Touched.{Moved}
 use Rattle.cad_valid.specs.Seen.{IsInReach}
 use Rattle.cad_valid.specs.Moves.{IsPast}
-use Rattle.cad_valid.proofs.MovedSides.{far-alike}
+use Rattle.cad_valid.proofs.MovedSides.{far-alike, or_second}
 use Rattle.cad_valid.proofs.Passed.{passed-where_true}
 use Rattle.cad_valid.proofs.near.moves.go_past.Goals as goal
 
@@ -32,7 +31,3 @@ returns-then-is_small g c = λ t n q held other.
     by : {G : Type 0} (b : Bool) {o : Bool} → o ≡ b → (o ≡ true → G) → (o ≡ false → G) → G
     by true is near far = near is
     by false is near far = far is
-
-    or_second : (a : Bool) {b : Bool} → b ≡ true → (a || b) ≡ true
-    or_second true is = refl
-    or_second false is = is
