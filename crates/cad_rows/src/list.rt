@@ -3,13 +3,18 @@ ghost use Rattle.std.specs.Prelude.{◌≡◌, ◌≢◌, ◌++◌, ◌∷◌, [
 ghost use Rattle.std.specs.List.{AllPairs};
 
 use crate::memory::Memory;
+use smallvec::SmallVec;
 use std::alloc::Global;
 use std::marker::Model;
 
-/// A list of numbers, in order. It may have been told whether one stands twice.
+/// So many numbers a list keeps in itself; more take memory.
+const SHORT: usize = 4;
+
+/// A list of numbers, in order. It may have been told whether one stands twice. Up to four take no
+/// memory of their own.
 #[derive(Debug, Drop)]
 pub struct Numbers<N> {
-    items: Vec<N>,
+    items: SmallVec<N, SHORT>,
     distinct: Option<bool>,
 }
 
@@ -25,13 +30,13 @@ impl<N> Model for Numbers<N> {
         (λ told. IsTrue told ↔ AllPairs (λ x y. x ≢ y) a.items.items) };
 }
 
-impl<N: Copy> Numbers<N> {
+impl<N: Copy + Default> Numbers<N> {
     /// The empty list.
     pub fn new(alloc: Global) -> Self
         ensures { result ≡ [] }
     {
         Numbers {
-            items: Vec::new(alloc),
+            items: SmallVec::new(alloc),
             distinct: None,
         }
     }
@@ -82,7 +87,7 @@ impl<N: Copy> Numbers<N> {
     pub fn get(&self, i: usize) -> Option<N>
         ensures { result ≡ slice_get self.now i }
     {
-        self.items.get(i).copied()
+        self.items.as_slice().get(i).copied()
     }
 
     /// The numbers as a slice.
@@ -97,7 +102,7 @@ impl<N: Copy> Numbers<N> {
         ensures { IfOk result (λ copied. copied ≡ self.now) }
     {
         let alloc = *self.items.allocator();
-        let items = Vec::from_slice(alloc, self.items.as_slice())?;
+        let items = SmallVec::from_slice(alloc, self.items.as_slice())?;
         Ok(Numbers {
             items,
             distinct: self.distinct,

@@ -65,6 +65,18 @@ impl<Kind> Number<Kind> {
     }
 }
 
+/// The least number. A place of a list that holds nothing holds it, and nobody sees it there.
+impl<Kind> Default for Number<Kind> {
+    ghost is_default = { λ n. n ≡ 1 };
+
+    fn default() -> Number<Kind> {
+        Number {
+            no: 1,
+            of: PhantomData,
+        }
+    }
+}
+
 /// The number of a point.
 pub type PointNo = Number<Points>;
 
