@@ -1,5 +1,5 @@
 -- Slots found by their numbers.
-use Rattle.std.proofs.Common.{◌≡◌, ℕ, zero, suc, [], ◌∷◌, slice_get, Option, None, Some, Bool, true, false, cond, nat_eq, refl, sym, ap, ◌∙◌, IsSome, is_some, true≢false, position}
+use Rattle.std.proofs.Common.{◌≡◌, ℕ, zero, suc, [], ◌∷◌, length, arith, slice_get, Option, None, Some, Bool, true, false, cond, nat_eq, refl, sym, ap, ◌∙◌, IsSome, is_some, true≢false, position}
 use Rattle.std.proofs.lemmas.Bool.{eqb-true, eq-eqb}
 use Rattle.std.specs.List.{IsDistinct, AllByRecursion}
 use Rattle.std.specs.Map.{lookup, keys_of, values_of}
@@ -9,6 +9,7 @@ use Rattle.std.proofs.lemmas.Map.Made.{lookup_key_passes}
 use Rattle.indexmap.proofs.MapLemmas.{Found-position}
 use Rattle.indexmap.specs.Layout.{set_value_at}
 use Rattle.entry_list.specs.Slots.{Slots, rows_of, row_at, HasSlot, IsRowSlot}
+use Rattle.entry_list.proofs.Rows.{rows-le}
 use Rattle.entry_list.proofs.Lists.{entry-keys, slice_get-keys, slice_get-values}
 
 module _ {V : Type 0} where
@@ -33,6 +34,17 @@ module _ {V : Type 0} where
   no-slot n ((k, None) ∷ es) h = no-slot n es (skips (nat_eq n k) (lookup (nat_eq n) es) h)
   no-slot n ((k, Some v) ∷ es) h =
       both (nat_eq n k) v (lookup (nat_eq n) es) (lookup (nat_eq n) (rows_of es)) h (no-slot n es)
+
+  -- where no slot is empty, a number without a row has no slot
+  pub no-empty : (n : ℕ) (es : Slots V) → length (rows_of es) ≡ length es → lookup (nat_eq n) (rows_of es) ≡ None → HasSlot es n → ⊥
+  no-empty n [] full none slot = cc
+  no-empty n ((k, None) ∷ es) full none slot = absurd (omega (arith, full, rows-le es))
+  no-empty n ((k, Some v) ∷ es) full none slot = by (nat_eq n k) refl none slot (λ later. no-empty n es (omega (arith, full)) later)
+    where
+      by : (b : Bool) → nat_eq n k ≡ b → cond b (Some v) (lookup (nat_eq n) (rows_of es)) ≡ None → IsSome (cond b (Some (Some v)) (lookup (nat_eq n) es))
+          → (lookup (nat_eq n) (rows_of es) ≡ None → HasSlot es n → ⊥) → ⊥
+      by true is gone there rest = cc
+      by false is gone there rest = rest gone there
 
   -- the row of a number is what its slot has
   at-empty : (b : Bool) (o z : Option V) (y : Option (Option V)) → cond b (Some None) y ≡ Some o

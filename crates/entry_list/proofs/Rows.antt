@@ -4,8 +4,9 @@ use Rattle.std.specs.Map.{keys_of, values_of}
 use Rattle.std.proofs.lemmas.Option.{slice_get_within}
 use Rattle.std.proofs.lemmas.List.Edits.{length-remove}
 use Rattle.indexmap.specs.Layout.{set_value_at}
-use Rattle.entry_list.specs.Totals.{total_before}
+use Rattle.entry_list.specs.Totals.{total_before, AreMarks}
 use Rattle.entry_list.specs.Slots.{Slots, row_of, rows_of, marks_of, mark_of, IsRowSlot}
+use Rattle.entry_list.proofs.Totals.{total-le-ones, total-more, total-small}
 use Rattle.entry_list.proofs.Lists.{entry-keys, entry-values, insert-more, one-more, remove-more, set-more, slice_get-keys, slice_get-values, some-pair}
 
 module _ {V : Type 0} where
@@ -96,6 +97,25 @@ module _ {V : Type 0} where
       → slice_get (keys_of (rows_of es)) (total_before i (marks_of es)) ≡ Some n
   number-place n i es r =
       slice_get-keys (total_before i (marks_of es)) (rows_of es) n r.0 (place-row i es n r.0 r.1)
+
+  marks-small : (es : Slots V) → AreMarks (marks_of es)
+  marks-small [] k = omega arith
+  marks-small ((j, None) ∷ es) zero = omega arith
+  marks-small ((j, Some w) ∷ es) zero = omega arith
+  marks-small (e ∷ es) (suc k) = marks-small es k
+
+  -- where no slot is empty, each row stands at the place of its slot
+  pub all-full : (es : Slots V) (place : ℕ) → length (rows_of es) ≡ length es → place < length es
+      → (total_before place (marks_of es) ≡ place) × (get_or (marks_of es) place 0 ≡ 1)
+  all-full es place full within =
+      let marks = marks_of es in
+      let ones : AreMarks marks = marks-small es in
+      let few = total-le-ones (place + 1) (length es) marks ones (omega arith) in
+      let one = total-more place marks in
+      let small = total-small place marks ones in (
+        omega (arith, full, within, length-rows es, few, one, small, ones place),
+        omega (arith, full, within, length-rows es, few, one, small, ones place),
+      )
 
   pub count-all : (es : Slots V) (live : List ℕ) → live ≡ marks_of es
       → length (rows_of es) ≡ total_before (length live) live

@@ -1,6 +1,6 @@
 //! Room for rows, and rows that go and come. Only `keep_slot`, `spare_slot` and `push` take memory.
 ghost use Rattle.std.specs.Prelude.{◌≡◌, ◌≤◌, ◌++◌, ◌∷◌, [], length, Some, None, remove};
-ghost use Rattle.std.specs.Prelude.{slice_get, IfSome, IfNone, OnOk, OnErr, OnSome, IsOk, IsSome};
+ghost use Rattle.std.specs.Prelude.{slice_get, ◌↔◌, IfSome, IfNone, OnOk, OnErr, OnSome, IsOk, IsSome, IsTrue};
 ghost use Rattle.entry_list.specs.Slots.{row_of, rows_of, row_at, without_number, with_number};
 ghost use Rattle.entry_list.specs.Slots.{HasSlot, KeepsSlots, StandsAt, AddsSlot, spare_key, PutsIn};
 ghost use Rattle.entry_list.specs.Slots.{IsEmptySlot, ReplacesRow, rows_before};
@@ -107,7 +107,7 @@ impl<V> EntryList<V> {
     }
 
     /// Puts a row of a number that has none behind all others, with a slot for it where it has none
-    /// yet. Where memory runs out the list stays.
+    /// yet, which is sought only where slots are empty. Where memory runs out the list stays.
     pub fn push(&mut self, number: u64, row: V) -> Result<(), AllocError>
     where
         V: Drop,
@@ -118,12 +118,23 @@ impl<V> EntryList<V> {
         ensures had_slot { HasSlot self.old number → IsOk result }
         ensures err { OnErr result (self.new ≡ self.old) }
     {
-        if self.slots.get_index_of(&number).is_some() {
+        if self.has_empty_slot(number) {
             self.put_last(number, row);
             return Ok(());
         }
         self.add_slot(number, Some(row))?;
         Ok(())
+    }
+
+    // Whether a number that has no row has a slot. Where no slot is empty it has none.
+    fn has_empty_slot(&self, number: u64) -> bool
+        requires { row_at number self.now ≡ None }
+        ensures { IsTrue result ↔ HasSlot self.now number }
+    {
+        if self.len == self.slots.len() {
+            return false;
+        }
+        self.slots.get_index_of(&number).is_some()
     }
 
     /// Puts a row in the place of the one with its number, and gives that one. It takes no memory,

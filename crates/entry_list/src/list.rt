@@ -1,7 +1,7 @@
 //! The list, and what is read of it.
-ghost use Rattle.std.specs.Prelude.{◌≡◌, [], length, None, slice_get, nat_eq};
+ghost use Rattle.std.specs.Prelude.{◌≡◌, ◌<◌, [], length, None, slice_get, slice_index, nat_eq};
 ghost use Rattle.std.specs.Prelude.{option_map, option_copied, IfSome, IfNone, IfOk};
-ghost use Rattle.entry_list.specs.Slots.{rows_of, numbers_of, row_at, IsRowSlot};
+ghost use Rattle.entry_list.specs.Slots.{rows_of, numbers_of, row_at, marks_of, rows_before, IsRowSlot};
 ghost use Rattle.std.specs.List.{IsDistinct};
 
 use crate::marks::Marks;
@@ -20,7 +20,8 @@ use std::marker::Model;
 /// for cumulative frequency tables, 1994), with one level of sums in place of a tree.
 ///
 /// To look a row up by its number takes a look into the table; a place, and the row at a place,
-/// take time by the number of blocks and the length of one.
+/// take time by the number of blocks and the length of one. While no slot is empty, the row at a
+/// place is found at once.
 pub struct EntryList<V> {
     pub(crate) slots: IndexMap<u64, Option<V>, NumberHash>,
     pub(crate) live: Marks,
@@ -78,6 +79,11 @@ impl<V> EntryList<V> {
         *self.slots.allocator()
     }
 
+    /// How the list finds numbers.
+    pub fn hash(&self) -> NumberHash {
+        *self.slots.hasher()
+    }
+
     /// The number of rows. No number has two.
     pub fn len(&self) -> usize
         ensures len { result ≡ length (rows_of self.now) }
@@ -114,10 +120,25 @@ impl<V> EntryList<V> {
         if place >= self.len {
             return None;
         }
-        let slot = self.live.place_of(place);
+        let slot = self.slot_at(place);
         match self.slots.get_index(slot) {
             Some((number, row)) => Some((*number, row.as_ref().unwrap())),
             None => None,
+        }
+    }
+
+    // The slot of the row before which so many others stand. Where no slot is empty it is the one
+    // at that place.
+    fn slot_at(&self, place: usize) -> usize
+        requires { place < length (rows_of self.now) }
+        ensures marked { slice_index (marks_of self.now) result ≡ 1 }
+        ensures before { rows_before result self.now ≡ place }
+        ensures within { result < length self.now }
+    {
+        if self.len == self.slots.len() {
+            place
+        } else {
+            self.live.place_of(place)
         }
     }
 
