@@ -6,7 +6,7 @@ pub use Rattle.cad_map.proofs.Lists.ElementFacts.{Contains-filter, Contains-one,
 pub use Rattle.cad_map.proofs.Lists.TakenOut.{EachPair-append}
 pub use Rattle.cad_map.proofs.Lists.RowsLeft.{none-filter, none-push, sum-without}
 pub use Rattle.cad_map.proofs.Lists.RowsInTurn.{row_with-earlier, row_with-there}
-pub use Rattle.cad_map.proofs.Lists.Entries.{AreNumbered-push, lookup-row, take-more, values_of-push}
+pub use Rattle.cad_map.proofs.Lists.Entries.{AreNumbered-push, lookup-row, numbered-with, numbered-without, take-more, values-with, values-without, values_of-push}
 pub use Rattle.cad_map.proofs.Lists.PairsByPlace.{AllPairs-from_EachPair, EachPair-from_AllPairs}
 -- boundaries: their canonical order, and the faces on both hands of their sides
 pub use Rattle.cad_map.proofs.Boundaries.CanonicalOrder.{IsPermutation-canonical_order, canonical_order-canonical_order, canonical_order-permuted, each_canonical, is_face-place, map-canonical_form}

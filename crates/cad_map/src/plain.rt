@@ -256,34 +256,31 @@ impl PlainMap {
         self.retired.push(no)
     }
 
-    /// Puts a point in the place of the one with its number. Where memory runs out the map stays.
-    pub fn set_point(&mut self, row: PointRow) -> Result<(), Memory>
+    /// Puts a point in the place of the one with its number. It takes no memory.
+    pub fn set_point(&mut self, row: PointRow)
         requires { IsSome (point_of self.old row.number) }
-        ensures ok { OnOk result
-            (self.new ≡ record self.old { points = with_row (λ r. r.number) row self.old.points }) }
-        ensures err { OnErr result (self.new ≡ self.old) }
+        ensures { self.new
+            ≡ record self.old { points = with_row (λ r. r.number) row self.old.points } }
     {
-        self.points.set(row)
+        self.points.set(row);
     }
 
-    /// Puts a parcel in the place of the one with its number. Where memory runs out the map stays.
-    pub fn set_parcel(&mut self, row: ParcelRow) -> Result<(), Memory>
+    /// Puts a parcel in the place of the one with its number. It takes no memory.
+    pub fn set_parcel(&mut self, row: ParcelRow)
         requires { IsSome (parcel_of self.old row.number) }
-        ensures ok { OnOk result (self.new
-            ≡ record self.old { parcels = with_row (λ r. r.number) row self.old.parcels }) }
-        ensures err { OnErr result (self.new ≡ self.old) }
+        ensures { self.new
+            ≡ record self.old { parcels = with_row (λ r. r.number) row self.old.parcels } }
     {
-        self.parcels.set(row)
+        self.parcels.set(row);
     }
 
-    /// Puts a string in the place of the one with its number. Where memory runs out the map stays.
-    pub fn set_string(&mut self, row: StringRow) -> Result<(), Memory>
+    /// Puts a string in the place of the one with its number. It takes no memory.
+    pub fn set_string(&mut self, row: StringRow)
         requires { IsSome (string_of self.old row.number) }
-        ensures ok { OnOk result (self.new
-            ≡ record self.old { strings = with_row (λ r. r.number) row self.old.strings }) }
-        ensures err { OnErr result (self.new ≡ self.old) }
+        ensures { self.new
+            ≡ record self.old { strings = with_row (λ r. r.number) row self.old.strings } }
     {
-        self.strings.set(row)
+        self.strings.set(row);
     }
 
     /// Takes the point with a number away, if there is one.

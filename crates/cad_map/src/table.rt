@@ -1,12 +1,12 @@
 //! Rows in order of entry, found by their numbers.
 ghost use Rattle.std.specs.Prelude.{◌≡◌, ℕ, ◌++◌, ◌∷◌, [], None, length, slice_get, IsSome, IfOk, OnOk, OnErr};
-ghost use Rattle.std.specs.Map.Iter.{GivesInOrder};
+ghost use Rattle.std.specs.Map.{values_of};
 ghost use Rattle.std.specs.Option.{option_copied};
-ghost use Rattle.cad_map.specs.Table.{row_with, without_row, with_row};
+ghost use Rattle.entry_list.specs.Slots.{rows_of};
+ghost use Rattle.cad_map.specs.Table.{row_with, without_row, with_row, AreNumbered};
 
 use cad_rows::Memory;
-use indexmap::IndexMap;
-use indexmap::map::IntoValues;
+use entry_list::EntryList;
 use number_hash::NumberHash;
 use std::alloc::Global;
 use std::marker::Model;
@@ -27,19 +27,20 @@ pub trait Numbered: Drop {
 /// Rows in order of entry. No two have the same number.
 #[derive(Drop)]
 pub struct Table<R: Numbered> {
-    rows: IndexMap<u32, R, NumberHash>,
+    rows: EntryList<R>,
 }
 
 impl<R: Numbered> Model for Table<R> {
-    ghost use Rattle.std.specs.Prelude.{List, nat_eq};
-    ghost use Rattle.indexmap.specs.IndexMap.{values, IsUnique};
+    ghost use Rattle.std.specs.Prelude.{List};
+    ghost use Rattle.std.specs.Map.{values_of};
+    ghost use Rattle.entry_list.specs.Slots.{rows_of};
     ghost use Rattle.cad_map.specs.Table.{AreNumbered};
 
     ghost Value = { List R };
 
-    ghost view = { λ a. values a.rows };
+    ghost view = { λ a. values_of (rows_of a.rows) };
 
-    ghost invariant = { λ a. AreNumbered R.number_of a.rows.entries × IsUnique nat_eq a.rows };
+    ghost invariant = { λ a. AreNumbered R.number_of (rows_of a.rows) };
 }
 
 impl<R: Numbered> Table<R> {
@@ -48,7 +49,7 @@ impl<R: Numbered> Table<R> {
         ensures { result ≡ [] }
     {
         Table {
-            rows: IndexMap::with_hasher(alloc, hash),
+            rows: EntryList::new(alloc, hash),
         }
     }
 
@@ -57,18 +58,18 @@ impl<R: Numbered> Table<R> {
         ensures { IfOk result (λ table. table ≡ []) }
     {
         Ok(Table {
-            rows: IndexMap::with_capacity_and_hasher(alloc, rows, hash)?,
+            rows: EntryList::with_room(alloc, hash, rows)?,
         })
     }
 
     /// What the table takes its memory from.
     pub fn allocator(&self) -> Global {
-        *self.rows.allocator()
+        self.rows.allocator()
     }
 
     /// How the table finds numbers.
     pub fn hash(&self) -> NumberHash {
-        *self.rows.hasher()
+        self.rows.hash()
     }
 
     pub fn len(&self) -> usize
@@ -81,28 +82,15 @@ impl<R: Numbered> Table<R> {
     pub fn at(&self, place: usize) -> Option<&R>
         ensures { option_copied result ≡ slice_get self.now place }
     {
-        let (_, row) = self.rows.get_index(place)?;
+        let (_, row) = self.rows.at(place)?;
         Some(row)
     }
 
-    // Where a row stands if the rows came one after another, without a gap in their numbers.
-    fn guessed_place(&self, number: u32) -> usize {
-        match self.rows.get_index(0) {
-            Some((first, _)) => number.wrapping_sub(*first) as usize,
-            None => 0,
-        }
-    }
-
-    /// The row with a number. It is looked for first where it mostly is.
+    /// The row with a number.
     pub fn get(&self, number: u32) -> Option<&R>
         ensures { option_copied result ≡ row_with R.number_of number self.now }
     {
-        if let Some((key, row)) = self.rows.get_index(self.guessed_place(number)) {
-            if *key == number {
-                return Some(row);
-            }
-        }
-        self.rows.get(&number)
+        self.rows.get(u64::from(number))
     }
 
     /// Puts a row last.
@@ -111,40 +99,41 @@ impl<R: Numbered> Table<R> {
         ensures ok { OnOk result (self.new ≡ self.old ++ row ∷ []) }
         ensures err { OnErr result (self.new ≡ self.old) }
     {
-        self.rows.insert(row.number(), row)?;
+        let number = u64::from(row.number());
+        self.rows.push(number, row)?;
         Ok(())
     }
 
-    /// Puts a row in the place of the one with its number.
-    pub fn set(&mut self, row: R) -> Result<(), Memory>
+    /// Puts a row in the place of the one with its number. It takes no memory.
+    pub fn set(&mut self, row: R)
         requires { IsSome (row_with R.number_of (R.number_of row) self.old) }
-        ensures ok { OnOk result (self.new ≡ with_row R.number_of row self.old) }
-        ensures err { OnErr result (self.new ≡ self.old) }
+        ensures { self.new ≡ with_row R.number_of row self.old }
     {
-        self.rows.insert(row.number(), row)?;
-        Ok(())
+        let number = u64::from(row.number());
+        let _ = self.rows.replace(number, row);
     }
 
-    /// Takes the row with a number away, if there is one.
+    /// Takes the row with a number away, if there is one. It takes no memory.
     pub fn take(&mut self, number: u32)
         ensures { self.new ≡ without_row R.number_of number self.old }
     {
-        let _ = self.rows.shift_remove(&number);
+        let _ = self.rows.take(u64::from(number));
     }
 
-    /// The rows themselves, in their order. It takes no memory.
-    pub fn into_rows(self) -> IntoValues<u32, R>
-        ensures rows { result ≡ self }
-        ensures gives { GivesInOrder R }
+    /// The rows under their numbers, as they stand. It takes no memory.
+    pub fn into_list(self) -> EntryList<R>
+        ensures rows { values_of (rows_of result) ≡ self }
+        ensures numbered { AreNumbered R.number_of (rows_of result) }
     {
-        self.rows.into_values()
+        let Table { rows } = self;
+        rows
     }
 
     /// The same rows.
     pub fn copy(&self) -> Result<Table<R>, Memory>
         ensures { IfOk result (λ copied. copied ≡ self.now) }
     {
-        let mut copied = Table::new(*self.rows.allocator(), self.hash());
+        let mut copied = Table::with_room(self.allocator(), self.hash(), self.rows.len())?;
         for place in 0..self.len() {
             let row = self.at(place).unwrap();
             copied.put(row.copied()?)?;

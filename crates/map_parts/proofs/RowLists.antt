@@ -1,57 +1,18 @@
 -- Rows under their numbers, and the list of the rows.
-use Rattle.std.proofs.Common.{Bor, ◌≡◌, ◌≢◌, ◌++◌, length, ℕ, zero, suc, List, [], ◌∷◌, Bool, true, false, ◌==◌, map, find, refl, sym, ap, ◌∙◌, subst, Option, Some, None, slice_get, insert}
+use Rattle.std.proofs.Common.{Bor, ◌≡◌, ℕ, zero, suc, List, [], ◌∷◌, Bool, true, false, ◌==◌, map, find, refl, sym, ap, ◌∙◌, subst, Option, Some, None, slice_get, insert}
 use Rattle.std.specs.Option.{option_copied}
 use Rattle.std.specs.Prelude.{IsSome, option_map, is_some, IfSome, IfNone}
 use Rattle.std.specs.List.{list_any}
 use Rattle.std.specs.Map.{values_of}
-use Rattle.std.proofs.Math.Seq.{take-append_seam}
 use Rattle.std.proofs.lemmas.Option.{slice_get-map}
 use Rattle.indexmap.proofs.SetLemmas.{map-insert}
-use Rattle.entry_list.specs.Slots.{Slots, rows_of, row_at, without_number, with_number, StandsAt, PutsIn}
-use Rattle.cad_map.proofs.CallerLemmas.{lookup-row, row_with-earlier}
+use Rattle.entry_list.specs.Slots.{Slots, rows_of, row_at, StandsAt, PutsIn}
+use Rattle.cad_map.proofs.CallerLemmas.{lookup-row}
 use Rattle.map_parts.specs.Rows.{rows_in}
-use Rattle.cad_map.specs.Table.{row_with, without_row, with_row, AreNumbered}
-use Rattle.cad_map.specs.Valid.{EachPair}
+use Rattle.cad_map.specs.Table.{row_with, AreNumbered}
 
 module _ {R : Type 0} (number : R → ℕ) where
-  -- the rows without one, and with another in its place
-  pub values-without : (n : ℕ) (es : List (ℕ × R)) → AreNumbered number es
-      → values_of (without_number n es) ≡ without_row number n (values_of es)
-  values-without n [] h = refl
-  values-without n (e ∷ es) h = by (e.0 == n) refl (values-without n es h.1)
-    where
-      by : (t : Bool) → (e.0 == n) ≡ t → values_of (without_number n es) ≡ without_row number n (values_of es)
-          → values_of (without_number n (e ∷ es)) ≡ without_row number n (values_of (e ∷ es))
-      by true is rest = let own : (number e.1 == n) ≡ true = ap (λ (k : ℕ). k == n) (sym h.0) ∙ is in rw (is, own) rest
-      by false is rest = let own : (number e.1 == n) ≡ false = ap (λ (k : ℕ). k == n) (sym h.0) ∙ is in rw (is, own) (ap (λ (rs : List R). e.1 ∷ rs) rest)
-
-  pub values-with : (row : R) (es : List (ℕ × R)) → AreNumbered number es
-      → values_of (with_number (number row) row es) ≡ with_row number row (values_of es)
-  values-with row [] h = refl
-  values-with row (e ∷ es) h = by (e.0 == number row) refl (values-with row es h.1)
-    where
-      by : (t : Bool) → (e.0 == number row) ≡ t → values_of (with_number (number row) row es) ≡ with_row number row (values_of es)
-          → values_of (with_number (number row) row (e ∷ es)) ≡ with_row number row (values_of (e ∷ es))
-      by true is rest = let own : (number e.1 == number row) ≡ true = ap (λ (k : ℕ). k == number row) (sym h.0) ∙ is in rw (is, own) (ap (λ (rs : List R). row ∷ rs) rest)
-      by false is rest = let own : (number e.1 == number row) ≡ false = ap (λ (k : ℕ). k == number row) (sym h.0) ∙ is in rw (is, own) (ap (λ (rs : List R). e.1 ∷ rs) rest)
-
   -- each row stays under its number
-  pub numbered-without : (n : ℕ) (es : List (ℕ × R)) → AreNumbered number es → AreNumbered number (without_number n es)
-  numbered-without n [] h = tt
-  numbered-without n (e ∷ es) h = by (e.0 == n) refl (numbered-without n es h.1)
-    where
-      by : (t : Bool) → (e.0 == n) ≡ t → AreNumbered number (without_number n es) → AreNumbered number (without_number n (e ∷ es))
-      by true is rest = rw is rest
-      by false is rest = rw is (h.0, rest)
-
-  pub numbered-with : (row : R) (es : List (ℕ × R)) → AreNumbered number es → AreNumbered number (with_number (number row) row es)
-  numbered-with row [] h = tt
-  numbered-with row (e ∷ es) h = by (e.0 == number row) refl (numbered-with row es h.1)
-    where
-      by : (t : Bool) → (e.0 == number row) ≡ t → AreNumbered number (with_number (number row) row es) → AreNumbered number (with_number (number row) row (e ∷ es))
-      by true is rest = rw is (refl, rest)
-      by false is rest = rw is (h.0, rest)
-
   pub numbered-insert : (es : List (ℕ × R)) (place : ℕ) (row : R) → AreNumbered number es → AreNumbered number (insert es place (number row, row))
   numbered-insert es zero row h = (refl, h)
   numbered-insert [] (suc place) row h = (refl, tt)
@@ -121,16 +82,3 @@ some-by_numbers number n (r ∷ rows) = by (number r == n) refl (some-by_numbers
 pub some-copied : {R : Type 0} (o : Option (Bor R)) (row : R) → option_copied o ≡ Some row → IsSome o
 some-copied None row is = cc
 some-copied (Some r) row is = refl
-
--- ---- Rows moved one after another
-
--- no row before one has its number
-pub row-new : {R : Type 0} (number : R → ℕ) (before rest : List R) (row : R) → EachPair (λ a b. a ≢ b) (map number (before ++ row ∷ rest))
-    → row_with number (number row) before ≡ None
-row-new {R} number before rest row each =
-    subst (λ (rs : List R). row_with number (number row) rs ≡ None) (take-append_seam before (row ∷ rest))
-    (row_with-earlier number (before ++ row ∷ rest) (length before) row each (there before))
-  where
-    there : (rs : List R) → slice_get (rs ++ row ∷ rest) (length rs) ≡ Some row
-    there [] = refl
-    there (r ∷ rs) = there rs

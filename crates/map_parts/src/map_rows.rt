@@ -6,7 +6,7 @@ ghost use Rattle.cad_map.specs.Valid.{EachPair, HasSoundRows};
 ghost use Rattle.map_parts.specs.Rows.{rows_in, map_in};
 
 use crate::rows::Rows;
-use cad_map::{Numbered, RowTables, Table};
+use cad_map::{Numbered, RowTables};
 use cad_rows::{Memory, Numbers, ParcelNo, ParcelRow, PointRow, SourceRow, StringNo, StringRow};
 use number_hash::NumberHash;
 use std::alloc::Global;
@@ -52,8 +52,8 @@ impl Drop for MapRows {
 }
 
 impl MapRows {
-    /// The rows of a map, whose numbers stand once. They are moved, and each table ends when its rows
-    /// are.
+    /// The rows of a map, of whose retired numbers no two are the same. They stay where they stand:
+    /// only the retired ones take memory.
     pub fn of(alloc: Global, tables: RowTables) -> Result<MapRows, Memory>
         requires { HasSoundRows (rows_of_tables tables) }
         ensures { IfOk result (λ rows. map_in rows ≡ rows_of_tables tables) }
@@ -67,10 +67,10 @@ impl MapRows {
         } = tables;
         Ok(MapRows {
             retired: retired_rows(alloc, sources.hash(), &retired)?,
-            sources: moved(alloc, sources)?,
-            points: moved(alloc, points)?,
-            parcels: moved(alloc, parcels)?,
-            strings: moved(alloc, strings)?,
+            sources: Rows::of(sources),
+            points: Rows::of(points),
+            parcels: Rows::of(parcels),
+            strings: Rows::of(strings),
         })
     }
 
@@ -81,18 +81,6 @@ impl MapRows {
     {
         self.strings.get(no.get()).unwrap()
     }
-}
-
-// Rows out of a table.
-fn moved<R: Numbered>(alloc: Global, table: Table<R>) -> Result<Rows<R>, Memory>
-    requires { EachPair (λ a b. a ≢ b) (map_of R.number_of table) }
-    ensures { IfOk result (λ rows. rows_in rows ≡ table) }
-{
-    let mut rows = Rows::with_room(alloc, table.hash(), table.len())?;
-    for row in table.into_rows() {
-        rows.push(row)?;
-    }
-    Ok(rows)
 }
 
 fn retired_rows(

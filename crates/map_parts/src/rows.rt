@@ -5,7 +5,7 @@ ghost use Rattle.entry_list.specs.Slots.{HasSlot, KeepsSlots};
 ghost use Rattle.cad_map.specs.Table.{row_with, without_row, with_row};
 ghost use Rattle.map_parts.specs.Rows.{rows_in};
 
-use cad_map::Numbered;
+use cad_map::{Numbered, Table};
 use cad_rows::Memory;
 use entry_list::EntryList;
 use number_hash::NumberHash;
@@ -47,6 +47,15 @@ impl<R: Numbered> Rows<R> {
         Ok(Rows {
             list: EntryList::with_room(alloc, hash, rows)?,
         })
+    }
+
+    /// The rows of a table, as they stand there. It takes no memory.
+    pub fn of(table: Table<R>) -> Rows<R>
+        ensures { rows_in result ≡ table }
+    {
+        Rows {
+            list: table.into_list(),
+        }
     }
 
     /// What the rows take their memory from.

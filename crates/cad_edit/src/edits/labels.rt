@@ -26,5 +26,6 @@ pub(crate) fn rename(map: &mut PlainMap, no: ParcelNo, label: &Label) -> Result<
     };
     let mut row = row.copy()?;
     row.label = label.copy()?;
-    map.set_parcel(row)
+    map.set_parcel(row);
+    Ok(())
 }

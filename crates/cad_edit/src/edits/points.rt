@@ -45,5 +45,6 @@ pub(crate) fn move_point(map: &mut PlainMap, no: PointNo, position: Pt) -> Resul
     };
     let mut row = row.copy()?;
     row.position = position;
-    map.set_point(row)
+    map.set_point(row);
+    Ok(())
 }

@@ -168,7 +168,8 @@ fn change_of_point(map: &mut PlainMap, no: PointNo, change: &SourceChange) -> Re
     };
     let mut row = row.copy()?;
     row.sources = sources_changed(&row.sources, change, map.allocator())?;
-    map.set_point(row)
+    map.set_point(row);
+    Ok(())
 }
 
 fn change_of_string(map: &mut PlainMap, no: StringNo, change: &SourceChange) -> Result<(), Memory>
@@ -181,7 +182,8 @@ fn change_of_string(map: &mut PlainMap, no: StringNo, change: &SourceChange) -> 
     };
     let mut row = row.copy()?;
     row.sources = sources_changed(&row.sources, change, map.allocator())?;
-    map.set_string(row)
+    map.set_string(row);
+    Ok(())
 }
 
 fn change_of_parcel(map: &mut PlainMap, no: ParcelNo, change: &SourceChange) -> Result<(), Memory>
@@ -194,5 +196,6 @@ fn change_of_parcel(map: &mut PlainMap, no: ParcelNo, change: &SourceChange) -> 
     };
     let mut row = row.copy()?;
     row.sources = sources_changed(&row.sources, change, map.allocator())?;
-    map.set_parcel(row)
+    map.set_parcel(row);
+    Ok(())
 }

@@ -1,12 +1,10 @@
 -- Entries of a table, each with its row under the row's number, beside the list of the rows.
-use Rattle.std.proofs.Common.{◌≡◌, ℕ, List, [], ◌∷◌, ◌++◌, Bool, true, false, cond, not, nat_eq, refl, sym, ap, ◌∙◌, true≢false, Option, Some, None, is_some, zero, suc, take, slice_get, subst, ◌+◌, add-one}
-use Rattle.std.specs.Prelude.{if◌then◌else◌}
-use Rattle.std.specs.Map.{lookup, keys_of, values_of, remove_entry}
+use Rattle.std.proofs.Common.{◌≡◌, ℕ, List, [], ◌∷◌, ◌++◌, ◌==◌, Bool, true, false, cond, nat_eq, refl, sym, ap, ◌∙◌, Option, Some, None, zero, suc, take, slice_get, subst, ◌+◌, add-one}
+use Rattle.std.specs.Map.{lookup, keys_of, values_of}
 use Rattle.std.specs.List.{AllByRecursion, IsDistinct}
 use Rattle.std.proofs.lemmas.Cmp.{nat_eq_equiv}
-use Rattle.std.proofs.lemmas.Bool.{eqb-true}
 use Rattle.std.proofs.lemmas.Map.Keys.{IsDistinct-tail, IsDistinct-head}
-use Rattle.indexmap.specs.IndexMap.{insert_entry}
+use Rattle.entry_list.specs.Slots.{with_number, without_number}
 use Rattle.cad_map.specs.Table.{row_with, without_row, with_row, AreNumbered}
 
 module _ {R : Type 0} (number : R → ℕ) where
@@ -29,80 +27,43 @@ module _ {R : Type 0} (number : R → ℕ) where
   values_of-push [] k r = refl
   values_of-push (e ∷ es) k r = ap (λ (rs : List R). e.1 ∷ rs) (values_of-push es k r)
 
-  -- ---- No later row has the number of the one that is changed
-
-  with_row-others : (n : ℕ) (new : R) (es : List (ℕ × R)) → n ≡ number new → AreNumbered number es → AllByRecursion (λ k. nat_eq n k ≡ false) (keys_of es) → values_of es ≡ with_row number new (values_of es)
-  with_row-others n new [] same h other = refl
-  with_row-others n new (e ∷ es) same h other =
-      let differs : nat_eq (number e.1) (number new) ≡ false = ap (λ (m : ℕ). nat_eq (number e.1) m) (sym same) ∙ sym (same_test n e.0 e.1 h.0) ∙ other.0 in
-      ap (λ (rs : List R). e.1 ∷ rs) (with_row-others n new es same h.1 other.1)
-      ∙ ap (λ (b : Bool). (if b then new else e.1) ∷ with_row number new (values_of es)) (sym differs)
-
-  without_row-others : (n : ℕ) (es : List (ℕ × R)) → AreNumbered number es → AllByRecursion (λ k. nat_eq n k ≡ false) (keys_of es) → values_of es ≡ without_row number n (values_of es)
-  without_row-others n [] h other = refl
-  without_row-others n (e ∷ es) h other =
-      let differs : nat_eq (number e.1) n ≡ false = sym (same_test n e.0 e.1 h.0) ∙ other.0 in
-      ap (λ (rs : List R). e.1 ∷ rs) (without_row-others n es h.1 other.1)
-      ∙ ap (λ (b : Bool). cond (not b) (e.1 ∷ without_row number n (values_of es)) (without_row number n (values_of es))) (sym differs)
-
-  -- keys that are other than k are other than n, where k passes the test of n
-  others-same : (n k : ℕ) (ks : List ℕ) → nat_eq n k ≡ true → AllByRecursion (λ j. nat_eq k j ≡ false) ks → AllByRecursion (λ j. nat_eq n j ≡ false) ks
-  others-same n k [] same h = tt
-  others-same n k (j ∷ ks) same h = (nat_eq_equiv.congr n k j same ∙ h.0, others-same n k ks same h.1)
-
-  -- a row put under a number that is there takes the place of the row with the number
-  pub values_of-insert_entry : (new : R) (es : List (ℕ × R)) → AreNumbered number es → IsDistinct nat_eq (keys_of es) → is_some (row_with number (number new) (values_of es)) ≡ true
-      → values_of (insert_entry nat_eq es (number new) new) ≡ with_row number new (values_of es)
-  values_of-insert_entry new [] h unique there = absurd (true≢false (sym there))
-  values_of-insert_entry new (e ∷ es) h unique there =
-      by (λ later. values_of-insert_entry new es h.1 (IsDistinct-tail nat_eq e.0 (keys_of es) unique) later) (nat_eq (number new) e.0) refl
+  -- the rows without one, and with another in its place
+  pub values-without : (n : ℕ) (es : List (ℕ × R)) → AreNumbered number es
+      → values_of (without_number n es) ≡ without_row number n (values_of es)
+  values-without n [] h = refl
+  values-without n (e ∷ es) h = by (e.0 == n) refl (values-without n es h.1)
     where
-      by : (is_some (row_with number (number new) (values_of es)) ≡ true → values_of (insert_entry nat_eq es (number new) new) ≡ with_row number new (values_of es))
-          → (b : Bool) → nat_eq (number new) e.0 ≡ b → values_of (insert_entry nat_eq (e ∷ es) (number new) new) ≡ with_row number new (values_of (e ∷ es))
-      by again true is =
-          let here : nat_eq (number e.1) (number new) ≡ true = sym (same_test (number new) e.0 e.1 h.0) ∙ is in
-          ap (λ (b : Bool). values_of (if b then (e.0, new) ∷ es else e ∷ insert_entry nat_eq es (number new) new)) is
-          ∙ ap (λ (rs : List R). new ∷ rs) (with_row-others (number new) new es refl h.1 (others-same (number new) e.0 (keys_of es) is (IsDistinct-head nat_eq e.0 (keys_of es) unique)))
-          ∙ ap (λ (b : Bool). (if b then new else e.1) ∷ with_row number new (values_of es)) (sym here)
-      by again false is =
-          let elsewhere : nat_eq (number e.1) (number new) ≡ false = sym (same_test (number new) e.0 e.1 h.0) ∙ is in
-          let later : is_some (row_with number (number new) (values_of es)) ≡ true = sym (ap (λ (b : Bool). is_some (cond b (Some e.1) (row_with number (number new) (values_of es)))) elsewhere) ∙ there in
-          ap (λ (b : Bool). values_of (if b then (e.0, new) ∷ es else e ∷ insert_entry nat_eq es (number new) new)) is
-          ∙ ap (λ (rs : List R). e.1 ∷ rs) (again later)
-          ∙ ap (λ (b : Bool). (if b then new else e.1) ∷ with_row number new (values_of es)) (sym elsewhere)
+      by : (t : Bool) → (e.0 == n) ≡ t → values_of (without_number n es) ≡ without_row number n (values_of es)
+          → values_of (without_number n (e ∷ es)) ≡ without_row number n (values_of (e ∷ es))
+      by true is rest = let own : (number e.1 == n) ≡ true = ap (λ (k : ℕ). k == n) (sym h.0) ∙ is in rw (is, own) rest
+      by false is rest = let own : (number e.1 == n) ≡ false = ap (λ (k : ℕ). k == n) (sym h.0) ∙ is in rw (is, own) (ap (λ (rs : List R). e.1 ∷ rs) rest)
 
-  pub AreNumbered-insert_entry : (new : R) (es : List (ℕ × R)) → AreNumbered number es → AreNumbered number (insert_entry nat_eq es (number new) new)
-  AreNumbered-insert_entry new [] h = (refl, tt)
-  AreNumbered-insert_entry new (e ∷ es) h = by (AreNumbered-insert_entry new es h.1) (nat_eq (number new) e.0) refl
+  pub values-with : (row : R) (es : List (ℕ × R)) → AreNumbered number es
+      → values_of (with_number (number row) row es) ≡ with_row number row (values_of es)
+  values-with row [] h = refl
+  values-with row (e ∷ es) h = by (e.0 == number row) refl (values-with row es h.1)
     where
-      by : AreNumbered number (insert_entry nat_eq es (number new) new) → (b : Bool) → nat_eq (number new) e.0 ≡ b → AreNumbered number (insert_entry nat_eq (e ∷ es) (number new) new)
-      by again true is = rw is (sym (eqb-true (number new) e.0 is), h.1)
-      by again false is = rw is (h.0, again)
+      by : (t : Bool) → (e.0 == number row) ≡ t → values_of (with_number (number row) row es) ≡ with_row number row (values_of es)
+          → values_of (with_number (number row) row (e ∷ es)) ≡ with_row number row (values_of (e ∷ es))
+      by true is rest = let own : (number e.1 == number row) ≡ true = ap (λ (k : ℕ). k == number row) (sym h.0) ∙ is in rw (is, own) (ap (λ (rs : List R). row ∷ rs) rest)
+      by false is rest = let own : (number e.1 == number row) ≡ false = ap (λ (k : ℕ). k == number row) (sym h.0) ∙ is in rw (is, own) (ap (λ (rs : List R). e.1 ∷ rs) rest)
 
-  -- the entry under a number is taken out, and so is the row with that number
-  pub values_of-remove_entry : (n : ℕ) (es : List (ℕ × R)) → AreNumbered number es → IsDistinct nat_eq (keys_of es) → values_of (remove_entry (nat_eq n) es) ≡ without_row number n (values_of es)
-  values_of-remove_entry n [] h unique = refl
-  values_of-remove_entry n (e ∷ es) h unique = by (values_of-remove_entry n es h.1 (IsDistinct-tail nat_eq e.0 (keys_of es) unique)) (nat_eq n e.0) refl
+  -- each row stays under its number
+  pub numbered-without : (n : ℕ) (es : List (ℕ × R)) → AreNumbered number es → AreNumbered number (without_number n es)
+  numbered-without n [] h = tt
+  numbered-without n (e ∷ es) h = by (e.0 == n) refl (numbered-without n es h.1)
     where
-      by : values_of (remove_entry (nat_eq n) es) ≡ without_row number n (values_of es) → (b : Bool) → nat_eq n e.0 ≡ b → values_of (remove_entry (nat_eq n) (e ∷ es)) ≡ without_row number n (values_of (e ∷ es))
-      by again true is =
-          let here : nat_eq (number e.1) n ≡ true = sym (same_test n e.0 e.1 h.0) ∙ is in
-          ap (λ (b : Bool). values_of (cond b es (e ∷ remove_entry (nat_eq n) es))) is
-          ∙ without_row-others n es h.1 (others-same n e.0 (keys_of es) is (IsDistinct-head nat_eq e.0 (keys_of es) unique))
-          ∙ ap (λ (b : Bool). cond (not b) (e.1 ∷ without_row number n (values_of es)) (without_row number n (values_of es))) (sym here)
-      by again false is =
-          let elsewhere : nat_eq (number e.1) n ≡ false = sym (same_test n e.0 e.1 h.0) ∙ is in
-          ap (λ (b : Bool). values_of (cond b es (e ∷ remove_entry (nat_eq n) es))) is
-          ∙ ap (λ (rs : List R). e.1 ∷ rs) again
-          ∙ ap (λ (b : Bool). cond (not b) (e.1 ∷ without_row number n (values_of es)) (without_row number n (values_of es))) (sym elsewhere)
+      by : (t : Bool) → (e.0 == n) ≡ t → AreNumbered number (without_number n es) → AreNumbered number (without_number n (e ∷ es))
+      by true is rest = rw is rest
+      by false is rest = rw is (h.0, rest)
 
-  pub AreNumbered-remove_entry : (n : ℕ) (es : List (ℕ × R)) → AreNumbered number es → AreNumbered number (remove_entry (nat_eq n) es)
-  AreNumbered-remove_entry n [] h = tt
-  AreNumbered-remove_entry n (e ∷ es) h = by (AreNumbered-remove_entry n es h.1) (nat_eq n e.0) refl
+  pub numbered-with : (row : R) (es : List (ℕ × R)) → AreNumbered number es → AreNumbered number (with_number (number row) row es)
+  numbered-with row [] h = tt
+  numbered-with row (e ∷ es) h = by (e.0 == number row) refl (numbered-with row es h.1)
     where
-      by : AreNumbered number (remove_entry (nat_eq n) es) → (b : Bool) → nat_eq n e.0 ≡ b → AreNumbered number (remove_entry (nat_eq n) (e ∷ es))
-      by again true is = rw is h.1
-      by again false is = rw is (h.0, again)
+      by : (t : Bool) → (e.0 == number row) ≡ t → AreNumbered number (with_number (number row) row es) → AreNumbered number (with_number (number row) row (e ∷ es))
+      by true is rest = rw is (refl, rest)
+      by false is rest = rw is (h.0, rest)
 
   -- a fact of each key holds of the number of each row
   number-from_keys : (P : ℕ → Type 0) (es : List (ℕ × R)) (i : ℕ) (r : R) → AreNumbered number es → AllByRecursion P (keys_of es) → slice_get (values_of es) i ≡ Some r → P (number r)

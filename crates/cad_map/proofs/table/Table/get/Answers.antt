@@ -1,13 +1,13 @@
-use Rattle.std.proofs.Common.{rules, ◌≡◌, ◌∙◌, sym, ap, Some, nat_eq}
-use Rattle.std.specs.Map.{lookup}
+use Rattle.std.proofs.Common.{◌≡◌, ◌∙◌, ap}
+use Rattle.std.specs.Option.{option_copied}
+use Rattle.entry_list.specs.Slots.{rows_of, row_at}
 use Rattle.cad_map.proofs.Lists.Entries.{lookup-row}
 use Rattle.cad_map.specs.Table.{row_with}
 use Rattle.cad_map.proofs.table.Table.get.Goals as goal
 
-pub returns-then-key-number : goal.returns-then-key-number
-returns-then-key-number g c =
-    let found : lookup (nat_eq c.args.number) c.self.inside.rows.entries ≡ Some c.in-Some.row.now = search rules in
-    sym found ∙ lookup-row g.R.Numbered.number_of c.args.number c.self.inside.rows.entries c.self.invariant.0 ∙ ap (row_with g.R.Numbered.number_of c.args.number) c.self.view_is
-
 pub returns : goal.returns
-returns g c = c.get.ensures.value ∙ lookup-row g.R.Numbered.number_of c.args.number c.self.inside.rows.entries c.self.invariant.0 ∙ ap (row_with g.R.Numbered.number_of c.args.number) c.self.view_is
+returns g c =
+    let number = g.R.Numbered.number_of in
+    let found : option_copied c.get.result ≡ row_at c.args.number c.self.inside.rows = rw c.from.ensures at c.get.ensures in
+    found ∙ lookup-row number c.args.number (rows_of c.self.inside.rows) c.self.invariant
+    ∙ ap (row_with number c.args.number) c.self.view_is

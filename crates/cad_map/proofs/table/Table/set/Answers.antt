@@ -1,15 +1,23 @@
-use Rattle.std.proofs.Common.{◌∙◌, ap}
-use Rattle.cad_map.proofs.Lists.Entries.{AreNumbered-insert_entry, values_of-insert_entry}
-use Rattle.cad_map.specs.Table.{with_row}
+use Rattle.std.proofs.Common.{◌∙◌, ap, subst, sym}
+use Rattle.std.specs.Prelude.{IsSome}
 use Rattle.std.specs.Map.{values_of}
+use Rattle.entry_list.specs.Slots.{rows_of}
+use Rattle.cad_map.proofs.Lists.Entries.{lookup-row, numbered-with, values-with}
+use Rattle.cad_map.specs.Table.{AreNumbered, row_with, with_row}
 use Rattle.cad_map.proofs.table.Table.set.Goals as goal
 
-pub invariant_of-self-2 : goal.invariant_of-self-2
-invariant_of-self-2 g c =
-    (rw (c.in_ok-insert.ensures.entries, c.number.ensures) (AreNumbered-insert_entry g.R.Numbered.number_of c.args.row c.self.inside.rows.entries c.self.invariant.0), c.insert.ensures.unique)
+pub replace-requires : goal.replace-requires
+replace-requires g c =
+    let number = g.R.Numbered.number_of in
+    rw (c.from-number.ensures, c.number.ensures) (subst IsSome (sym (lookup-row number (number c.args.row) (rows_of c.self.inside.rows) c.self.invariant ∙ ap (row_with number (number c.args.row)) c.self.view_is)) c.requires)
 
-pub returns-clause-ok : goal.returns-clause-ok
-returns-clause-ok g c =
-    ap values_of (rw c.number.ensures at c.in_ok-insert.ensures.entries)
-    ∙ values_of-insert_entry g.R.Numbered.number_of c.args.row c.self.inside.rows.entries c.self.invariant.0 c.self.invariant.1 (rw c.self.view_is c.requires)
-    ∙ ap (with_row g.R.Numbered.number_of c.args.row) c.self.view_is
+pub invariant_of-self : goal.invariant_of-self
+invariant_of-self g c =
+    let number = g.R.Numbered.number_of in
+    subst (AreNumbered number) (sym (rw (c.from-number.ensures, c.number.ensures) at c.replace.ensures.with)) (numbered-with number c.args.row (rows_of c.self.inside.rows) c.self.invariant)
+
+pub returns : goal.returns
+returns g c =
+    let number = g.R.Numbered.number_of in
+    ap values_of (rw (c.from-number.ensures, c.number.ensures) at c.replace.ensures.with) ∙ values-with number c.args.row (rows_of c.self.inside.rows) c.self.invariant
+    ∙ ap (with_row number c.args.row) c.self.view_is

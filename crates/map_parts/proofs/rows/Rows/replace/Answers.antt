@@ -3,9 +3,8 @@ use Rattle.std.specs.Prelude.{IsSome}
 use Rattle.std.specs.Map.{values_of}
 use Rattle.entry_list.specs.Slots.{rows_of, row_at}
 use Rattle.cad_map.specs.Table.{AreNumbered, row_with, with_row}
-use Rattle.cad_map.proofs.CallerLemmas.{lookup-row}
+use Rattle.cad_map.proofs.CallerLemmas.{lookup-row, numbered-with, values-with}
 use Rattle.map_parts.specs.Rows.{rows_in}
-use Rattle.map_parts.proofs.RowLists.{values-with, numbered-with}
 use Rattle.map_parts.proofs.rows.Rows.replace.Goals as goal
 
 pub replace-requires : goal.replace-requires

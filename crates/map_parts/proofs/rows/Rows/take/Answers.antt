@@ -4,7 +4,8 @@ use Rattle.std.specs.Map.{values_of}
 use Rattle.entry_list.specs.Slots.{rows_of}
 use Rattle.cad_map.specs.Table.{AreNumbered, row_with, without_row}
 use Rattle.map_parts.specs.Rows.{rows_in}
-use Rattle.map_parts.proofs.RowLists.{values-without, numbered-without, taken-row, taken-number, taken-back, taken-none}
+use Rattle.cad_map.proofs.CallerLemmas.{numbered-without, values-without}
+use Rattle.map_parts.proofs.RowLists.{taken-row, taken-number, taken-back, taken-none}
 use Rattle.map_parts.proofs.rows.Rows.take.Goals as goal
 
 pub invariant_of-self : goal.invariant_of-self
