@@ -128,7 +128,7 @@ module _ (lists : HeldEntries) (q : Query) (s : Scope) where
         one : (cell : ℕ) × IsCellOf s.block cell × Contains (entries_at lists cell) e
         one =
             let sound = spread.sound e stands in
-            let c = one_cell size q.from q.to e.from e.to spread.cells on_from on_to sound.from
+            let c = one_cell size q.from q.to e.from e.to on_from on_to sound.from
             sound.to near in (
               c.0,
               subst (λ b. IsCellOf b c.0) (sym is.block) c.1,

@@ -1,43 +1,48 @@
 -- Cells of a grid, each a number, and blocks of them.
-use Rattle.std.specs.Prelude.{◌≡◌, ℕ, ◌+◌, ◌-◌, ◌*◌, ◌/◌, ◌%◌, ◌<◌, ◌≤◌, ℤ, pos, ◌+ℤ◌, min, max, unsigned_abs, Bool, ◌&&◌, nat_le}
+use Rattle.std.specs.Prelude.{◌≡◌, ℕ, ◌+◌, ◌-◌, ◌*◌, ◌/◌, ◌%◌, ◌^◌, ◌<◌, ◌≤◌, ℤ, pos, ◌+ℤ◌, min, max, unsigned_abs, Bool, ◌&&◌, nat_le}
 use Rattle.geo_exact.specs.Position.{Position}
 use Rattle.cell_grid.specs.declared.block.Block.{Block}
 use Rattle.cell_grid.specs.declared.block.CellSize.{CellSize}
 
--- the sides that cells may have, in millimetres: from a metre to a thousand kilometres
+-- the sides that may be asked for, in millimetres: from a metre to a thousand kilometres
 pub record IsSide (side : ℕ) : Type 0 where
   pub least : 1000 ≤ side
   pub greatest : side ≤ 1000000000
 
+-- two to the power of these is a side that cells may have, in millimetres
+pub record AreSideBits (bits : ℕ) : Type 0 where
+  pub least : 9 ≤ bits
+  pub greatest : bits ≤ 30
+
 -- the width and the height of cells are sides that cells may have
 pub record IsCellSize (size : CellSize) : Type 0 where
-  pub width : IsSide size.width
-  pub height : IsSide size.height
+  pub width : AreSideBits size.width_bits
+  pub height : AreSideBits size.height_bits
 
 -- squares with a side
 abbrev pub squares_of : ℕ → CellSize
-squares_of side = record { width = side; height = side }
+squares_of bits = record { width_bits = bits; height_bits = bits }
 
--- lanes from west to east, a thousand kilometres long and as high as the side
+-- lanes from west to east, more than a thousand kilometres long and as high as the side
 abbrev pub lanes_east_of : ℕ → CellSize
-lanes_east_of side = record { width = 1000000000; height = side }
+lanes_east_of bits = record { width_bits = 30; height_bits = bits }
 
 -- lanes from south to north, as wide as the side
 abbrev pub lanes_north_of : ℕ → CellSize
-lanes_north_of side = record { width = side; height = 1000000000 }
+lanes_north_of bits = record { width_bits = bits; height_bits = 30 }
 
 -- how many numbers a row of cells takes: more than the cells that a row can have
 abbrev pub cells_in_row : ℕ
-cells_in_row = 33554432
+cells_in_row = 67108864
 
--- a multiple of the side that takes every coordinate above zero
-abbrev pub shift : ℕ → ℕ
-shift side = side * (10000000000 / side + 1)
+-- a multiple of every side, which takes every coordinate above zero
+abbrev pub shift : ℕ
+shift = 17179869184
 
 -- the column of an x, or the row of a y: the coordinate divided by the side, rounded down, and
 -- counted from one west of every coordinate
 abbrev pub place_along : ℕ → ℤ → ℕ
-place_along side z = unsigned_abs (z +ℤ pos (shift side)) / side
+place_along bits z = unsigned_abs (z +ℤ pos shift) / 2 ^ bits
 
 -- columns and rows in order, and none past the last that a row can have
 pub record IsBlock (b : Block) : Type 0 where
@@ -49,10 +54,10 @@ pub record IsBlock (b : Block) : Type 0 where
 -- the cells of a size that the box of a segment touches
 abbrev pub block_of : CellSize → Position → Position → Block
 block_of size a b = record {
-  left = min (place_along size.width a.x) (place_along size.width b.x);
-  right = max (place_along size.width a.x) (place_along size.width b.x);
-  bottom = min (place_along size.height a.y) (place_along size.height b.y);
-  top = max (place_along size.height a.y) (place_along size.height b.y);
+  left = min (place_along size.width_bits a.x) (place_along size.width_bits b.x);
+  right = max (place_along size.width_bits a.x) (place_along size.width_bits b.x);
+  bottom = min (place_along size.height_bits a.y) (place_along size.height_bits b.y);
+  top = max (place_along size.height_bits a.y) (place_along size.height_bits b.y);
 }
 
 -- how many columns a block has

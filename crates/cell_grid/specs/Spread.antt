@@ -16,7 +16,7 @@ block_at size e = block_of size e.from e.to
 
 -- in how many cells of a size an entry may stand: in 64 squares, or in 8 lanes
 abbrev pub most_cells : CellSize → ℕ
-most_cells size = if nat_eq size.width size.height then 64 else 8
+most_cells size = if nat_eq size.width_bits size.height_bits then 64 else 8
 
 -- the entry's box touches no more cells than an entry may stand in
 abbrev pub fits : CellSize → Entry → Bool

@@ -1,18 +1,31 @@
 //! Blocks of cells, and the cells that the box of a segment touches.
 ghost use Rattle.std.specs.Prelude.{◌≡◌, ◌<◌, ◌≤◌, ◌+◌, ◌-◌, ◌*◌, min, max};
 ghost use Rattle.geo_exact.specs.Position.{InRange};
-ghost use Rattle.cell_grid.specs.Cells.{place_along as place_along_of, IsSide, IsCellSize, IsBlock, cells_in_row, block_of as block_of_box, width as width_of, cell_count as cell_count_of, cell_at as cell_at_of, is_cell_of};
+ghost use Rattle.cell_grid.specs.Cells.{place_along as place_along_of, IsSide, AreSideBits, IsCellSize, IsBlock, cells_in_row, block_of as block_of_box, width as width_of, cell_count as cell_count_of, cell_at as cell_at_of, is_cell_of};
 
-use geo_exact::{COORDINATE_LIMIT, Pt};
+use geo_exact::Pt;
 
 /// How many numbers a row of cells takes: more than the cells that a row can have.
-pub(crate) const ROW_WIDTH: u64 = 33_554_432;
+pub(crate) const ROW_WIDTH: u64 = 67_108_864;
 
-/// How wide a cell is from west to east, and how high from south to north, in millimetres.
+/// Columns and rows are counted from so far west, or south, of zero, in millimetres: past every
+/// coordinate, and a multiple of every side.
+const SHIFT: i64 = 17_179_869_184;
+
+/// How wide a cell is from west to east, and how high from south to north: two to the power of
+/// these, in millimetres.
 #[derive(Clone, Copy, Debug)]
 pub(crate) struct CellSize {
-    pub width: u64,
-    pub height: u64,
+    pub width_bits: u32,
+    pub height_bits: u32,
+}
+
+/// The power of two that a side in millimetres is rounded down to.
+pub(crate) fn bits_of(side: u64) -> u32
+    requires { IsSide side }
+    ensures { AreSideBits result }
+{
+    side.ilog2()
 }
 
 /// Columns and rows of cells, from the first to the last of each. A cell is the number of its row
@@ -25,16 +38,16 @@ pub(crate) struct Block {
     pub top: u64,
 }
 
-/// The column of an x, where the side is the width of a cell, or the row of a y, where it is the
-/// height: the coordinate divided by the side, rounded down. Columns are counted from one west of
+/// The column of an x, where a cell is two to the power of the bits wide, or the row of a y, where
+/// it is so high: the coordinate divided by that, rounded down. Columns are counted from one west of
 /// every coordinate, so none is negative.
-fn place_along(side: u64, coordinate: i64) -> u64
-    requires side { IsSide side }
+fn place_along(bits: u32, coordinate: i64) -> u64
+    requires bits { AreSideBits bits }
     requires coordinate { InRange coordinate }
-    ensures { result ≡ place_along_of side coordinate }
+    ensures value { result ≡ place_along_of bits coordinate }
+    ensures within { result < cells_in_row }
 {
-    let shift = side * (COORDINATE_LIMIT as u64 / side + 1);
-    (coordinate + shift as i64).unsigned_abs() / side
+    (coordinate + SHIFT).unsigned_abs() >> bits
 }
 
 /// The lesser of two numbers.
@@ -59,10 +72,10 @@ pub(crate) fn block_of(size: CellSize, a: Pt, b: Pt) -> Block
     ensures value { result ≡ block_of_box size a b }
     ensures block { IsBlock result }
 {
-    let a_column = place_along(size.width, a.x);
-    let b_column = place_along(size.width, b.x);
-    let a_row = place_along(size.height, a.y);
-    let b_row = place_along(size.height, b.y);
+    let a_column = place_along(size.width_bits, a.x);
+    let b_column = place_along(size.width_bits, b.x);
+    let a_row = place_along(size.height_bits, a.y);
+    let b_row = place_along(size.height_bits, b.y);
     Block {
         left: lesser(a_column, b_column),
         right: greater(a_column, b_column),
@@ -97,6 +110,9 @@ impl Block {
         ensures { result ≡ cell_at_of self.now place }
     {
         let width = self.width();
+        if place < width {
+            return self.bottom * ROW_WIDTH + self.left + place;
+        }
         (self.bottom + place / width) * ROW_WIDTH + self.left + place % width
     }
 

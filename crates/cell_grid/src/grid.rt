@@ -11,6 +11,7 @@ ghost use Rattle.cell_grid.specs.declared.entry.HeldString.{HeldString as HeldSt
 ghost use Rattle.cell_grid.specs.declared.entry.HeldPoint.{HeldPoint as HeldPointOf};
 ghost use Rattle.cell_grid.specs.Grid.{HoldsString, HoldsPoint, entry_of};
 
+use crate::block::bits_of;
 use crate::entries::Entries;
 use crate::entry::{Entry, HeldPoint, HeldString};
 use crate::near::NearEntries;
@@ -24,8 +25,7 @@ use std::marker::Model;
 /// Strings, with the positions of their two ends, and points, by the cells that they touch.
 ///
 /// There are four kinds of cells: smaller squares with a side of their own, squares with the side,
-/// lanes from west to east, a thousand kilometres long and as wide as the side, and such lanes from
-/// south to north. The cell of a location is its two coordinates divided by the width and the
+/// lanes from west to east, 2^30 mm long and as wide as the side, and such lanes from south to north. The cell of a location is its two coordinates divided by the width and the
 /// height of the kind, rounded down. A string stands in every smaller square that its box touches,
 /// where these are 64 at most; else in every square, where these are 64 at most; else in every lane
 /// from west to east, or from south to north, where these are eight at most; and else in a list of
@@ -65,8 +65,9 @@ impl Model for CellGrid {
 
 impl CellGrid {
     /// A grid that holds nothing and will find cells by this hash. The side of the smaller squares
-    /// and that of the others are in millimetres, from 1,000 to 1,000,000,000. What is found is the
-    /// same with any sides; the first is meant to be the lesser one, or the same.
+    /// and that of the others are in millimetres, from 1,000 to 1,000,000,000, and are rounded down to
+    /// powers of two, by which a coordinate is divided without a division. What is found is the same
+    /// with any sides; the first is meant to be the lesser one, or the same.
     pub fn new(
         alloc: Global,
         hash: NumberHash,
@@ -78,9 +79,11 @@ impl CellGrid {
         ensures strings { IfOk result (λ grid. HoldsNone grid.strings) }
         ensures points { IfOk result (λ grid. HoldsNone grid.points) }
     {
+        let small_bits = bits_of(small_side);
+        let bits = bits_of(side);
         Ok(CellGrid {
-            strings: Segments::new(alloc, hash, small_side, side),
-            points: Segments::new(alloc, hash, small_side, side),
+            strings: Segments::new(alloc, hash, small_bits, bits),
+            points: Segments::new(alloc, hash, small_bits, bits),
         })
     }
 

@@ -31,7 +31,7 @@ pub(crate) struct Layer {
 fn most_cells(size: &CellSize) -> u64
     ensures { result ≡ most_cells_of size.now }
 {
-    if size.width == size.height {
+    if size.width_bits == size.height_bits {
         MOST_SQUARES_OF_ENTRY
     } else {
         MOST_LANES_OF_ENTRY

@@ -1,6 +1,6 @@
 //! Segments by the cells that their boxes touch.
 ghost use Rattle.std.specs.Prelude.{◌≡◌, OnOk, OnErr};
-ghost use Rattle.cell_grid.specs.Cells.{IsSide, squares_of, lanes_east_of, lanes_north_of};
+ghost use Rattle.cell_grid.specs.Cells.{AreSideBits, squares_of, lanes_east_of, lanes_north_of};
 ghost use Rattle.cell_grid.specs.Spread.{IsSoundEntry};
 ghost use Rattle.cell_grid.specs.Kept.{kept, level_of as level_of_entry, AreSpread, IsHeld, HoldsNone, HoldsSame, HoldsOneMore, HoldsOneLess};
 ghost use Rattle.cell_grid.specs.Together.{HoldsMore, HoldsLess, AreSound, AreNew, AreHeld};
@@ -13,8 +13,8 @@ use cad_rows::Memory;
 use number_hash::NumberHash;
 use std::alloc::Global;
 
-/// How long a lane is, in millimetres.
-const LANE_LENGTH: u64 = 1_000_000_000;
+/// Two to the power of this is how long a lane is, in millimetres: more than a thousand kilometres.
+const LANE_BITS: u32 = 30;
 
 /// Where an entry stands: in the smaller squares, in the squares, in lanes from west to east, in
 /// lanes from south to north, or among the long ones.
@@ -40,32 +40,32 @@ pub(crate) struct Segments {
 
 impl Segments {
     /// No segments, in smaller squares, and squares with a side and lanes of that width. Sides are
-    /// in millimetres.
-    pub(crate) fn new(alloc: Global, hash: NumberHash, small_side: u64, side: u64) -> Segments
-        requires small { IsSide small_side }
-        requires side { IsSide side }
-        ensures small_squares { result.small_squares.size ≡ squares_of small_side }
-        ensures squares { result.squares.size ≡ squares_of side }
-        ensures lanes_east { result.lanes_east.size ≡ lanes_east_of side }
-        ensures lanes_north { result.lanes_north.size ≡ lanes_north_of side }
+    /// two to the power of these, in millimetres.
+    pub(crate) fn new(alloc: Global, hash: NumberHash, small_bits: u32, bits: u32) -> Segments
+        requires small { AreSideBits small_bits }
+        requires side { AreSideBits bits }
+        ensures small_squares { result.small_squares.size ≡ squares_of small_bits }
+        ensures squares { result.squares.size ≡ squares_of bits }
+        ensures lanes_east { result.lanes_east.size ≡ lanes_east_of bits }
+        ensures lanes_north { result.lanes_north.size ≡ lanes_north_of bits }
         ensures spread { AreSpread result }
         ensures empty { HoldsNone (kept result) }
     {
         let small_squares = CellSize {
-            width: small_side,
-            height: small_side,
+            width_bits: small_bits,
+            height_bits: small_bits,
         };
         let squares = CellSize {
-            width: side,
-            height: side,
+            width_bits: bits,
+            height_bits: bits,
         };
         let lanes_east = CellSize {
-            width: LANE_LENGTH,
-            height: side,
+            width_bits: LANE_BITS,
+            height_bits: bits,
         };
         let lanes_north = CellSize {
-            width: side,
-            height: LANE_LENGTH,
+            width_bits: bits,
+            height_bits: LANE_BITS,
         };
         Segments {
             small_squares: Layer::new(alloc, hash, small_squares),

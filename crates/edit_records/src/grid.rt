@@ -13,11 +13,12 @@ use cad_rows::{Memory, StringRow};
 use cell_grid::{CellGrid, Entries};
 use std::alloc::Global;
 
-/// The side of the squares, which is also the greatest of the smaller ones, in millimetres.
-const CELL_SIDE: u64 = 100_000;
+/// The side of the squares, which is also the greatest of the smaller ones, in millimetres. Sides of
+/// cells are powers of two.
+const CELL_SIDE: u64 = 131_072;
 
 /// The least side of the smaller squares, in millimetres.
-const LEAST_SIDE: u64 = 1_000;
+const LEAST_SIDE: u64 = 1_024;
 
 /// How many times the mean extent of a string the side of the smaller squares is.
 const EXTENTS_A_SIDE: u64 = 4;
