@@ -86,6 +86,10 @@ impl MapView for PlainStore {
         self.map.string_with(point, place)
     }
 
+    fn far_with(&self, point: PointNo, place: usize) -> Option<PointNo> {
+        self.map.far_with(point, place)
+    }
+
     fn degree(&self, no: PointNo) -> usize {
         self.map.degree(no)
     }

@@ -31,7 +31,7 @@ pub use Rattle.cad_map.proofs.Ends.Meetings.{all-placed, ends, far_end-away, is_
 pub use Rattle.cad_map.proofs.Ends.Parallel.{all_sides-once, is_side-is, pairs-IsPermutation, string_sides-once}
 pub use Rattle.cad_map.proofs.Ends.StringEnds.{IsString, Joins, first_met, joins-end, joins-far, joins-far_end, side-joins, two_ends}
 pub use Rattle.cad_map.proofs.Ends.StarFacts.{IsSpoke, IsSpoke-all, far-star, length-star}
-pub use Rattle.cad_map.proofs.Ends.StringsTold.{all-told, lent-is, lent-some, strings-found, two-told}
+pub use Rattle.cad_map.proofs.Ends.StringsTold.{all-told, lent-is, lent-some, strings-found, told-is, told-some, two-told}
 -- edits that are allowed: what they keep of a valid map
 pub use Rattle.cad_map.proofs.Edits.Allowed.{IsAllowed, allowed, free-dropped, free-join, free-point, free-source, free-split, halves-differ, none-from_some, not-when, position-in_range, room, there-one, two-joined}
 pub use Rattle.cad_map.proofs.Edits.AllowedParcels.{can-divide, can-enclose, can-merge, names-parcels, points-there, there-each}

@@ -9,7 +9,7 @@ ghost use Rattle.cad_map.specs.Choice.{MayBeChosen, IsFirst};
 ghost use Rattle.cad_map.specs.Map.{rings_of, face_corners};
 ghost use Rattle.cad_map.specs.Valid.{IsValid};
 
-use crate::look::{far_end, is_face};
+use crate::look::is_face;
 use crate::rings::position;
 use crate::store::MapView;
 use crate::walk::Walk;
@@ -49,7 +49,7 @@ pub fn chosen_corner<M: MapView>(
 {
     let mut chosen = None;
     for place in 0..map.degree(at) {
-        let from = far_end(map.string_with(at, place).unwrap(), at);
+        let from = map.far_with(at, place).unwrap();
         chosen = first_by_after(chosen, corner_after(map, face, from, at, towards));
     }
     chosen

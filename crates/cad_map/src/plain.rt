@@ -385,6 +385,11 @@ impl MapView for PlainMap {
         look::string_with(&self.strings, point, place)
     }
 
+    fn far_with(&self, point: PointNo, place: usize) -> Option<PointNo> {
+        let row = self.string_with(point, place)?;
+        Some(look::far_end(row, point))
+    }
+
     fn degree(&self, no: PointNo) -> usize {
         look::strings_with(&self.strings, no)
     }

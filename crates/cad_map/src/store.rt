@@ -1,5 +1,5 @@
 //! Maps that can be looked at, and maps that can be edited.
-ghost use Rattle.std.specs.Prelude.{◌≡◌, ℕ, ◌≤◌, List, Option, length, slice_get, option_and_then, IfSome, IfNone, IfOk, IfErr, OnOk, OnErr};
+ghost use Rattle.std.specs.Prelude.{◌≡◌, ℕ, ◌≤◌, List, Option, length, slice_get, option_and_then, option_map, IfSome, IfNone, IfOk, IfErr, OnOk, OnErr};
 ghost use Rattle.std.specs.Option.{option_copied};
 ghost use Rattle.std.specs.List.{AllByRecursion};
 ghost use Rattle.std.specs.List.Sorted.{IsPermutation};
@@ -8,7 +8,7 @@ ghost use Rattle.cad_rows.specs.declared.rows.StringRow.{StringRow as StringOf};
 ghost use Rattle.cad_rings.specs.Cycle.{Side};
 ghost use Rattle.cad_map.specs.declared.boundary.Boundary.{Boundary};
 ghost use Rattle.cad_map.specs.Boundaries.{canonical_order};
-ghost use Rattle.cad_map.specs.Map.{Map, source_of, point_of, parcel_of, string_of, is_retired as is_retired_in, strings_at, degree as degree_of, rings_at};
+ghost use Rattle.cad_map.specs.Map.{Map, source_of, point_of, parcel_of, string_of, is_retired as is_retired_in, strings_at, degree as degree_of, far_end, rings_at};
 ghost use Rattle.cad_map.specs.Valid.{IsValid};
 ghost use Rattle.cad_map.specs.Views.{HasSide, IsNoSide, ComesAfter, HasFaces, HasNoFaces};
 ghost use Rattle.cad_map.specs.Walk.{first_side};
@@ -107,6 +107,15 @@ pub trait MapView {
     fn string_with(&self, point: PointNo, place: usize) -> Option<&StringRow>
         ensures string { option_copied result ≡ slice_get (view_strings self.now point) place }
         // They are the point's strings, each once.
+        ensures each { IsPermutation (strings_at (map self.now) point)
+            (view_strings self.now point) };
+
+    /// The other end of the string at a place among those that have a point, as `string_with` tells
+    /// them, and `None` past the last of them.
+    fn far_with(&self, point: PointNo, place: usize) -> Option<PointNo>
+        ensures far { result
+            ≡ option_map (λ s. far_end s point) (slice_get (view_strings self.now point) place) }
+        // The strings are the point's, each once.
         ensures each { IsPermutation (strings_at (map self.now) point)
             (view_strings self.now point) };
 

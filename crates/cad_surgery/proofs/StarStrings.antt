@@ -1,16 +1,17 @@
 -- The strings of a point, by its star.
-use Rattle.std.proofs.Common.{◌≡◌, ℕ, ◌==◌, Bool, true, false, List, [], ◌∷◌, map, filter, refl, sym, ap, ◌∙◌, subst, Option, Some, None, true≢false, slice_get}
+use Rattle.std.proofs.Common.{◌≡◌, inl, inr, arith, ℕ, ◌==◌, Bool, true, false, List, [], ◌∷◌, map, filter, refl, sym, ap, ◌∙◌, subst, Option, Some, None, true≢false, slice_get}
 use Rattle.std.specs.Prelude.{IsPermutation, is_some, unwrap_or, option_map}
 use Rattle.std.specs.List.{Contains}
-use Rattle.std.proofs.lemmas.List.Sorted.{IsPermutation-map}
+use Rattle.std.proofs.lemmas.List.Sorted.{IsPermutation-map, IsPermutation-sym, Contains-permutation}
 use Rattle.std.proofs.lemmas.Option.{slice_get-map}
 use Rattle.cad_rows.specs.declared.rows.StringRow.{StringRow}
-use Rattle.cad_map.specs.Map.{is_end, string_of, strings_at}
-use Rattle.cad_map.proofs.CallerLemmas.{Contains-first, Contains-later, Contains-at, row-found}
+use Rattle.cad_map.specs.Map.{far_end, is_end, string_of, strings_at}
+use Rattle.cad_map.proofs.CallerLemmas.{Contains-cases, Contains-first, Contains-later, Contains-at, row-found}
 use Rattle.half_table.specs.declared.half.Half.{Half}
 use Rattle.key_lists.specs.Held.{items_at}
 use Rattle.map_parts.specs.declared.stars.Spoke.{Spoke}
-use Rattle.map_parts.specs.Stars.{spokes_at}
+use Rattle.half_table.specs.Half.{forward_of, backward_of}
+use Rattle.map_parts.specs.Stars.{spoke, spokes_at}
 use Rattle.map_parts.specs.Parts.{Parts, FitTogether, rows_of, map_of}
 use Rattle.map_parts.specs.Views.{string_row, view_strings}
 use Rattle.map_parts.proofs.StarHalves.{spoke-is}
@@ -62,3 +63,30 @@ module _ (d : Parts) (fit : FitTogether d) where
       by : (o : Option Spoke) → option_map (λ (x : Spoke). x.half) o ≡ None → o ≡ None
       by None e = refl
       by (Some x) e = cc
+
+  -- a half's far end is the other end of its string
+  far-spoke : (p : ℕ) (ss : List StringRow) → ((s : StringRow) → Contains ss s → Contains d.strings s) → (x : Spoke) → Contains (spokes_at p ss) x → far_end (row_of x) p ≡ x.far
+  far-spoke p [] sub x there = let none = there.1 in absurd (omega arith)
+  far-spoke p (s ∷ ss) sub x there = by (s.from == p) (s.to == p) refl refl there (λ later. far-spoke p ss (λ t rest. sub t (Contains-later s ss t rest)) x later)
+    where
+      row : string_row d s.number ≡ s
+      row = row-is s (sub s (Contains-first s ss))
+
+      first : (y : Spoke) → far_end (row_of y) p ≡ y.far → Contains (y ∷ spokes_at p ss) x → (Contains (spokes_at p ss) x → far_end (row_of x) p ≡ x.far) → far_end (row_of x) p ≡ x.far
+      first y told among rest = elim (Contains-cases y (spokes_at p ss) x among) [ inl same ↦ subst (λ (z : Spoke). far_end (row_of z) p ≡ z.far) same told | inr later ↦ rest later ]
+
+      by : (t u : Bool) → (s.from == p) ≡ t → (s.to == p) ≡ u → Contains (spokes_at p (s ∷ ss)) x → (Contains (spokes_at p ss) x → far_end (row_of x) p ≡ x.far) → far_end (row_of x) p ≡ x.far
+      by true u is is_to among rest = first (spoke (forward_of s.number) s.to) (ap (λ (r : StringRow). far_end r p) row ∙ rw is refl) (rw is at among) rest
+      by false true is is_to among rest = first (spoke (backward_of s.number) s.from) (ap (λ (r : StringRow). far_end r p) row ∙ rw is refl) (rw (is, is_to) at among) rest
+      by false false is is_to among rest = rest (rw (is, is_to) at among)
+
+  -- the far end of the half at a place is that of the string that is told there
+  pub far-told : (p place : ℕ) → option_map (λ (x : Spoke). x.far) (slice_get (items_at d.stars p) place) ≡ option_map (λ s. far_end s p) (slice_get (view_strings d p) place)
+  far-told p place = by (slice_get (items_at d.stars p) place) refl ∙ ap (option_map (λ s. far_end s p)) (sym (slice_get-map row_of (items_at d.stars p) place))
+    where
+      by : (o : Option Spoke) → slice_get (items_at d.stars p) place ≡ o
+          → option_map (λ (x : Spoke). x.far) (slice_get (items_at d.stars p) place) ≡ option_map (λ s. far_end s p) (option_map row_of (slice_get (items_at d.stars p) place))
+      by None is = rw is refl
+      by (Some x) is =
+          let among = Contains-permutation (items_at d.stars p) (spokes_at p d.strings) x (IsPermutation-sym (spokes_at p d.strings) (items_at d.stars p) (fit.stars p)) (Contains-at (items_at d.stars p) place x is) in
+          rw is (ap Some (sym (far-spoke p d.strings (λ s there. there) x among)))

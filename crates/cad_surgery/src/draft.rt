@@ -20,7 +20,7 @@ use edit_records::grid_of;
 use half_table::{Half, HalfTable, Tally};
 use key_lists::KeyLists;
 use map_parts::{
-    MapRows, Spoke, add_strings, find_half_by_ends, half_at, kept_half, link_rings, star_of,
+    MapRows, Spoke, add_strings, far_at, find_half_by_ends, half_at, kept_half, link_rings, star_of,
 };
 use std::alloc::Global;
 use std::marker::Model;
@@ -192,6 +192,10 @@ impl<T: Tally> MapView for Draft<T> {
     fn string_with(&self, point: PointNo, place: usize) -> Option<&StringRow> {
         let half = half_at(&self.stars, point, place)?;
         self.rows.strings.get(half.string.get())
+    }
+
+    fn far_with(&self, point: PointNo, place: usize) -> Option<PointNo> {
+        far_at(&self.stars, point, place)
     }
 
     fn degree(&self, no: PointNo) -> usize {

@@ -65,7 +65,7 @@ impl<T: Tally> HalfMap<T> {
         self.draft.table()
     }
 
-    /// The grid of the map's strings and points, in squares of 100,000 mm and in smaller ones, and in
+    /// The grid of the map's strings and points, in squares of 131 metres and in smaller ones, and in
     /// lanes: it holds just these, at their positions. It takes no memory.
     pub fn grid(&self) -> &CellGrid
         ensures is { result.now ≡ self.now.grid }
@@ -138,6 +138,10 @@ impl<T: Tally> MapView for HalfMap<T> {
 
     fn string_with(&self, point: PointNo, place: usize) -> Option<&StringRow> {
         self.draft.string_with(point, place)
+    }
+
+    fn far_with(&self, point: PointNo, place: usize) -> Option<PointNo> {
+        self.draft.far_with(point, place)
     }
 
     fn degree(&self, no: PointNo) -> usize {

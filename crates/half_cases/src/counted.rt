@@ -115,6 +115,11 @@ impl<M: MapView> MapView for Counted<'_, M> {
         self.inner.string_with(point, place)
     }
 
+    fn far_with(&self, point: PointNo, place: usize) -> Option<PointNo> {
+        self.count();
+        self.inner.far_with(point, place)
+    }
+
     fn degree(&self, no: PointNo) -> usize {
         self.count();
         self.inner.degree(no)

@@ -1,7 +1,7 @@
 -- The strings of a point as a view tells them, one after another.
 use Rattle.std.proofs.Common.{◌≡◌, ◌≢◌, ◌⊎◌, inl, inr, ◌<◌, ◌≤◌, ℕ, zero, suc, refl, sym, ap, subst, ◌∙◌, arith, List, [], ◌∷◌, length, take, map, Option, Some, None, Bool, true, false}
 use Rattle.std.specs.Borrow.{Bor}
-use Rattle.std.specs.Prelude.{IsSome, IsPermutation, slice_get, nat_lt}
+use Rattle.std.specs.Prelude.{IsSome, IsPermutation, slice_get, nat_lt, option_map}
 use Rattle.std.specs.List.{Contains}
 use Rattle.std.specs.Option.{option_copied}
 use Rattle.std.proofs.lemmas.List.{take_all, length-map}
@@ -28,6 +28,21 @@ module _ {X : Type 0} where
 
   pub lent-is : (o : Option (Bor X)) (r : Bor X) (xs : List X) (i : ℕ) → option_copied o ≡ slice_get xs i → o ≡ Some r → slice_get xs i ≡ Some r.now
   lent-is o r xs i is at = sym is ∙ ap option_copied at
+
+-- ---- What is told of the elements of a list
+
+module _ {X Y : Type 0} (f : X → Y) where
+  pub told-some : (o : Option Y) (xs : List X) (i : ℕ) → o ≡ option_map f (slice_get xs i) → i < length xs → IsSome o
+  told-some o [] i is low = absurd (omega arith)
+  told-some o (x ∷ xs) zero is low = rw is refl
+  told-some o (x ∷ xs) (suc i) is low = told-some o xs i is (omega arith)
+
+  pub told-is : (o : Option Y) (y : Y) (xs : List X) (i : ℕ) → o ≡ option_map f (slice_get xs i) → o ≡ Some y → (x : X) × (slice_get xs i ≡ Some x) × (f x ≡ y)
+  told-is o y xs i is at = by (slice_get xs i) refl (sym at ∙ is)
+    where
+      by : (e : Option X) → slice_get xs i ≡ e → Some y ≡ option_map f e → (x : X) × (slice_get xs i ≡ Some x) × (f x ≡ y)
+      by None there same = cc
+      by (Some x) there same = let told : f x ≡ y = cc in (x, there, told)
 
 -- ---- All strings of a point
 

@@ -7,7 +7,7 @@ ghost use Rattle.cad_valid.specs.Corners.{is_empty_after};
 ghost use Rattle.cad_valid.specs.Rays.{AreRaysOf, IsPlacedRay, is_clear_of_ray as is_clear_of_ray_in};
 
 use arrayvec::ArrayVec;
-use cad_map::{MapView, far_end, position};
+use cad_map::{MapView, position};
 use cad_rows::PointNo;
 use geo_exact::{Pt, in_sector};
 
@@ -40,7 +40,7 @@ pub(crate) fn rays_at<M: MapView>(map: &M, point: PointNo) -> ArrayVec<Ray, 8>
 {
     let mut rays = ArrayVec::new();
     for place in 0..map.degree(point) {
-        let far = far_end(map.string_with(point, place).unwrap(), point);
+        let far = map.far_with(point, place).unwrap();
         rays.push(Ray {
             far,
             position: position(map, far),

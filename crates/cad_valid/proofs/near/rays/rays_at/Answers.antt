@@ -1,14 +1,15 @@
 use Rattle.std.proofs.Common.{◌≤◌, ℕ, subst, length, take, arith}
 use Rattle.std.proofs.lemmas.List.Sorted.{length_permutation}
-use Rattle.cad_map.specs.Map.{strings_at}
-use Rattle.cad_map.proofs.CallerLemmas.{all-told, lent-some}
+use Rattle.cad_rows.specs.declared.rows.StringRow.{StringRow}
+use Rattle.cad_map.specs.Map.{far_end, strings_at}
+use Rattle.cad_map.proofs.CallerLemmas.{all-told, told-some}
 use Rattle.cad_valid.proofs.near.rays.rays_at.Goals as goal
 
-pub unwrap-requires : goal.unwrap-requires
-unwrap-requires g c =
+pub unwrap-far-requires : goal.unwrap-far-requires
+unwrap-far-requires g c =
     let strings = g.M.MapView.view_strings c.args.map.now c.args.point in
-    let same = length_permutation (strings_at (g.M.MapView.map c.args.map.now) c.args.point) strings c.string_with.ensures.each in
-    lent-some c.string_with.result strings c.loop-place.place c.string_with.ensures.string (omega (arith, same, c.degree-place-end.ensures, c.loop-place-test.true))
+    let same = length_permutation (strings_at (g.M.MapView.map c.args.map.now) c.args.point) strings c.far_with.ensures.each in
+    told-some (λ (s : StringRow). far_end s c.args.point) c.far_with.result strings c.loop-place.place c.far_with.ensures.far (omega (arith, same, c.degree-place-end.ensures, c.loop-place-test.true))
 
 pub returns : goal.returns
 returns g c =

@@ -1,0 +1,17 @@
+use Rattle.std.proofs.Common.{◌≡◌, ◌∙◌, subst, slice_get}
+use Rattle.std.specs.Prelude.{IsPermutation, option_map}
+use Rattle.cad_map.specs.Map.{far_end, strings_at}
+use Rattle.map_parts.specs.Parts.{Parts, map_of}
+use Rattle.map_parts.specs.Views.{view_strings}
+use Rattle.cad_surgery.proofs.StarStrings.{far-told, strings-each}
+use Rattle.cad_surgery.proofs.draft.DraftMapView.far_with.Goals as goal
+
+pub returns-clause-far : goal.returns-clause-far
+returns-clause-far g c =
+    subst (λ (d : Parts). c.far_at.result ≡ option_map (λ s. far_end s c.args.point) (slice_get (view_strings d c.args.point) c.args.place)) c.self.view_is
+    (c.far_at.ensures ∙ far-told _ c.self.invariant c.args.point c.args.place)
+
+pub returns-clause-each : goal.returns-clause-each
+returns-clause-each g c =
+    subst (λ (d : Parts). IsPermutation (strings_at (map_of d) c.args.point) (view_strings d c.args.point)) c.self.view_is
+    (strings-each _ c.self.invariant c.args.point)
