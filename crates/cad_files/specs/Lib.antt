@@ -8,6 +8,7 @@ pub mod PlanMap
 pub mod Follower
 pub mod Kinds
 pub mod Building
+pub mod Begun
 pub mod Line
 pub mod Texts
 pub mod Answers

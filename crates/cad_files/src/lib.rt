@@ -43,7 +43,7 @@ pub use lists::DistinctSources;
 pub use out::OutSink;
 pub use outline_texts::outline_text;
 pub use plan::read_plan;
-pub use plan_map::build;
+pub use plan_map::{build, build_of};
 pub use plan_records::{ParcelRecord, PlanRecord, PointRecord, StringRecord, Version};
 pub use plan_texts::{face_number, one_plan, plan_text, plans_again};
 pub use rows::{PlanRows, PlanString};

@@ -18,7 +18,7 @@ ghost use Rattle.cad_job.specs.Jobs.{IsAnswered, DoesScript, DoesJob, job_fault}
 
 use crate::faults::JobFault;
 use cad_files::{
-    InputFault, Line, LineFault, PlanFault, PlanRows, Sink, answer_text, area_text, build,
+    InputFault, Line, LineFault, PlanFault, PlanRows, Sink, answer_text, area_text, build_of,
     next_row, outline_text, plan_text, read_line, read_plan, records_of, syntax_text, write_all,
 };
 use cad_history::{Answer, Command, Depth, Editor, step};
@@ -73,15 +73,12 @@ pub fn run_job<R: Read + Drop, S: Sink>(
     run_script(alloc, &mut reader, store, sink, depth)
 }
 
-/// The map of a plan's rows on half-edges, on which a script is done. The rows are given back before
-/// the half-edges are made. A fault is that of [`build`].
+/// The map of a plan's rows on half-edges, on which a script is done. A fault is that of [`build_of`].
 fn store_of(alloc: Global, hash: NumberHash, rows: PlanRows) -> Result<HalfMap<Ticks>, PlanFault>
     ensures ok { IfOk result (λ store. IsBuilt rows (map_of store)) }
     ensures err { IfErr result (λ fault. fault ≢ faults.Memory → IsBuildFault rows fault) }
 {
-    let built = build(alloc, hash, &rows);
-    drop(rows);
-    let map = built?;
+    let map = build_of(alloc, hash, rows)?;
     match HalfMap::from_map(alloc, map, Ticks::new()) {
         Ok(store) => Ok(store),
         Err(_) => Err(PlanFault::Memory),
