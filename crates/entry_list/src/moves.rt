@@ -1,5 +1,5 @@
 //! Empty slots that are brought to where a row belongs.
-ghost use Rattle.std.specs.Prelude.{◌≡◌, ◌+◌, ◌<◌, ◌≤◌, ℕ, length, None, slice_index, true};
+ghost use Rattle.std.specs.Prelude.{◌≡◌, ◌↔◌, ◌+◌, ◌<◌, ◌≤◌, ℕ, length, None, slice_index, true};
 ghost use Rattle.entry_list.specs.Slots.{rows_of, row_at, marks_of, mark_of as mark_of_row, rows_before, HasMark};
 ghost use Rattle.entry_list.specs.Slots.{HasSlot, KeepsSlots, IsEmptySlot};
 ghost use Rattle.indexmap.specs.IndexMap.{index_map_len};
@@ -64,7 +64,7 @@ impl<V> EntryList<V> {
     // Whether the slot has no row.
     fn is_empty_slot(&self, slot: usize) -> bool
         requires { slot < length self.now }
-        ensures { result ≡ true → slice_index (marks_of self.now) slot ≡ 0 }
+        ensures { result ≡ true ↔ slice_index (marks_of self.now) slot ≡ 0 }
     {
         mark_at(&self.slots, slot) == 0
     }
