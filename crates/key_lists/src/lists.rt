@@ -51,10 +51,11 @@ impl<X: Copy> KeyLists<X> {
         })
     }
 
-    // Where a key stands if the keys came one after another, without a gap.
+    // Where a key stands if the keys from the second on came one after another, without a gap. The
+    // first may stand apart from them.
     fn guessed_place(&self, key: u64) -> usize {
-        match self.lists.get_index(0) {
-            Some((first, _)) => key.wrapping_sub(*first) as usize,
+        match self.lists.get_index(1) {
+            Some((second, _)) => key.wrapping_sub(*second).wrapping_add(1) as usize,
             None => 0,
         }
     }
