@@ -1,6 +1,7 @@
 -- What the stars tell of the sides of the map.
 use Rattle.std.proofs.Common.{◌≡◌, ℕ, ◌==◌, Bool, true, false, List, [], ◌∷◌, length, filter, refl, sym, ◌∙◌, subst, arith, Option, Some, None}
 use Rattle.std.specs.Prelude.{IfSome, IfNone}
+use Rattle.std.specs.List.{Contains}
 use Rattle.std.proofs.lemmas.List.Sorted.{length_permutation}
 use Rattle.cad_rows.specs.declared.rows.StringRow.{StringRow}
 use Rattle.cad_rings.specs.Cycle.{Side, has_side}
@@ -11,11 +12,11 @@ use Rattle.half_table.specs.declared.half.Half.{Half}
 use Rattle.half_table.specs.Half.{twin, forward_of, backward_of}
 use Rattle.half_table.specs.Rows.{HalfRows, has, next, origin_of, face}
 use Rattle.key_lists.specs.Held.{items_at}
-use Rattle.map_parts.specs.Stars.{spokes_at}
+use Rattle.map_parts.specs.Stars.{spoke, spokes_at}
 use Rattle.map_parts.specs.Parts.{Parts, FitTogether, rows_of, map_of}
 use Rattle.map_parts.specs.Views.{view_half}
 use Rattle.map_parts.specs.Labels.{IsAlong}
-use Rattle.map_parts.proofs.StarHalves.{by_ends-some, told-by_ends}
+use Rattle.map_parts.proofs.StarHalves.{spoke-is, by_ends-some, told-by_ends}
 use Rattle.map_parts.proofs.PartsRings.{ends-of, shown-string, half-side, half-corner, side-half}
 
 -- a star has one spoke for each string at its point
@@ -36,6 +37,10 @@ module _ (d : Parts) (is : FitTogether d) where
 
   pub star-degree : (p : ℕ) → length (items_at d.stars p) ≡ degree (map_of d) p
   star-degree p = length_permutation (spokes_at p d.strings) (items_at d.stars p) (is.stars p) ∙ length-star p d.strings
+
+  -- a half of a star ends where the star tells
+  pub spoke-ends : (p : ℕ) (h : Half) (far : ℕ) → Contains (items_at d.stars p) (spoke h far) → far ≡ origin_of rows (twin h)
+  spoke-ends p h far among = sym (spoke-is d is.ends is.two_ends is.stars p (spoke h far) among).far
 
   pub half-some : (s : Side) (o : Option Half) → o ≡ view_half d s → IfSome o (IsAlong (rows_of d) d.table.rows s)
   half-some s o told = by_ends-some d is.ends is.two_ends is.stars s o told

@@ -4,7 +4,8 @@ ghost use Rattle.cad_map.specs.Valid.{IsValid};
 ghost use Rattle.cad_map.specs.Views.{IsNoSide};
 ghost use Rattle.cad_map.specs.Map.{has_string};
 ghost use Rattle.half_table.specs.declared.half.Half.{Half as HalfOf};
-ghost use Rattle.half_table.specs.Rows.{has};
+ghost use Rattle.half_table.specs.Half.{twin};
+ghost use Rattle.half_table.specs.Rows.{has, origin_of};
 ghost use Rattle.cad_laws.specs.Local.{side_by};
 ghost use Rattle.map_parts.specs.Labels.{IsAlong};
 ghost use Rattle.edit_records.specs.Gridded.{IsGridOf};
@@ -20,7 +21,8 @@ use edit_records::grid_of;
 use half_table::{Half, HalfTable, Tally};
 use key_lists::KeyLists;
 use map_parts::{
-    MapRows, Spoke, add_strings, far_at, find_half_by_ends, half_at, kept_half, link_rings, star_of,
+    MapRows, Spoke, add_strings, far_at, far_by_star, find_half_by_ends, half_at, kept_half,
+    link_rings, star_of,
 };
 use std::alloc::Global;
 use std::marker::Model;
@@ -119,6 +121,18 @@ impl<T: Tally> Draft<T> {
         ensures none { IfNone result (IsNoSide (map_of self.now) (from, to)) }
     {
         find_half_by_ends(&self.stars, from, to)
+    }
+
+    /// The point where a half ends. It is sought in the star of the point where it begins, which was
+    /// mostly just looked at.
+    fn far_of(&self, point: PointNo, half: &Half) -> PointNo
+        requires { has self.now.table.rows half.now ≡ true }
+        ensures { result ≡ origin_of self.now.table.rows (twin half.now) }
+    {
+        match far_by_star(&self.stars, point, *half) {
+            Some(far) => far,
+            None => self.table.origin(self.table.twin(*half)),
+        }
     }
 }
 
@@ -223,7 +237,7 @@ impl<T: Tally> MapView for Draft<T> {
     fn after(&self, from: PointNo, to: PointNo) -> Option<PointNo> {
         let half = self.half(from, to)?;
         let after = self.table.next(half);
-        Some(self.table.origin(self.table.twin(after)))
+        Some(self.far_of(to, &after))
     }
 
     fn ring_side(&self, face: Face, place: usize) -> Option<(PointNo, PointNo)> {

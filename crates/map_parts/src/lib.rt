@@ -28,4 +28,4 @@ pub use edits::split::{begin_split, begin_unsplit, forward, unsplit};
 pub use kept::{face_place, kept_half};
 pub use map_rows::{MapRows, RetiredRow};
 pub use rows::Rows;
-pub use stars::{Spoke, far_at, find_half_by_ends, half_at, star_of};
+pub use stars::{Spoke, far_at, far_by_star, find_half_by_ends, half_at, star_of};

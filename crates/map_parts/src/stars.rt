@@ -1,10 +1,10 @@
 //! The halves that begin at each point.
-ghost use Rattle.std.specs.Prelude.{◌≡◌, ◌++◌, ◌∷◌, [], ◌≢◌, OnOk, ℕ, option_map, slice_get};
-ghost use Rattle.half_table.specs.Half.{half_of};
+ghost use Rattle.std.specs.Prelude.{◌≡◌, ◌++◌, ◌∷◌, [], ◌≢◌, ◌&&◌, OnOk, IfSome, ℕ, length, nat_lt, option_map, slice_get};
+ghost use Rattle.std.specs.List.{Contains};
+ghost use Rattle.half_table.specs.Half.{half_of, twin};
 ghost use Rattle.key_lists.specs.Held.{items_at};
 ghost use Rattle.map_parts.specs.declared.stars.Spoke.{Spoke as SpokeOf};
-ghost use Rattle.map_parts.specs.Stars.{spoke, half_to, half_along, half_by_end, half_by_ends, AddsSpokes};
-ghost use Rattle.map_parts.specs.Stars.{are_fewer_there as are_fewer_there_of};
+ghost use Rattle.map_parts.specs.Stars.{spoke, half_to, half_along, half_by_ends, AddsSpokes};
 
 use cad_rows::{Memory, PointNo, StringNo, StringRow};
 use half_table::Half;
@@ -59,23 +59,23 @@ fn find_half(stars: &KeyLists<Spoke>, from: PointNo, to: PointNo) -> Option<Half
     first_to(star_of(stars, from), to)
 }
 
-// The same, sought at the second: the twin of the one that leads back.
-fn find_half_by_end(stars: &KeyLists<Spoke>, from: PointNo, to: PointNo) -> Option<Half>
-    ensures { result ≡ half_by_end stars.now (from, to) }
+// The twin of a half that leads back, of which is known whether it is there.
+fn twin_if_there(back: Option<Half>) -> Option<Half>
+    ensures { result ≡ option_map twin back }
 {
-    let back = find_half(stars, to, from)?;
+    let back = back?;
     Some(Half {
         string: back.string,
         forward: !back.forward,
     })
 }
 
-// Whether more than a few halves begin at a point, and fewer at another.
-fn are_fewer_there(stars: &KeyLists<Spoke>, here: PointNo, there: PointNo) -> bool
-    ensures { result ≡ are_fewer_there_of stars.now here there }
+// Whether these are more than a few halves, and fewer begin at a point.
+fn are_fewer_at(stars: &KeyLists<Spoke>, here: &[Spoke], there: PointNo) -> bool
+    ensures { result ≡ (nat_lt 8 (length here.now)
+        && nat_lt (length (items_at stars.now there)) (length here.now)) }
 {
-    let count = star_of(stars, here).len();
-    count > FEW && star_of(stars, there).len() < count
+    here.len() > FEW && star_of(stars, there).len() < here.len()
 }
 
 /// The half along the side from one point to another, sought at the second, or at the first where
@@ -84,10 +84,23 @@ fn are_fewer_there(stars: &KeyLists<Spoke>, here: PointNo, there: PointNo) -> bo
 pub fn find_half_by_ends(stars: &KeyLists<Spoke>, from: PointNo, to: PointNo) -> Option<Half>
     ensures { result ≡ half_by_ends stars.now (from, to) }
 {
-    if are_fewer_there(stars, to, from) {
+    let here = star_of(stars, to);
+    if are_fewer_at(stars, here, from) {
         return find_half(stars, from, to);
     }
-    find_half_by_end(stars, from, to)
+    twin_if_there(first_to(here, from))
+}
+
+/// Where a half ends that begins at a point, as the point's star tells it if few halves begin there.
+pub fn far_by_star(stars: &KeyLists<Spoke>, point: PointNo, half: Half) -> Option<PointNo>
+    ensures { IfSome result (λ far. Contains (items_at stars.now point) (spoke half far)) }
+{
+    let spokes = star_of(stars, point);
+    if spokes.len() > FEW {
+        return None;
+    }
+    let spoke = spokes.iter().find(|spoke| spoke.half == half)?;
+    Some(spoke.far)
 }
 
 // Adds a half to the star of the point where it begins.

@@ -60,9 +60,14 @@ pub fn move_point(rows: &mut MapRows, point: PointNo, position: &Pt) -> Pt
     ensures rows { map_in rows.new
         ≡ change_point point (λ r. record r { position = position.now }) (map_in rows.old) }
 {
-    let (place, mut row) = rows.points.take_there(point.get());
+    let sources = Numbers::new(rows.points.allocator());
+    let mut row = rows.points.replace(PointRow {
+        number: point,
+        position: *position,
+        sources,
+    });
     let from = row.position;
     row.position = *position;
-    rows.points.put_at(row, place);
+    let _ = rows.points.replace(row);
     from
 }
