@@ -21,7 +21,7 @@ use Rattle.cad_valid.specs.declared.near.seen.Reach.{Reach}
 use Rattle.cad_valid.specs.declared.near.seen.Seen.{Seen}
 use Rattle.cad_valid.specs.Near.{OfPoint, OfString, IsAlone, IsUncrossed, LiesAtEnds, AreUncrossed}
 use Rattle.cad_valid.specs.Placed.{have_common}
-use Rattle.cad_valid.specs.Seen.{lying_string, lying_point, HasInReach, IsSeen, SeesStrings, SeesPoints, starts_alone, meets_by_sight, lies_by_sight, is_clear_of, is_clear_string, is_clear_point, is_apart_from, is_apart_point, lies_alike, held_string, held_point, HasStringThere, HasPointThere, OfHeldString, OfHeldPoint}
+use Rattle.cad_valid.specs.Seen.{lying_string, lying_point, HasInReach, IsSeen, SeesStrings, SeesPoints, starts_alone, meets_by_sight, lies_by_sight, is_clear_of, is_clear_string, is_clear_point, is_apart_from, is_apart_point, IsSeenAlone, lies_alike, held_string, held_point, HasStringThere, HasPointThere, OfHeldString, OfHeldPoint}
 use Rattle.cad_valid.proofs.Decisions.{not-iff}
 use Rattle.cad_valid.proofs.Passed.{HavePassed, passed-each}
 use Rattle.cad_valid.proofs.PlacedStrings.{have_common-is, only_start}
@@ -172,13 +172,14 @@ module _ (m : Map) (sound : HasSoundRows m) where
   -- ---- V3
 
   -- where all points near are seen to lie apart from the touched ones, these lie alone
-  pub alone-by_sight : (t : Touched) (v : Seen) → IsSeen m t v → SeesPoints m v (is_apart_point v) → AllByRecursion (OfPoint m (IsAlone m)) t.points
+  pub alone-by_sight : (t : Touched) (v : Seen) → IsSeenAlone m t v → AllByRecursion (OfPoint m (IsAlone m)) t.points
   unfolding OfPoint
-  alone-by_sight t v seen sees = All-from_each (OfPoint m (IsAlone m)) t.points (λ n named p hp is q hq other same.
+  alone-by_sight t v alone = All-from_each (OfPoint m (IsAlone m)) t.points (λ n named p hp is q hq other same.
+      let seen = alone.seen in
       let there = All-at_each (OfPoint m (λ p. Contains v.points.items (lying_point p))) t.points n seen.points named p hp is in
       let within = All-at_each (HasInReach v.reach) v.points.items (lying_point p) seen.points_in there in
       let near : boxes_overlap p.position p.position q.position q.position ≡ true = subst (λ (r : Position). boxes_overlap p.position p.position r r ≡ true) (sym same) (overlap_itself p.position p.position) in
-      let apart = list_all-at (λ (f : Lying). is_apart_from f (lying_point q)) v.points.items (lying_point p) (sees q hq (wider v.reach (lying_point p) q.position q.position within near)) there in
+      let apart = list_all-at (λ (f : Lying). is_apart_from f (lying_point q)) v.points.items (lying_point p) (and_parts (is_clear_point v (lying_point q)) (is_apart_point v (lying_point q)) (alone.points q hq (wider v.reach (lying_point p) q.position q.position within near))).1 there in
       differ p q (λ e. other (sym e)) (sym same) apart)
     where
       differ : (p q : PointRow) → p.number ≢ q.number → p.position ≡ q.position → is_apart_from (lying_point p) (lying_point q) ≡ true → ⊥
@@ -274,7 +275,10 @@ module _ (m : Map) (rows : HasPlacedRows m) where
       by false true _ to _ = inr (named s.to placed.to_in to)
       by false false _ _ apart = absurd ((not-iff _ _ (have_common-is (position_of m s.from) (position_of m s.to) p.position p.position)).0 apart common)
 
-  module _ (t : Touched) (v : Seen) (seen : IsSeen m t v) (strings : SeesStrings m v (is_clear_string v)) (points : SeesPoints m v (is_clear_point v)) where
+  module _ (t : Touched) (v : Seen) (alone : IsSeenAlone m t v) (strings : SeesStrings m v (is_clear_string v)) where
+    seen : IsSeen m t v
+    seen = alone.seen
+
     placed : (s : StringRow) → Contains m.strings s → HasTwoPoints m s
     placed s hs = All-at_each (HasTwoPoints m) m.strings s (all-placed m rows) hs
 
@@ -294,7 +298,7 @@ module _ (m : Map) (rows : HasPlacedRows m) where
               meet-by_sight s r (placed s hs) (placed r hr) (differ s r other (list_all-at (λ (g : Lying). is_clear_of g (lying_string m r)) v.strings.items f both.0 there)) common;
           points = λ p hp common.
               let over = boxes_overlap-HaveCommonLocation (position_of m s.from) (position_of m s.to) p.position p.position common in
-              let clear_point = points p hp (wider v.reach f p.position p.position within over) in
+              let clear_point = (and_parts (is_clear_point v (lying_point p)) (is_apart_point v (lying_point p)) (alone.points p hp (wider v.reach f p.position p.position within over))).0 in
               lies-by_sight p s hp (placed s hs) (list_all-at (λ (g : Lying). lies_by_sight p.position g.a g.b) v.strings.items f clear_point there) common;
         }
       where

@@ -90,6 +90,10 @@ is_apart_from f g = (f.number == g.number) || not (is_same_position f.a g.a)
 abbrev pub is_apart_point : Seen → Lying → Bool
 is_apart_point v f = list_all (λ p. is_apart_from p f) v.points.items
 
+-- a point is seen to be clear of all strings and points that were gathered
+abbrev pub is_lone_point : Seen → Lying → Bool
+is_lone_point v f = is_clear_point v f && is_apart_point v f
+
 -- ---- What the grid holds
 
 -- a held string, and a held point, where it is held
@@ -129,3 +133,8 @@ abbrev pub SeesPoints : Map → Seen → (Lying → Bool) → Type 0
 SeesPoints m v test = (p : PointRow) → Contains m.points p
     → IsTrue (boxes_overlap v.reach.low v.reach.high p.position p.position)
     → IsTrue (test (lying_point p))
+
+-- what was touched was gathered, and all points near it are seen to be clear of it
+pub record IsSeenAlone (m : Map) (t : Touched) (v : Seen) : Type 0 where
+  pub seen : IsSeen m t v
+  pub points : SeesPoints m v (is_lone_point v)

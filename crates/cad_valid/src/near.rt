@@ -5,11 +5,10 @@ ghost use Rattle.cad_map.specs.Valid.{HasSoundRows, HasTwoEnds};
 ghost use Rattle.cad_map.specs.Valid.{CanBeTested, Keeps, KeepsAll, FirstBroken};
 ghost use Rattle.cad_map.specs.Crossings.{HasPlacedRows};
 ghost use Rattle.cad_map.specs.Rings.{HasWholeRings};
-ghost use Rattle.std.specs.List.{AllByRecursion};
 ghost use Rattle.cad_map.specs.Touched.{Touched as TouchedOf};
 ghost use Rattle.cad_valid.specs.Near.{HoldsMap, ComesFromValid, touched_of};
-ghost use Rattle.cad_valid.specs.Near.{OfPoint, IsAlone, AreUncrossed};
-ghost use Rattle.cad_valid.specs.Seen.{IsSeen};
+ghost use Rattle.cad_valid.specs.Near.{AreUncrossed};
+ghost use Rattle.cad_valid.specs.Seen.{IsSeenAlone};
 
 mod corners;
 mod faces;
@@ -30,7 +29,7 @@ use crate::near::faces::{FaceRules, rules_of_faces};
 use crate::near::many::are_many_uncrossed;
 use crate::near::points::are_alone;
 use crate::near::seen::{Seen, seen_of};
-use crate::near::sight::{sees_points_apart, sees_points_clear, sees_strings_clear};
+use crate::near::sight::{sees_points_clear, sees_strings_clear};
 use crate::near::strings::{are_uncrossed, lie_at_ends};
 use cad_map::MapView;
 use cad_rows::{Face, PointNo, Rule, StringNo};
@@ -136,7 +135,7 @@ pub fn first_broken_near<M: MapView>(
     ensures broken { IfSome result (FirstBroken (M.map map.now)) }
     ensures kept { IfNone result (KeepsAll (M.map map.now)) }
 {
-    let seen = seen_of(map, touched);
+    let seen = seen_alone(map, grid, touched);
     if !has_distinct_positions(map, grid, touched, seen.as_ref()) {
         return Some(Rule::V3);
     }
@@ -156,8 +155,23 @@ pub fn first_broken_near<M: MapView>(
     None
 }
 
+/// What an edit touched, where that is little and near together, and all points near it are seen to be
+/// clear of it.
+fn seen_alone<M: MapView>(map: &M, grid: &CellGrid, touched: &Touched) -> Option<Seen>
+    requires sound { HasSoundRows (M.map map.now) }
+    requires held { HoldsMap grid.now (M.map map.now) }
+    ensures { IfSome result (IsSeenAlone (M.map map.now) (touched_of touched.now)) }
+{
+    let seen = seen_of(map, touched)?;
+    if sees_points_clear(map, grid, &seen) {
+        Some(seen)
+    } else {
+        None
+    }
+}
+
 /// Whether no two points have the same position. Two that weren't touched had others before.
-/// `seen`: what was touched, where that is little.
+/// `seen`: what was touched, where it is seen that no point lies there.
 fn has_distinct_positions<M: MapView>(
     map: &M,
     grid: &CellGrid,
@@ -168,29 +182,18 @@ fn has_distinct_positions<M: MapView>(
     requires two { HasTwoEnds (M.map map.now) }
     requires held { HoldsMap grid.now (M.map map.now) }
     requires touched { ComesFromValid (touched_of touched.now) (M.map map.now) }
-    requires seen { IfSome seen (λ v. IsSeen (M.map map.now) (touched_of touched.now) v.now) }
+    requires seen { IfSome seen (λ v. IsSeenAlone (M.map map.now) (touched_of touched.now) v.now) }
     ensures { IsTrue result ↔ Keeps (M.map map.now) V3 }
 {
-    are_seen_apart(map, grid, seen) || are_alone(map, grid, touched.points.as_slice())
-}
-
-/// Whether points that were gathered are seen to lie apart from all others.
-fn are_seen_apart<M: MapView>(map: &M, grid: &CellGrid, seen: Option<&Seen>) -> bool
-    requires sound { HasSoundRows (M.map map.now) }
-    requires held { HoldsMap grid.now (M.map map.now) }
-    ensures { (t : TouchedOf) → IfSome seen.entry (λ v. IsSeen (M.map map.now) t v.now)
-        → IsTrue result
-        → AllByRecursion (OfPoint (M.map map.now) (IsAlone (M.map map.now))) t.points }
-{
     match seen {
-        Some(seen) => sees_points_apart(map, grid, seen),
-        None => false,
+        Some(_) => true,
+        None => are_alone(map, grid, touched.points.as_slice()),
     }
 }
 
 /// Whether strings and points meet only at ends. Those that weren't touched did before. `seen`:
-/// what was touched, where that is little. Where it is very much, all that lies near is compared by
-/// one sort first, if there is memory for that.
+/// what was touched, where it is seen that no point lies there. Where it is very much, all that lies
+/// near is compared by one sort first, if there is memory for that.
 fn has_no_crossing<M: MapView>(
     alloc: Global,
     map: &M,
@@ -201,7 +204,7 @@ fn has_no_crossing<M: MapView>(
     requires rows { HasPlacedRows (M.map map.now) }
     requires held { HoldsMap grid.now (M.map map.now) }
     requires touched { ComesFromValid (touched_of touched.now) (M.map map.now) }
-    requires seen { IfSome seen (λ v. IsSeen (M.map map.now) (touched_of touched.now) v.now) }
+    requires seen { IfSome seen (λ v. IsSeenAlone (M.map map.now) (touched_of touched.now) v.now) }
     ensures { IsTrue result ↔ Keeps (M.map map.now) V4 }
 {
     are_seen_uncrossed(map, grid, seen)
@@ -210,15 +213,16 @@ fn has_no_crossing<M: MapView>(
             && lie_at_ends(map, grid, touched.points.as_slice()))
 }
 
-/// Whether strings and points that were gathered are seen to meet others only at ends.
+/// Whether strings and points that were gathered, where no point lies, are seen to meet others only
+/// at ends.
 fn are_seen_uncrossed<M: MapView>(map: &M, grid: &CellGrid, seen: Option<&Seen>) -> bool
     requires rows { HasPlacedRows (M.map map.now) }
     requires held { HoldsMap grid.now (M.map map.now) }
-    ensures { (t : TouchedOf) → IfSome seen.entry (λ v. IsSeen (M.map map.now) t v.now)
+    ensures { (t : TouchedOf) → IfSome seen.entry (λ v. IsSeenAlone (M.map map.now) t v.now)
         → IsTrue result → AreUncrossed (M.map map.now) t }
 {
     match seen {
-        Some(seen) => sees_strings_clear(map, grid, seen) && sees_points_clear(map, grid, seen),
+        Some(seen) => sees_strings_clear(map, grid, seen),
         None => false,
     }
 }

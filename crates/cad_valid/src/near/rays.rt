@@ -6,6 +6,7 @@ ghost use Rattle.cad_map.specs.Rings.{HasWholeRings};
 ghost use Rattle.cad_valid.specs.Corners.{is_empty_after};
 ghost use Rattle.cad_valid.specs.Rays.{AreRaysOf, IsPlacedRay, is_clear_of_ray as is_clear_of_ray_in};
 
+use crate::points::is_same;
 use arrayvec::ArrayVec;
 use cad_map::{MapView, position};
 use cad_rows::PointNo;
@@ -62,11 +63,13 @@ fn position_among<M: MapView>(map: &M, rays: &[Ray], point: PointNo) -> Pt
     position(map, point)
 }
 
-/// Whether a ray doesn't lie in the sector of a corner.
+/// Whether a ray doesn't lie in the sector of a corner. The two that border it don't.
 fn is_clear_of_ray(at: Pt, after: Pt, before: Pt, ray: &Ray) -> bool
     ensures { result ≡ is_clear_of_ray_in at after before ray.now }
 {
-    !in_sector(at, after, before, ray.position)
+    is_same(ray.position, after)
+        || is_same(ray.position, before)
+        || !in_sector(at, after, before, ray.position)
 }
 
 /// Whether no ray lies in the sector of a corner.

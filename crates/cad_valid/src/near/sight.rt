@@ -8,8 +8,9 @@ ghost use Rattle.cad_valid.specs.Near.{HoldsMap};
 ghost use Rattle.cad_valid.specs.Placed.{have_common as have_common_of};
 ghost use Rattle.cad_valid.specs.Seen.{starts_alone as starts_alone_of, meets_by_sight, lies_by_sight as lies_by_sight_of};
 ghost use Rattle.cad_valid.specs.Seen.{held_string, held_point, lies_alike, HasStringThere, HasPointThere};
-ghost use Rattle.cad_valid.specs.Seen.{is_clear_of, is_clear_string as is_clear_string_of, is_clear_point as is_clear_point_of};
-ghost use Rattle.cad_valid.specs.Seen.{is_apart_from as is_apart_from_of, is_apart_point as is_apart_point_of, SeesStrings, SeesPoints, OfHeldString, OfHeldPoint};
+ghost use Rattle.cad_valid.specs.Seen.{is_clear_of, is_clear_string as is_clear_string_of};
+ghost use Rattle.cad_valid.specs.Seen.{is_apart_from as is_apart_from_of, is_lone_point as is_lone_point_of};
+ghost use Rattle.cad_valid.specs.Seen.{SeesStrings, SeesPoints, OfHeldString, OfHeldPoint};
 
 use crate::near::seen::{Lying, Seen, lying_point, lying_string};
 use crate::points::is_same;
@@ -195,22 +196,20 @@ fn passes<M: MapView>(map: &M, seen: &Seen, held: &HeldString) -> bool
     is_clear_string(seen, &lying_held(held)) || is_stale(map, held)
 }
 
-/// Whether a held point is seen to lie on no string that was gathered, or isn't the map's.
-fn passes_strings<M: MapView>(map: &M, seen: &Seen, held: &HeldPoint) -> bool
-    requires { HasSoundRows (M.map map.now) }
-    ensures { IsTrue result
-        ↔ OfHeldPoint (M.map map.now) (is_clear_point_of seen.now) held.now }
+/// Whether a point is seen to be clear of all strings and points that were gathered.
+fn is_lone_point(seen: &Seen, f: &Lying) -> bool
+    ensures { result ≡ is_lone_point_of seen.now f.now }
 {
-    is_clear_point(seen.strings.as_slice(), &lying_held_point(held)) || is_stale_point(map, held)
+    is_clear_point(seen.strings.as_slice(), f) && is_apart_point(seen.points.as_slice(), f)
 }
 
-/// Whether a held point is seen to lie apart from all that were gathered, or isn't the map's.
-fn passes_points<M: MapView>(map: &M, seen: &Seen, held: &HeldPoint) -> bool
+/// Whether a held point is seen to be clear, or isn't the map's.
+fn passes_point<M: MapView>(map: &M, seen: &Seen, held: &HeldPoint) -> bool
     requires { HasSoundRows (M.map map.now) }
     ensures { IsTrue result
-        ↔ OfHeldPoint (M.map map.now) (is_apart_point_of seen.now) held.now }
+        ↔ OfHeldPoint (M.map map.now) (is_lone_point_of seen.now) held.now }
 {
-    is_apart_point(seen.points.as_slice(), &lying_held_point(held)) || is_stale_point(map, held)
+    is_lone_point(seen, &lying_held_point(held)) || is_stale_point(map, held)
 }
 
 /// Whether all strings of the map near what was gathered are seen to be clear of it.
@@ -224,24 +223,13 @@ pub(crate) fn sees_strings_clear<M: MapView>(map: &M, grid: &CellGrid, seen: &Se
         .all(|held| passes(map, seen, &held))
 }
 
-/// And whether all points are seen to lie on its strings only as ends.
+/// And whether all points are seen to be clear of it.
 pub(crate) fn sees_points_clear<M: MapView>(map: &M, grid: &CellGrid, seen: &Seen) -> bool
     requires sound { HasSoundRows (M.map map.now) }
     requires held { HoldsMap grid.now (M.map map.now) }
     ensures { IsTrue result
-        ↔ SeesPoints (M.map map.now) seen.now (is_clear_point_of seen.now) }
+        ↔ SeesPoints (M.map map.now) seen.now (is_lone_point_of seen.now) }
 {
     grid.point_candidates(seen.reach.low, seen.reach.high)
-        .all(|held| passes_strings(map, seen, &held))
-}
-
-/// And whether all points are seen to lie apart from its points.
-pub(crate) fn sees_points_apart<M: MapView>(map: &M, grid: &CellGrid, seen: &Seen) -> bool
-    requires sound { HasSoundRows (M.map map.now) }
-    requires held { HoldsMap grid.now (M.map map.now) }
-    ensures { IsTrue result
-        ↔ SeesPoints (M.map map.now) seen.now (is_apart_point_of seen.now) }
-{
-    grid.point_candidates(seen.reach.low, seen.reach.high)
-        .all(|held| passes_points(map, seen, &held))
+        .all(|held| passes_point(map, seen, &held))
 }
