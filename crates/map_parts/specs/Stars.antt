@@ -1,5 +1,5 @@
 -- The star of a point: the half-edges that begin there.
-use Rattle.std.specs.Prelude.{◌≡◌, ◌++◌, ℕ, Bool, ◌==◌, ◌&&◌, nat_lt, List, [], ◌∷◌, length, find, Option, option_map, if◌then◌else◌}
+use Rattle.std.specs.Prelude.{◌≡◌, ◌++◌, ℕ, Bool, ◌==◌, ◌&&◌, nat_lt, List, [], ◌∷◌, length, find, Option, None, option_map, if◌then◌else◌}
 use Rattle.std.specs.List.{flat_map}
 use Rattle.cad_rows.specs.declared.rows.StringRow.{StringRow}
 use Rattle.cad_rings.specs.Cycle.{Side, opposite}
@@ -48,6 +48,12 @@ are_fewer_there stars here there =
 abbrev pub half_by_ends : Held Spoke → Side → Option Half
 half_by_ends stars s =
     if are_fewer_there stars s.1 s.0 then half_along stars s else half_by_end stars s
+
+-- where a half ends, as a star tells that has few
+abbrev pub far_among_few : Half → List Spoke → Option ℕ
+far_among_few half spokes =
+    if nat_lt 8 (length spokes) then None
+    else option_map (λ (x : Spoke). x.far) (find (λ (x : Spoke). is_half x.half half) spokes)
 
 -- whether two halves of a star are the same
 abbrev pub is_spoke : Spoke → Spoke → Bool

@@ -1,10 +1,10 @@
 //! The halves that begin at each point.
-ghost use Rattle.std.specs.Prelude.{◌≡◌, ◌++◌, ◌∷◌, [], ◌≢◌, ◌&&◌, OnOk, IfSome, ℕ, length, nat_lt, option_map, slice_get};
+ghost use Rattle.std.specs.Prelude.{◌≡◌, ◌++◌, ◌∷◌, [], ◌≢◌, ◌&&◌, OnOk, IfSome, ℕ, find, length, nat_lt, option_map, slice_get};
 ghost use Rattle.std.specs.List.{Contains};
-ghost use Rattle.half_table.specs.Half.{half_of, twin};
+ghost use Rattle.half_table.specs.Half.{half_of, is_half, twin};
 ghost use Rattle.key_lists.specs.Held.{items_at};
 ghost use Rattle.map_parts.specs.declared.stars.Spoke.{Spoke as SpokeOf};
-ghost use Rattle.map_parts.specs.Stars.{spoke, half_to, half_along, half_by_ends, AddsSpokes};
+ghost use Rattle.map_parts.specs.Stars.{spoke, far_among_few, half_to, half_along, half_by_ends, AddsSpokes};
 
 use cad_rows::{Memory, PointNo, StringNo, StringRow};
 use half_table::Half;
@@ -91,16 +91,31 @@ pub fn find_half_by_ends(stars: &KeyLists<Spoke>, from: PointNo, to: PointNo) ->
     twin_if_there(first_to(here, from))
 }
 
+// Whether a spoke is along a half.
+fn is_along(spoke: &Spoke, half: &Half) -> bool
+    ensures { result ≡ is_half spoke.now.half half.now }
+{
+    spoke.half.string == half.string && spoke.half.forward == half.forward
+}
+
+// The far end of the first of these spokes that is along a half.
+fn far_among(spokes: &[Spoke], half: &Half) -> Option<PointNo>
+    ensures { result ≡ option_map (λ (x : SpokeOf). x.far) (find (λ (x : SpokeOf). is_half x.half half.now) spokes.now) }
+{
+    let spoke = spokes.iter().find(|spoke| is_along(spoke, half))?;
+    Some(spoke.far)
+}
+
 /// Where a half ends that begins at a point, as the point's star tells it if few halves begin there.
 pub fn far_by_star(stars: &KeyLists<Spoke>, point: PointNo, half: Half) -> Option<PointNo>
-    ensures { IfSome result (λ far. Contains (items_at stars.now point) (spoke half far)) }
+    ensures told { result ≡ far_among_few half (items_at stars.now point) }
+    ensures there { IfSome result (λ far. Contains (items_at stars.now point) (spoke half far)) }
 {
     let spokes = star_of(stars, point);
     if spokes.len() > FEW {
         return None;
     }
-    let spoke = spokes.iter().find(|spoke| spoke.half == half)?;
-    Some(spoke.far)
+    far_among(spokes, &half)
 }
 
 // Adds a half to the star of the point where it begins.

@@ -9,4 +9,4 @@ pub returns-in-Some : goal.returns-in-Some
 returns-in-Some g c =
     let half = c.args.half.now in
     subst (λ (d : Parts). c.in-Some.far ≡ origin_of d.table.rows (twin half)) c.self.view_is
-    (spoke-ends _ c.self.invariant c.args.point half c.in-Some.far (rw c.in-Some.is at c.far_by_star.ensures))
+    (spoke-ends _ c.self.invariant c.args.point half c.in-Some.far (rw c.in-Some.is at c.far_by_star.ensures.there))
