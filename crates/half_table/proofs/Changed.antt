@@ -1,10 +1,14 @@
 -- A change of one half's links in the rows.
-use Rattle.std.proofs.Common.{◌≡◌, ℕ, Bool, true, false, cond, ◌&&◌, refl, sym, ap, ◌∙◌, subst, Option, Some, is_some, option_map, inl, inr, true≢false, nat_eq, if◌then◌else◌}
+use Rattle.std.proofs.Common.{◌≡◌, ℕ, Bool, true, false, cond, ◌&&◌, refl, sym, ap, ◌∙◌, subst, Option, Some, is_some, option_map, inl, inr, true≢false, nat_eq, if◌then◌else◌, slice_get}
 use Rattle.std.proofs.lemmas.Bool.Decides.{Decides-eqb}
+use Rattle.std.proofs.lemmas.Map.Entries.{lookup_from_place}
+use Rattle.std.proofs.lemmas.Option.{slice_get-map}
+use Rattle.std.specs.Cmp.{nat_eq_equiv}
 use Rattle.std.specs.Bool.{beq}
 use Rattle.std.specs.Map.{lookup}
 use Rattle.std.specs.Option.{option_map_or}
-use Rattle.indexmap.specs.IndexMap.{IndexMap, Updates}
+use Rattle.indexmap.specs.IndexMap.{IndexMap, IsUnique, values, with_value_at}
+use Rattle.indexmap.proofs.CallerLemmas.{keys-with_value_at, updates-with_value_at}
 use Rattle.cad_rows.specs.declared.names.Face.{Face}
 use Rattle.cad_rows.specs.declared.names.Face.TheVariants.{Outside}
 use Rattle.half_table.specs.declared.half.Half.{Half}
@@ -55,14 +59,18 @@ written old new h to e there put same = record { strings = same; links = changed
 abbrev pub Writes : HalfRows → HalfRows → Half → Links → Links → Type 0
 Writes old new h l to = (links_of old h ≡ Some l) × ChangesLinks h to old new
 
--- of a half whose ends were written anew in a table of rows
-module _ {S : Type 0} (rows after : IndexMap ℕ Ends S) (h : Half) (e put : Ends) (there : lookup (nat_eq h.string) rows.entries ≡ Some e)
-    (updated : Updates nat_eq rows after h.string (Some put)) (same : strings after.entries ≡ strings rows.entries) where
-  pub rewritten : (l to : Links) → l ≡ links_at h.forward e → put ≡ with_links_at h.forward to e → Writes rows.entries after.entries h l to
-  rewritten l to was is = (
-    ap (option_map (links_at h.forward)) there ∙ ap Some (sym was),
-    written rows.entries after.entries h to e there (λ q. updated.0 q ∙ ap (λ (e : Ends). cond (nat_eq h.string q) (Some e) (lookup (nat_eq q) rows.entries)) is) same,
-  )
+-- the links of a half are written where its string stands
+pub written-at : {S : Type 0} (rows : IndexMap ℕ Ends S) (h : Half) (e now put : Ends) (to : Links) (place : ℕ) → IsUnique nat_eq rows
+    → slice_get rows.entries place ≡ Some (h.string, e) → Some now ≡ slice_get (values rows) place → put ≡ with_links_at h.forward to now
+    → ChangesLinks h to rows.entries (with_value_at rows place put).entries
+written-at rows h e now put to place unique stands value is =
+    let found : slice_get (values rows) place ≡ Some e = slice_get-map (λ (x : ℕ × Ends). x.1) rows.entries place ∙ ap (option_map (λ (x : ℕ × Ends). x.1)) stands in
+    let both : Some now ≡ Some e = value ∙ found in
+    let same : now ≡ e = cc in
+    let updated = updates-with_value_at rows place put nat_eq_equiv unique h.string e stands in
+    written rows.entries _ h to e (lookup_from_place nat_eq_equiv rows.entries place h.string e unique stands)
+    (λ q. updated.0 q ∙ ap (λ (x : Ends). cond (nat_eq h.string q) (Some x) (lookup (nat_eq q) rows.entries)) (is ∙ ap (with_links_at h.forward to) same))
+    (keys-with_value_at rows place put)
 
 module _ {old new : HalfRows} {h : Half} {l to : Links} (w : Writes old new h l to) where
   -- what the change leaves

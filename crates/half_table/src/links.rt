@@ -24,26 +24,24 @@ pub struct Ends {
 
 impl Ends {
     /// The links of one half.
-    pub(crate) fn at(&self, forward: bool) -> Links
-        ensures { result ≡ links_at forward self.now }
-    {
-        if forward { self.forward } else { self.backward }
-    }
-
-    /// The same ends with other links at one half.
-    pub(crate) fn with(self, forward: bool, to: Links) -> Ends
-        ensures { result ≡ with_links_at forward to self }
+    pub(crate) fn at(&self, forward: bool) -> &Links
+        ensures { result.now ≡ links_at forward self.now }
     {
         if forward {
-            Ends {
-                forward: to,
-                backward: self.backward,
-            }
+            &self.forward
         } else {
-            Ends {
-                forward: self.forward,
-                backward: to,
-            }
+            &self.backward
+        }
+    }
+
+    /// Puts other links at one half.
+    pub(crate) fn set(&mut self, forward: bool, to: Links)
+        ensures { self.new ≡ with_links_at forward to self.old }
+    {
+        if forward {
+            self.forward = to;
+        } else {
+            self.backward = to;
         }
     }
 }

@@ -1,8 +1,8 @@
 //! The rows of a table: under the number of each string the links of its two halves.
-ghost use Rattle.std.specs.Prelude.{◌≡◌, true, Some, nat_eq, option_copied};
+ghost use Rattle.std.specs.Prelude.{◌≡◌, true, Some, IfSome, nat_eq, option_copied, option_map, slice_get};
 ghost use Rattle.std.specs.Map.{lookup};
-ghost use Rattle.indexmap.specs.IndexMap.{ContainsKey, Updates};
-ghost use Rattle.half_table.specs.Rows.{strings, links_of, has, next, prev};
+ghost use Rattle.half_table.specs.declared.links.Links.{Links as HalfLinks};
+ghost use Rattle.half_table.specs.Rows.{links_of, has, next, prev};
 ghost use Rattle.half_table.specs.Writes.{ChangesLinks, ChangesNext, ChangesPrev, ChangesFace, Relinks};
 
 use crate::half::Half;
@@ -21,23 +21,27 @@ fn guessed_place(rows: &Rows, string: &StringNo) -> usize {
     }
 }
 
-// The links of the halves of a string. They are looked for first where they mostly are.
-fn find_ends<'a>(rows: &'a Rows, string: &StringNo) -> Option<&'a Ends>
-    ensures { option_copied result ≡ lookup (nat_eq string.now) rows.now.entries }
+// Where the links of the halves of a string stand, and what they are. They are looked for first
+// where they mostly are.
+fn find_ends<'a>(rows: &'a Rows, string: &StringNo) -> Option<(usize, &'a Ends)>
+    ensures ends { option_map (λ found. found.1.now) result ≡ lookup (nat_eq string.now) rows.now.entries }
+    ensures place { IfSome result (λ found. slice_get rows.now.entries found.0 ≡ Some (string.now, found.1.now)) }
 {
-    if let Some((key, ends)) = rows.get_index(guessed_place(rows, string)) {
+    let guess = guessed_place(rows, string);
+    if let Some((key, ends)) = rows.get_index(guess) {
         if key == string {
-            return Some(ends);
+            return Some((guess, ends));
         }
     }
-    rows.get(string)
+    let (place, _, ends) = rows.get_full(string)?;
+    Some((place, ends))
 }
 
 /// The links of a half.
-pub(crate) fn find_links(rows: &Rows, h: &Half) -> Option<Links>
-    ensures { result ≡ links_of rows.now.entries h.now }
+pub(crate) fn find_links<'a>(rows: &'a Rows, h: &Half) -> Option<&'a Links>
+    ensures { option_copied result ≡ links_of rows.now.entries h.now }
 {
-    let ends = find_ends(rows, &h.string)?;
+    let (_, ends) = find_ends(rows, &h.string)?;
     Some(ends.at(h.forward))
 }
 
@@ -51,20 +55,30 @@ pub(crate) fn next_half(rows: &Rows, h: &Half) -> Half
     }
 }
 
+// Changes the links of a half, and gives those that it had.
+fn change_links<F: FnOnce(Links) -> Links>(rows: &mut Rows, h: &Half, change: F) -> Links
+    requires h_in { has rows.old.entries h.now ≡ true }
+    requires callable { F.IsAlwaysCallable change }
+    ensures was { links_of rows.old.entries h.now ≡ Some result }
+    ensures changes { (to : HalfLinks) × F.post change result to
+        × ChangesLinks h.now to rows.old.entries rows.new.entries }
+{
+    let (place, ends) = find_ends(rows, &h.string).unwrap();
+    let links = ends.at(h.forward);
+    let was = *links;
+    let to = change(*links);
+    let ends = rows.get_index_mut(place).unwrap();
+    ends.set(h.forward, to);
+    was
+}
+
 /// Links a half to another next, and gives the one that it had.
 pub(crate) fn set_next(rows: &mut Rows, h: &Half, to: &Half) -> Half
     requires { has rows.old.entries h.now ≡ true }
     ensures changes { ChangesNext h.now to.now rows.old.entries rows.new.entries }
     ensures was { result ≡ next rows.old.entries h.now }
 {
-    match rows.get_mut(&h.string) {
-        Some(ends) => {
-            let links = ends.at(h.forward);
-            *ends = ends.with(h.forward, Links { next: *to, ..links });
-            links.next
-        }
-        None => *h,
-    }
+    change_links(rows, h, |links| Links { next: *to, ..links }).next
 }
 
 /// Links a half to another prev, and gives the one that it had.
@@ -73,14 +87,7 @@ pub(crate) fn set_prev(rows: &mut Rows, h: &Half, to: &Half) -> Half
     ensures changes { ChangesPrev h.now to.now rows.old.entries rows.new.entries }
     ensures was { result ≡ prev rows.old.entries h.now }
 {
-    match rows.get_mut(&h.string) {
-        Some(ends) => {
-            let links = ends.at(h.forward);
-            *ends = ends.with(h.forward, Links { prev: *to, ..links });
-            links.prev
-        }
-        None => *h,
-    }
+    change_links(rows, h, |links| Links { prev: *to, ..links }).prev
 }
 
 /// Puts another face to the left of a half, and gives the half that follows.
@@ -89,14 +96,7 @@ pub(crate) fn set_face(rows: &mut Rows, h: &Half, to: &Face) -> Half
     ensures changes { ChangesFace h.now to.now rows.old.entries rows.new.entries }
     ensures next { result ≡ next rows.new.entries h.now }
 {
-    match rows.get_mut(&h.string) {
-        Some(ends) => {
-            let links = ends.at(h.forward);
-            *ends = ends.with(h.forward, Links { face: *to, ..links });
-            links.next
-        }
-        None => *h,
-    }
+    change_links(rows, h, |links| Links { face: *to, ..links }).next
 }
 
 /// Writes what a half follows, what follows it and the face to its left. Its origin stays.
@@ -104,16 +104,14 @@ pub(crate) fn set_links(rows: &mut Rows, h: &Half, prev: &Half, next: &Half, fac
     requires { has rows.old.entries h.now ≡ true }
     ensures { Relinks h.now prev.now next.now face.now rows.old.entries rows.new.entries }
 {
-    if let Some(ends) = rows.get_mut(&h.string) {
-        let origin = ends.at(h.forward).origin;
-        *ends = ends.with(
-            h.forward,
-            Links {
-                origin,
-                next: *next,
-                prev: *prev,
-                face: *face,
-            },
-        );
-    }
+    change_links(
+        rows,
+        h,
+        |links| Links {
+            next: *next,
+            prev: *prev,
+            face: *face,
+            ..links
+        },
+    );
 }

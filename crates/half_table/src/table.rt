@@ -104,9 +104,9 @@ impl<T: Tally> HalfTable<T> {
         }
     }
 
-    fn links(&self, h: &Half) -> Links
+    fn links(&self, h: &Half) -> &Links
         requires { has self.now.rows h.now ≡ true }
-        ensures is { links_of self.now.rows h.now ≡ Some result }
+        ensures is { links_of self.now.rows h.now ≡ Some result.now }
         ensures linked { IsLinked self.now.rows }
     {
         find_links(&self.rows, h).unwrap()

@@ -111,6 +111,28 @@ fn splices_two_loose_strings(rt: HostRuntime) -> Result<(), Fail> {
 }
 
 #[test]
+fn finds_strings_that_came_out_of_turn(rt: HostRuntime) -> Result<(), Fail> {
+    let alloc = rt.alloc();
+    let mut table = HalfTable::new(alloc, NumberHash::fixed(), Ticks::new());
+    add(&rt, &mut table, 12, 2, 3)?;
+    add(&rt, &mut table, 14, 3, 4)?;
+    add(&rt, &mut table, 11, 1, 2)?;
+    splice(&rt, &mut table, (11, true), (12, false));
+    splice(&rt, &mut table, (12, true), (14, false));
+    let around = walked(&rt, alloc, &table, 14, false)?;
+    let wanted = [
+        (14, false),
+        (12, false),
+        (11, false),
+        (11, true),
+        (12, true),
+        (14, true),
+    ];
+    assert_eq!(rt; around.as_slice(), wanted.as_slice());
+    Ok(())
+}
+
+#[test]
 fn builds_a_triangular_island(rt: HostRuntime) -> Result<(), Fail> {
     let alloc = rt.alloc();
     let mut table = HalfTable::new(alloc, NumberHash::fixed(), Ticks::new());
