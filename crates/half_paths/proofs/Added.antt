@@ -1,5 +1,5 @@
 -- Strings added one after another, and taken back.
-use Rattle.std.proofs.Common.{◌≡◌, ◌<◌, ◌+◌, ℕ, length, take, get_or, Bool, true, false, ◌||◌, List, [], ◌∷◌, ◌++◌, refl, sym, ap, ◌∙◌, subst, append_assoc, nat_eq, if◌then◌else◌, cond, Some, None, is_some, option_map}
+use Rattle.std.proofs.Common.{arith, ◌≡◌, ◌<◌, ◌+◌, ◌-◌, ℕ, length, take, get_or, Bool, true, false, ◌||◌, List, [], ◌∷◌, ◌++◌, refl, sym, ap, ◌∙◌, subst, append_assoc, nat_eq, if◌then◌else◌, cond, Some, None, is_some, option_map}
 use Rattle.std.proofs.lemmas.Bool.Decides.{Decides-eqb}
 use Rattle.std.proofs.lemmas.List.{append-nil, map-append, take_more}
 use Rattle.std.specs.List.{AllByRecursion, IsDistinct, list_any}
@@ -115,12 +115,15 @@ pub numbers-rest : (s : StringRow) (added : List StringRow) → IsDistinct nat_e
 unfolding IsDistinct
 numbers-rest s added d = d.1
 
--- the rows where the last string is told by its place
-pub rows-last : (rows before : HalfRows) (added : List StringRow) (n k : ℕ) (d : StringRow) → n ≡ k + 1 → k < length added
-    → rows ≡ before ++ loose_rows (take n added)
-    → rows ≡ (before ++ loose_rows (take k added)) ++ ((get_or added k d).number, loose_ends (get_or added k d).number (get_or added k d).from (get_or added k d).to) ∷ []
-rows-last rows before added n k d more within is =
-    is ∙ ap (λ m. before ++ loose_rows (take m added)) more ∙ ap (λ l. before ++ loose_rows l) (take_more added k d within)
+-- the rows where the last string that is left is told by its place
+pub rows-last : (rows before : HalfRows) (added : List StringRow) (gone : ℕ) (d : StringRow) → gone < length added
+    → rows ≡ before ++ loose_rows (take (length added - gone) added)
+    → let k = length added - 1 - gone in
+    rows ≡ (before ++ loose_rows (take k added)) ++ ((get_or added k d).number, loose_ends (get_or added k d).number (get_or added k d).from (get_or added k d).to) ∷ []
+rows-last rows before added gone d within is =
+    let k = length added - 1 - gone in
+    let more : length added - gone ≡ k + 1 = omega (arith, within) in
+    is ∙ ap (λ m. before ++ loose_rows (take m added)) more ∙ ap (λ l. before ++ loose_rows l) (take_more added k d (omega (arith, within)))
     ∙ loose_rows-more before (take k added) (get_or added k d)
 
 -- one tick more, at the end

@@ -91,8 +91,8 @@ unstrung-back f a rest tied g = redirect-back (unstrung a rest) (strung a rest) 
 -- ---- Steps of the program
 
 -- a splice, where one half is known by another name
-pub splice-next : (r s : HalfRows) (a b z : Half) → IsSpliced a b r s → b ≡ z → next s ≡ exchanged a z (next r)
-splice-next r s a b z one is = λ i g. (one.next g ∙ ap (λ h. exchanged a h (next r) g) is) i
+pub splice-next : (r s : HalfRows) (a b : Half) → IsSpliced a b r s → next s ≡ exchanged a b (next r)
+splice-next r s a b one = λ i g. one.next g i
 
 pub in-kept : (r s : HalfRows) (halves : List Half) → KeepsHalves r s → AreIn r halves → AreIn s halves
 in-kept r s [] k i = tt

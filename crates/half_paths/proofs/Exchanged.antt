@@ -22,15 +22,16 @@ use Rattle.half_paths.proofs.Apart.{neither-in, other, elsewhere, far, last-turn
 
 -- ---- Paths of different strings
 
+-- a half of no string of two paths together is of none of either
+elsewhere-parts : (g : Half) (xs ys : List Half) → AreElsewhere g (xs ++ ys) → AreElsewhere g xs × AreElsewhere g ys
+elsewhere-parts g [] ys e = (tt, e)
+elsewhere-parts g (x ∷ xs) ys e = let p = elsewhere-parts g xs ys e.1 in ((e.0, p.0), p.1)
+
 -- strings that differ in two paths together
 pub first-part : (xs ys : List Half) → AreDifferent (xs ++ ys) → AreDifferent xs
 unfolding IsDistinct
 first-part [] ys d = tt
-first-part (x ∷ xs) ys d = (front x xs d.0, first-part xs ys d.1)
-  where
-    front : (g : Half) (zs : List Half) → AreElsewhere g (zs ++ ys) → AreElsewhere g zs
-    front g [] e = tt
-    front g (z ∷ zs) e = (e.0, front g zs e.1)
+first-part (x ∷ xs) ys d = ((elsewhere-parts x xs ys d.0).0, first-part xs ys d.1)
 
 pub second-part : (xs ys : List Half) → AreDifferent (xs ++ ys) → AreDifferent ys
 unfolding IsDistinct
@@ -40,11 +41,7 @@ second-part (x ∷ xs) ys d = second-part xs ys d.1
 pub parts-apart : (xs ys : List Half) → AreDifferent (xs ++ ys) → AllByRecursion (λ x. AreElsewhere x ys) xs
 unfolding IsDistinct
 parts-apart [] ys d = tt
-parts-apart (x ∷ xs) ys d = (back x xs d.0, parts-apart xs ys d.1)
-  where
-    back : (g : Half) (zs : List Half) → AreElsewhere g (zs ++ ys) → AreElsewhere g ys
-    back g [] e = e
-    back g (z ∷ zs) e = back g zs e.1
+parts-apart (x ∷ xs) ys d = ((elsewhere-parts x xs ys d.0).1, parts-apart xs ys d.1)
 
 -- what holds of each half of a path holds of its last
 pub last-all : (P : Half → Type 0) (a : Half) (rest : List Half) → AllByRecursion P (a ∷ rest) → P (last_of a rest)

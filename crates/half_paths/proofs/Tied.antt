@@ -1,10 +1,10 @@
 -- Strings that are tied together, and taken apart, and halves elsewhere.
-use Rattle.std.proofs.Common.{◌≡◌, false, List, [], ◌∷◌, if◌then◌else◌, refl, sym, ap, ◌∙◌, nat_eq}
-use Rattle.std.specs.List.{AllByRecursion, IsDistinct}
+use Rattle.std.proofs.Common.{◌≡◌, false, List, [], ◌∷◌, if◌then◌else◌, ap, ◌∙◌}
+use Rattle.std.specs.List.{IsDistinct}
 use Rattle.half_table.specs.declared.half.Half.{Half}
 use Rattle.half_table.specs.Half.{twin, is_half}
 use Rattle.half_table.specs.Cycle.{holds}
-use Rattle.half_table.proofs.Halves.{is_half-turned, twin-twin, is_half-self}
+use Rattle.half_table.proofs.Halves.{is_half-turned, is_half-self}
 use Rattle.half_paths.specs.Redirect.{written, redirect}
 use Rattle.half_paths.specs.Path.{AreDifferent, AreElsewhere, last_of}
 use Rattle.half_paths.specs.Strung.{strung, unstrung, IsStrung, IsUnstrung}

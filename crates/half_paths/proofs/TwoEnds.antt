@@ -1,5 +1,5 @@
 -- Paths put in and cut at their two ends, and closed.
-use Rattle.std.proofs.Common.{◌≡◌, ◌≢◌, if◌then◌else◌, refl, sym, ap, ◌∙◌}
+use Rattle.std.proofs.Common.{◌≡◌, ◌≢◌, if◌then◌else◌, sym, ap, ◌∙◌}
 use Rattle.half_table.specs.declared.half.Half.{Half}
 use Rattle.half_table.specs.Half.{twin, is_half}
 use Rattle.half_table.specs.Cycle.{exchanged}
@@ -76,18 +76,16 @@ put-returns before beyond first last f c =
     ∙ exchanged-other f before (twin first) last c.last_before c.last_first ∙ c.last_free
 
 -- the two splices of a cut
-pub cut-next : (r s t : HalfRows) (first last x y z : Half) → IsSpliced last y r s → IsSpliced x z s t → x ≡ prev r first → y ≡ prev r (twin last) → z ≡ twin first
+pub cut-next : (r s t : HalfRows) (first last x y : Half) → IsSpliced last y r s → IsSpliced x (twin first) s t → x ≡ prev r first → y ≡ prev r (twin last)
     → next t ≡ exchanged (prev r first) (twin first) (exchanged last (prev r (twin last)) (next r))
-cut-next r s t first last x y z one two is_x is_y is_z = λ i q. way q i
-  where
-    way : (q : Half) → next t q ≡ exchanged (prev r first) (twin first) (exchanged last (prev r (twin last)) (next r)) q
-    way q = two.next q ∙ (λ j. exchanged (is_x j) (is_z j) (λ h. (one.next h ∙ ap (λ b. exchanged last b (next r) h) is_y) j) q)
+cut-next r s t first last x y one two is_x is_y =
+    splice-next s t x (twin first) two ∙ (λ j. exchanged (is_x j) (twin first) ((splice-next r s last y one ∙ ap (λ b. exchanged last b (next r)) is_y) j))
 
 -- the two splices of a put
-pub put-next : (r s t : HalfRows) (before beyond first last z : Half) → IsSpliced before z r s → IsSpliced last beyond s t → z ≡ twin first
+pub put-next : (r s t : HalfRows) (before beyond first last : Half) → IsSpliced before (twin first) r s → IsSpliced last beyond s t
     → next t ≡ exchanged last beyond (exchanged before (twin first) (next r))
-put-next r s t before beyond first last z one two is_z =
-    splice-next s t last beyond beyond two refl ∙ ap (exchanged last beyond) (splice-next r s before z (twin first) one is_z)
+put-next r s t before beyond first last one two =
+    splice-next s t last beyond two ∙ ap (exchanged last beyond) (splice-next r s before (twin first) one)
 
 -- what was put in is cut out again
 pub cut-back : (r : HalfRows) (before beyond first last : Half) (f : Half → Half) → IsLinked r → CanPut before beyond first last f

@@ -8,6 +8,7 @@ ghost use Rattle.half_table.specs.Count.{ticked};
 ghost use Rattle.half_paths.specs.Redirect.{redirect};
 ghost use Rattle.half_paths.specs.Ends.{put, CanPut, cut, CanCut, IsPut, closed, opened};
 
+use crate::path::splice_between;
 use half_table::{Half, HalfTable, Tally};
 
 /// Puts a path in at two halves. After `before` comes the path, and after its last half what
@@ -42,8 +43,7 @@ pub fn put_path<T: Tally>(
     ensures linked { IsLinked table.new.rows }
     ensures work { table.new.work ≡ ticked 2 table.old.work }
 {
-    let back = table.twin(first);
-    table.splice(before, back);
+    splice_between(table, before, first);
     table.splice(last, beyond);
 }
 
@@ -69,12 +69,11 @@ pub fn cut_path<T: Tally>(table: &mut HalfTable<T>, first: Half, last: Half)
 {
     let start = &first;
     let end = &last;
-    let back = table.twin(*start);
     let turn = table.twin(*end);
     let before = table.prev(*start);
     let beyond = table.prev(turn);
     table.splice(*end, beyond);
-    table.splice(before, back);
+    splice_between(table, before, *start);
 }
 
 /// Closes a path to a ring: its last half is followed by its first, and on the way back the first by
@@ -98,8 +97,7 @@ pub fn close_ring<T: Tally>(table: &mut HalfTable<T>, first: Half, last: Half)
     ensures linked { IsLinked table.new.rows }
     ensures work { table.new.work ≡ ticked 1 table.old.work }
 {
-    let back = table.twin(first);
-    table.splice(last, back);
+    splice_between(table, last, first);
 }
 
 /// Opens a ring between its last and its first half: it is a path with two free ends. One tick.
@@ -122,6 +120,5 @@ pub fn open_ring<T: Tally>(table: &mut HalfTable<T>, first: Half, last: Half)
     ensures linked { IsLinked table.new.rows }
     ensures work { table.new.work ≡ ticked 1 table.old.work }
 {
-    let back = table.twin(first);
-    table.splice(last, back);
+    splice_between(table, last, first);
 }

@@ -1,9 +1,9 @@
 //! Strings tied together to a path, and taken apart.
-ghost use Rattle.std.specs.Prelude.{◌≡◌, ◌∷◌, length};
+ghost use Rattle.std.specs.Prelude.{◌≡◌, ◌∷◌, true, length};
 ghost use Rattle.half_table.specs.declared.half.Half.{Half as HalfEdge};
 ghost use Rattle.half_table.specs.Half.{twin};
-ghost use Rattle.half_table.specs.Rows.{next, IsLinked};
-ghost use Rattle.half_table.specs.Surgery.{KeepsHalves};
+ghost use Rattle.half_table.specs.Rows.{has, next, IsLinked};
+ghost use Rattle.half_table.specs.Surgery.{KeepsHalves, IsSpliced};
 ghost use Rattle.half_table.specs.Count.{ticked};
 ghost use Rattle.half_paths.specs.Redirect.{redirect};
 ghost use Rattle.half_paths.specs.Path.{AreIn, AreDifferent, last_of};
@@ -78,8 +78,20 @@ fn splice_along<T: Tally>(table: &mut HalfTable<T>, first: Half, rest: &[Half])
 {
     let mut last = first;
     for h in rest {
-        let back = table.twin(*h);
-        table.splice(last, back);
+        splice_between(table, last, *h);
         last = *h;
     }
+}
+
+/// A splice at the point that one half comes to and another leaves: of the one, and of the other's
+/// twin. It ties two free ends together and parts tied ones.
+pub(crate) fn splice_between<T: Tally>(table: &mut HalfTable<T>, coming: Half, leaving: Half)
+    requires coming_in { has table.old.rows coming ≡ true }
+    requires leaving_in { has table.old.rows leaving ≡ true }
+    ensures spliced { IsSpliced coming (twin leaving) table.old.rows table.new.rows }
+    ensures linked { IsLinked table.new.rows }
+    ensures work { table.new.work ≡ ticked 1 table.old.work }
+{
+    let back = table.twin(leaving);
+    table.splice(coming, back);
 }

@@ -8,11 +8,11 @@ use Rattle.half_paths.proofs.ends.close_ring.Goals as goal
 
 pub returns-clause-next : goal.returns-clause-next
 returns-clause-next g c = λ h.
-    c.splice.ensures.spliced.next h ∙ ap (λ b. exchanged c.args.last b (next c.args.table.now.rows) h) c.twin-back.ensures.is
+    c.splice_between.ensures.spliced.next h
     ∙ ap (λ f. f h) (closed-is c.args.first c.args.last (next c.args.table.now.rows) c.requires.first_free c.requires.last_free)
 
 pub returns-clause-back : goal.returns-clause-back
 returns-clause-back g c = λ old one two same h.
-    c.splice.ensures.spliced.next h ∙ ap (λ b. exchanged c.args.last b (next c.args.table.now.rows) h) c.twin-back.ensures.is
+    c.splice_between.ensures.spliced.next h
     ∙ ap (λ f. exchanged c.args.last (twin c.args.first) f h) ((λ i q. same q i) ∙ sym (opened-is c.args.first c.args.last old one two))
     ∙ exchanged-twice old c.args.last (twin c.args.first) h

@@ -12,8 +12,8 @@ returns-clause-next g c =
     let first : Half = c.args.first in
     let last : Half = c.args.last in
     λ can h. ap (λ f. f h)
-    (cut-next r c.splice.new.self.rows c.splice-2.new.self.rows first last c.prev-before.result c.prev-beyond.result c.twin-back.result
-    c.splice.ensures.spliced c.splice-2.ensures.spliced c.prev-before.ensures.is (c.prev-beyond.ensures.is ∙ ap (prev r) c.twin-turn.ensures.is) c.twin-back.ensures.is
+    (cut-next r c.splice.new.self.rows c.splice_between.new.table.rows first last c.prev-before.result c.prev-beyond.result
+    c.splice.ensures.spliced c.splice_between.ensures.spliced c.prev-before.ensures.is (c.prev-beyond.ensures.is ∙ ap (prev r) c.twin-turn.ensures.is)
     ∙ cut-is (prev r first) (prev r (twin last)) first last (next r) (record { enters = c.prev-before.ensures.linked.next_prev first; returns = c.prev-before.ensures.linked.next_prev (twin last) }) can)
 
 pub returns-clause-back : goal.returns-clause-back
@@ -22,15 +22,15 @@ returns-clause-back g c =
     let first : Half = c.args.first in
     let last : Half = c.args.last in
     λ before beyond old can same h.
-    ap (λ f. f h) (cut-next r c.splice.new.self.rows c.splice-2.new.self.rows first last c.prev-before.result c.prev-beyond.result c.twin-back.result
-    c.splice.ensures.spliced c.splice-2.ensures.spliced c.prev-before.ensures.is (c.prev-beyond.ensures.is ∙ ap (prev r) c.twin-turn.ensures.is) c.twin-back.ensures.is)
+    ap (λ f. f h) (cut-next r c.splice.new.self.rows c.splice_between.new.table.rows first last c.prev-before.result c.prev-beyond.result
+    c.splice.ensures.spliced c.splice_between.ensures.spliced c.prev-before.ensures.is (c.prev-beyond.ensures.is ∙ ap (prev r) c.twin-turn.ensures.is))
     ∙ cut-back r before beyond first last old c.prev-before.ensures.linked can same h
 
 pub returns-clause-halves : goal.returns-clause-halves
-returns-clause-halves g c = keeps-on _ _ _ c.splice.ensures.spliced.halves c.splice-2.ensures.spliced.halves
+returns-clause-halves g c = keeps-on _ _ _ c.splice.ensures.spliced.halves c.splice_between.ensures.spliced.halves
 
-pub splice-requires-2-clause-a_in : goal.splice-requires-2-clause-a_in
-splice-requires-2-clause-a_in g c = c.splice.ensures.spliced.halves.has _ ∙ c.prev-before.ensures.inside
+pub splice_between-requires-clause-coming_in : goal.splice_between-requires-clause-coming_in
+splice_between-requires-clause-coming_in g c = c.splice.ensures.spliced.halves.has _ ∙ c.prev-before.ensures.inside
 
-pub splice-requires-2-clause-b_in : goal.splice-requires-2-clause-b_in
-splice-requires-2-clause-b_in g c = c.splice.ensures.spliced.halves.has _ ∙ c.twin-back.ensures.inside ∙ c.requires.first_in
+pub splice_between-requires-clause-leaving_in : goal.splice_between-requires-clause-leaving_in
+splice_between-requires-clause-leaving_in g c = c.splice.ensures.spliced.halves.has _ ∙ c.requires.first_in

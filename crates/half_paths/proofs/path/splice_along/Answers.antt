@@ -20,16 +20,16 @@ loop-h-init g c = record {
   work = refl;
 }
 
-pub splice-requires-clause-a_in : goal.splice-requires-clause-a_in
-splice-requires-clause-a_in g c = c.loop-h.invariant.within.0
+pub splice_between-requires-clause-coming_in : goal.splice_between-requires-clause-coming_in
+splice_between-requires-clause-coming_in g c = c.loop-h.invariant.within.0
 
-pub splice-requires-clause-b_in : goal.splice-requires-clause-b_in
-splice-requires-clause-b_in g c =
+pub splice_between-requires-clause-leaving_in : goal.splice_between-requires-clause-leaving_in
+splice_between-requires-clause-leaving_in g c =
     let rest = c.args.rest.now in
     let i = c.loop-h.h-index in
     let item : drop i rest ≡ c.h-item.result ∷ drop (i + 1) rest = drop_more rest i c.h-item.result c.loop-h-test.true ∙ ap (λ x. x ∷ drop (i + 1) rest) (sym c.h-item.is) in
     let here : AreIn c.loop-h.table.rows (c.h-item.result ∷ drop (i + 1) rest) = subst (AreIn c.loop-h.table.rows) item c.loop-h.invariant.within.1 in
-    c.twin-back.ensures.inside ∙ here.0
+    here.0
 
 pub loop-h-preserved : goal.loop-h-preserved
 loop-h-preserved g c =
@@ -38,20 +38,20 @@ loop-h-preserved g c =
     let h : Half = c.h-item.result in
     let last : Half = c.loop-h.last in
     let old = c.loop-h.table.rows in
-    let new = c.splice.new.self.rows in
+    let new = c.splice_between.new.table.rows in
     let tail = drop (i + 1) rest in
     let item : drop i rest ≡ h ∷ tail = drop_more rest i h c.loop-h-test.true ∙ ap (λ x. x ∷ drop (i + 1) rest) (sym c.h-item.is) in
     let here : AreIn old (h ∷ tail) = subst (AreIn old) item c.loop-h.invariant.within.1 in
-    let step : next new ≡ exchanged last (twin h) (next old) = splice-next old new last c.twin-back.result (twin h) c.splice.ensures.spliced c.twin-back.ensures.is in
+    let step : next new ≡ exchanged last (twin h) (next old) = splice-next old new last (twin h) c.splice_between.ensures.spliced in
     let before : along last (h ∷ tail) (next old) ≡ along c.args.first rest (next c.args.table.now.rows) =
     ap (λ l. along last l (next old)) (sym item) ∙ c.loop-h.invariant.along in
-    let halves : KeepsHalves old new = c.splice.ensures.spliced.halves in
+    let halves : KeepsHalves old new = c.splice_between.ensures.spliced.halves in
     record {
       along = ap (along h tail) step ∙ before;
       within = in-kept old new (h ∷ tail) halves here;
       halves = keeps-on c.args.table.now.rows old new c.loop-h.invariant.halves halves;
-      linked = c.splice.ensures.linked;
-      work = ap (ticked (length tail)) c.splice.ensures.work ∙ ap (λ l. ticked (length l) c.loop-h.table.work) (sym item) ∙ c.loop-h.invariant.work;
+      linked = c.splice_between.ensures.linked;
+      work = ap (ticked (length tail)) c.splice_between.ensures.work ∙ ap (λ l. ticked (length l) c.loop-h.table.work) (sym item) ∙ c.loop-h.invariant.work;
     }
 
 pub returns-clause-next : goal.returns-clause-next

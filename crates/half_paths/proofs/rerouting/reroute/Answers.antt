@@ -10,7 +10,13 @@ use Rattle.half_paths.specs.Ends.{put, CanPut, cut, CanCut}
 use Rattle.half_paths.specs.Rerouted.{rerouted}
 use Rattle.half_paths.proofs.Along.{keeps-on, in-kept, ticked-add}
 use Rattle.half_paths.proofs.Exchanged.{first-part, second-part, last-all, unstrung-loose, tied, beside, still-strung, can-put, beside-first, beside-last, can-cut, all-steps, commuted, now-pa, now-pb, exchanged-back}
+use Rattle.half_paths.proofs.rerouting.reroute.Goals.{After-loosen}
 use Rattle.half_paths.proofs.rerouting.reroute.Goals as goal
+
+-- what follows each half once the new path is tied together and the old one taken apart
+both_tied : (g : _) (c : goal.After-loosen g) → next c.loosen.new.table.rows ≡ tied (next c.args.table.now.rows) c.args.old_first c.args.old_rest.now c.args.first c.args.rest.now
+both_tied g c = λ i h.
+    (c.loosen.ensures.next h ∙ ap (λ n. redirect (unstrung c.args.old_first c.args.old_rest.now) n h) (λ j k. c.string_up.ensures.next k j)) i
 
 pub string_up-requires-clause-different : goal.string_up-requires-clause-different
 string_up-requires-clause-different g c = second-part (c.args.old_first ∷ c.args.old_rest.now) (c.args.first ∷ c.args.rest.now) c.requires.different
@@ -58,8 +64,7 @@ put_path-requires-clause-free g c =
     let ar = c.args.old_rest.now in
     let q : Half = c.args.first in
     let qr = c.args.rest.now in
-    let one : next c.string_up.new.table.rows ≡ redirect (strung q qr) (next r) = λ i h. c.string_up.ensures.next h i in
-    let two : next c.loosen.new.table.rows ≡ tied (next r) a ar q qr = λ i h. (c.loosen.ensures.next h ∙ ap (λ n. redirect (unstrung a ar) n h) one) i in
+    let two = both_tied g (goal.at.put_path-requires-clause-free g c).After-loosen in
     subst (λ (t : Half × Half × Half × (Half → Half)). CanPut t.0 t.1 q t.2 t.3) (λ j. (sym c.prev-before.ensures.is j, sym c.last_half-old_last.ensures j, sym c.last_half-last.ensures j, sym two j))
     (can-put (next r) a ar q qr (prev r a) (prev r (twin (last_of a ar))) c.requires.different c.requires.can (c.requires.linked.next_prev a) (c.requires.linked.next_prev (twin (last_of a ar))))
 
@@ -88,8 +93,7 @@ returns-clause-next g c =
     let is_pa : c.prev-before.result ≡ pa = c.prev-before.ensures.is in
     let is_p : c.last_half-old_last.result ≡ last_of a ar = c.last_half-old_last.ensures in
     let is_z : c.last_half-last.result ≡ last_of q qr = c.last_half-last.ensures in
-    let one : next c.string_up.new.table.rows ≡ redirect (strung q qr) (next r) = λ i h. c.string_up.ensures.next h i in
-    let two : next c.loosen.new.table.rows ≡ tied (next r) a ar q qr = λ i h. (c.loosen.ensures.next h ∙ ap (λ n. redirect (unstrung a ar) n h) one) i in
+    let two = both_tied g (goal.at.returns-clause-next g c).After-loosen in
     let three : next t ≡ beside (next r) a ar q qr pa = λ i h. (c.put_path.ensures.next h ∙ (λ j. redirect (put (is_pa j) (is_p j) q (is_z j) (two j)) (two j) h)) i in
     let from : prev t a ≡ twin q = ap (prev t) (sym (ap (λ n. n (twin q)) three ∙ beside-first (next r) a ar q qr pa pb d can enters returns)) ∙ c.put_path.ensures.linked.prev_next (twin q) in
     let to : prev t (twin c.last_half-old_last.result) ≡ pb =

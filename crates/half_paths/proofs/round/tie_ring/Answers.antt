@@ -1,4 +1,4 @@
-use Rattle.std.proofs.Common.{◌≡◌, ◌∙◌, ◌∷◌, ◌+◌, ap, sym, subst, true, length}
+use Rattle.std.proofs.Common.{◌≡◌, ◌∙◌, ◌∷◌, ap, sym, subst, true, length}
 use Rattle.half_table.specs.Count.{ticked}
 use Rattle.half_table.specs.declared.half.Half.{Half}
 use Rattle.half_table.specs.Half.{twin}
@@ -8,7 +8,7 @@ use Rattle.half_paths.specs.Path.{last_of}
 use Rattle.half_paths.specs.Strung.{strung, IsStrung}
 use Rattle.half_paths.specs.Ends.{closed}
 use Rattle.half_paths.specs.Round.{IsRound}
-use Rattle.half_paths.proofs.Along.{keeps-on, in-kept, ticked-add}
+use Rattle.half_paths.proofs.Along.{keeps-on, ticked-add}
 use Rattle.half_paths.proofs.Exchanged.{last-all, unstrung-loose, each-loose}
 use Rattle.half_paths.proofs.Tied.{strung-now, strung-elsewhere, round-now, end-elsewhere}
 use Rattle.half_paths.proofs.round.tie_ring.Goals as goal
