@@ -24,6 +24,3 @@ pub use numbers::{
 };
 pub use refusals::{Refusal, Rule};
 pub use rows::{ParcelRow, PointRow, SourceRow, StringRow};
-
-#[cfg(test)]
-mod tests;

@@ -7,6 +7,5 @@ mod Nearness
 mod Found
 mod Levels
 mod Grids
-mod Passed
 mod Together
 pub mod CallerLemmas

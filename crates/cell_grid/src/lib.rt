@@ -21,6 +21,3 @@ mod segments;
 pub use entries::Entries;
 pub use entry::{HeldPoint, HeldString};
 pub use grid::{Candidates, CellGrid, PointCandidates};
-
-#[cfg(test)]
-mod tests;

@@ -8,6 +8,3 @@ mod marks;
 mod moves;
 
 pub use list::EntryList;
-
-#[cfg(test)]
-mod tests;

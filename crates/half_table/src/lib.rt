@@ -16,6 +16,3 @@ pub use open::OpenTable;
 pub use table::HalfTable;
 pub use tally::{Tally, Ticks};
 pub use walk::Walk;
-
-#[cfg(test)]
-mod tests;

@@ -4,6 +4,3 @@
 mod lists;
 
 pub use lists::KeyLists;
-
-#[cfg(test)]
-mod tests;

@@ -6,6 +6,3 @@ mod hasher;
 
 pub use hash::NumberHash;
 pub use hasher::NumberHasher;
-
-#[cfg(test)]
-mod tests;

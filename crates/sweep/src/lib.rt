@@ -17,6 +17,3 @@ pub use groups::all_of_two_groups_pass;
 pub use repeats::first_repeated;
 pub use scan::{PairTest, all_that_meet_pass};
 pub use span::Span;
-
-#[cfg(test)]
-mod tests;

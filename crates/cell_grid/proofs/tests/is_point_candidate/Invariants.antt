@@ -1,8 +1,0 @@
-use Rattle.std.proofs.Common.{◌≡◌}
-use Rattle.std.specs.List.{Contains}
-use Rattle.cell_grid.specs.declared.entry.HeldPoint.{HeldPoint}
-use Rattle.cell_grid.proofs.tests.is_point_candidate.Given as goal
-
--- none of the candidates so far is the one that is looked for
-abbrev pub invariant-loop-other : goal.invariant-loop-other
-invariant-loop-other l = (k : HeldPoint) → Contains l.yielded k → ¬ (k.point ≡ l.no)
