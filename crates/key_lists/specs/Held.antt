@@ -1,5 +1,5 @@
 -- Lists under keys, and the room that each has.
-use Rattle.std.specs.Prelude.{◌≡◌, ℕ, ◌+◌, ◌≤◌, vec_capacity, List, [], length, Option, nat_eq, option_map, unwrap_or}
+use Rattle.std.specs.Prelude.{◌≡◌, ℕ, ◌+◌, ◌≤◌, vec_capacity, List, [], length, Option, nat_eq, option_map, unwrap_or, slice_get, Some}
 use Rattle.std.specs.Map.{lookup}
 use Rattle.std.specs.Global.{Vec}
 
@@ -31,3 +31,7 @@ module _ {X : Type 0} where
   -- the items under every key are as they were
   abbrev pub IsSame : Held X → Held X → Type 0
   IsSame old new = (key : ℕ) → items_at new key ≡ items_at old key
+
+  -- the list at the place is that under the key
+  abbrev pub IsUnderAt : Held X → ℕ → ℕ → Type 0
+  IsUnderAt held place key = (list : Vec X) × (slice_get held place ≡ Some (key, list))

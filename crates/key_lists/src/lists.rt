@@ -1,6 +1,6 @@
 //! Lists under keys.
-ghost use Rattle.std.specs.Prelude.{◌≡◌, ◌≤◌, ◌<◌, ◌++◌, ◌∷◌, [], length, option_copied, IsOk, IfOk, OnOk, OnErr, slice_set, slice_get, Some, swap_remove};
-ghost use Rattle.key_lists.specs.Held.{items_at, list_at, capacity_at, HasRoomAt, KeepsOthers, IsSame};
+ghost use Rattle.std.specs.Prelude.{◌≡◌, ◌≤◌, ◌<◌, ◌++◌, ◌∷◌, [], length, option_copied, IsOk, IfOk, OnOk, OnErr, slice_set, slice_get, Some, swap_remove, true};
+ghost use Rattle.key_lists.specs.Held.{items_at, list_at, capacity_at, HasRoomAt, KeepsOthers, IsSame, IsUnderAt};
 
 use indexmap::IndexMap;
 use number_hash::NumberHash;
@@ -60,6 +60,16 @@ impl<X: Copy> KeyLists<X> {
         }
     }
 
+    // Whether the list at a place is that under a key.
+    fn is_at(&self, place: usize, key: u64) -> bool
+        ensures { result ≡ true → IsUnderAt self.now place key }
+    {
+        match self.lists.get_index(place) {
+            Some((other, _)) => *other == key,
+            None => false,
+        }
+    }
+
     // The list under a key. It is looked for first where it mostly is.
     fn find(&self, key: u64) -> Option<&Vec<X>>
         ensures { option_copied result ≡ list_at self.now key }
@@ -80,6 +90,22 @@ impl<X: Copy> KeyLists<X> {
             Some(list) => list.as_slice(),
             None => &[],
         }
+    }
+
+    // Puts an item behind those at a place, which are under a key.
+    fn push_at(&mut self, place: usize, key: u64, item: X) -> Result<(), AllocError>
+        requires { IsUnderAt self.old place key }
+        ensures items { OnOk result (items_at self.new key ≡ items_at self.old key ++ item ∷ []) }
+        ensures others { KeepsOthers key self.old self.new }
+        ensures capacity { capacity_at self.old key ≤ capacity_at self.new key }
+        ensures had_room { HasRoomAt self.old key 1 → IsOk result }
+        ensures err { OnErr result (IsSame self.old self.new) }
+        ensures err_room { OnErr result (capacity_at self.new key ≡ capacity_at self.old key) }
+    {
+        let items = self.lists.get_index_mut(place).unwrap();
+        items.reserve(1)?;
+        items.push_reserved(item);
+        Ok(())
     }
 
     /// Sees that so many items more fit under a key. It takes memory where they don't yet, and
@@ -116,6 +142,10 @@ impl<X: Copy> KeyLists<X> {
         ensures err { OnErr result (IsSame self.old self.new) }
         ensures err_room { OnErr result (capacity_at self.new key ≡ capacity_at self.old key) }
     {
+        let guessed = self.guessed_place(key);
+        if self.is_at(guessed, key) {
+            return self.push_at(guessed, key, item);
+        }
         if let Some(items) = self.lists.get_mut(&key) {
             items.reserve(1)?;
             items.push_reserved(item);

@@ -1,0 +1,54 @@
+-- The list under a key gives way to another at its place.
+use Rattle.std.proofs.Common.{◌≡◌, ◌≢◌, ◌∙◌, sym, ap, subst, ℕ, [], Some, option_map, unwrap_or, slice_get, nat_eq, true, false, ◌⊎◌, inl, inr, Result, Ok, Err}
+use Rattle.std.specs.Prelude.{OnErr}
+use Rattle.std.specs.Global.{Vec}
+use Rattle.std.specs.List.{IsDistinct}
+use Rattle.std.specs.Map.{keys_of, values_of}
+use Rattle.std.proofs.Math.Dec.{eqb}
+use Rattle.std.proofs.lemmas.Bool.{ne_eqb}
+use Rattle.std.proofs.lemmas.Bool.Decides.{eqb_tells}
+use Rattle.std.proofs.lemmas.Cmp.{nat_eq_equiv}
+use Rattle.std.proofs.lemmas.Map.Entries.{lookup_from_place}
+use Rattle.std.proofs.lemmas.Option.{slice_get-map}
+use Rattle.indexmap.specs.IndexMap.{IndexMap}
+use Rattle.indexmap.specs.Layout.{set_value_at}
+use Rattle.indexmap.proofs.CallerLemmas.{updates-with_value_at}
+use Rattle.key_lists.specs.Held.{Held, list_at, items_at, KeepsOthers, IsSame}
+
+module _ {X : Type 0} where
+  pub record IsWritten (old new : Held X) (key : ℕ) (list other : Vec X) : Type 0 where
+    pub was : list_at old key ≡ Some list
+    pub is : list_at new key ≡ Some other
+    pub others : KeepsOthers key old new
+
+  -- what is read at a place is the list that stands there
+  read : (held : Held X) (place key : ℕ) (list found : Vec X) → slice_get held place ≡ Some (key, list)
+      → Some found ≡ slice_get (values_of held) place → Some found ≡ Some list
+  read held place key list found at value =
+      value ∙ slice_get-map (λ (e : ℕ × Vec X). e.1) held place ∙ ap (option_map (λ (e : ℕ × Vec X). e.1)) at
+
+  pub written : {S : Type 0} (m : IndexMap ℕ (Vec X) S) (place key : ℕ) (list found other : Vec X)
+      → slice_get m.entries place ≡ Some (key, list) → Some found ≡ slice_get (values_of m.entries) place
+      → IsDistinct nat_eq (keys_of m.entries)
+      → IsWritten m.entries (set_value_at m.entries place other) key found other
+  written m place key list found other at value unique =
+      let one = updates-with_value_at m place other nat_eq_equiv unique key list at in
+      record {
+        was = lookup_from_place nat_eq_equiv m.entries place key list unique at ∙ sym (read m.entries place key list found at value);
+        is = one.1;
+        others = λ q apart. one.2 q (ne_eqb key q apart);
+      }
+
+  -- with the same items the items under every key are as they were
+  pub same-items : {old new : Held X} {key : ℕ} {list other : Vec X} → IsWritten old new key list other
+      → other.items ≡ list.items → IsSame old new
+  same-items {old} {new} {key} {list} {other} w same q = by (eqb_tells key q)
+    where
+      by : ((eqb key q ≡ true) × (key ≡ q)) ⊎ ((eqb key q ≡ false) × (key ≢ q)) → items_at new q ≡ items_at old q
+      by (inl one) = subst (λ (n : ℕ). items_at new n ≡ items_at old n) one.1 (rw (w.is, w.was) same)
+      by (inr apart) = ap (λ o. unwrap_or (option_map (λ (l : Vec X). l.items) o) []) (w.others q apart.1)
+
+-- what holds anyhow holds where there is an error
+pub on-err : {T E : Type 0} (r : Result T E) (P : Type 0) → P → OnErr r P
+on-err (Ok x) P holds = tt
+on-err (Err e) P holds = holds

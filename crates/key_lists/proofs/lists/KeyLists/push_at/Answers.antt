@@ -1,0 +1,50 @@
+use Rattle.std.proofs.Common.{rules}
+use Rattle.std.specs.Global.{Vec}
+use Rattle.indexmap.specs.Layout.{set_value_at}
+use Rattle.key_lists.proofs.Written.{IsWritten, written, same-items, on-err}
+use Rattle.key_lists.proofs.lists.KeyLists.push_at.Goals.{After-unwrap-items}
+use Rattle.key_lists.proofs.lists.KeyLists.push_at.Goals as goal
+
+-- whatever list comes to stand at the place
+changed : (g : _) (c : goal.After-unwrap-items g) (other : Vec _)
+    → IsWritten c.args.self.now (set_value_at c.self.inside.lists.entries c.args.place other) c.args.key c.unwrap-items.result.now other
+changed g c other =
+    let here = rw c.unwrap-items.ensures at c.get_index_mut.ensures.value in
+    rw (← c.self.view_is) (written c.self.inside.lists c.args.place c.args.key c.requires.0 c.unwrap-items.result.now other
+    (rw c.self.view_is c.requires.1) here c.get_index_mut.ensures.unique)
+
+pub returns-in_err-reserve-clause-others : goal.returns-in_err-reserve-clause-others
+returns-in_err-reserve-clause-others g c = (changed g (goal.at.returns-in_err-reserve-clause-others g c).After-unwrap-items c.reserve.new.self).others
+
+pub returns-in_err-reserve-clause-capacity : goal.returns-in_err-reserve-clause-capacity
+returns-in_err-reserve-clause-capacity g c =
+    let k = changed g (goal.at.returns-in_err-reserve-clause-capacity g c).After-unwrap-items c.reserve.new.self in
+    rw (k.is, k.was) (search rules)
+
+pub returns-in_err-reserve-clause-had_room : goal.returns-in_err-reserve-clause-had_room
+returns-in_err-reserve-clause-had_room g c =
+    let k = changed g (goal.at.returns-in_err-reserve-clause-had_room g c).After-unwrap-items c.reserve.new.self in
+    λ room. let there = rw k.was at room in search rules
+
+pub returns-in_err-reserve-clause-err : goal.returns-in_err-reserve-clause-err
+returns-in_err-reserve-clause-err g c =
+    let k = changed g (goal.at.returns-in_err-reserve-clause-err g c).After-unwrap-items c.reserve.new.self in
+    on-err c.from_residual.result _ (same-items k c.in_err-reserve.ensures.items)
+
+pub returns-in_err-reserve-clause-err_room : goal.returns-in_err-reserve-clause-err_room
+returns-in_err-reserve-clause-err_room g c =
+    let k = changed g (goal.at.returns-in_err-reserve-clause-err_room g c).After-unwrap-items c.reserve.new.self in
+    rw (k.is, k.was) (search rules)
+
+pub returns-clause-items : goal.returns-clause-items
+returns-clause-items g c =
+    let k = changed g (goal.at.returns-clause-items g c).After-unwrap-items c.push_reserved.new.self in
+    rw (k.is, k.was) (search rules)
+
+pub returns-clause-others : goal.returns-clause-others
+returns-clause-others g c = (changed g (goal.at.returns-clause-others g c).After-unwrap-items c.push_reserved.new.self).others
+
+pub returns-clause-capacity : goal.returns-clause-capacity
+returns-clause-capacity g c =
+    let k = changed g (goal.at.returns-clause-capacity g c).After-unwrap-items c.push_reserved.new.self in
+    rw (k.is, k.was) (search rules)
