@@ -1,6 +1,7 @@
 -- The rings of a map's faces, and their canonical order.
-use Rattle.std.specs.Prelude.{ℕ, suc, Bool, true, false, ◌==◌, List, [], ◌∷◌, if◌then◌else◌}
+use Rattle.std.specs.Prelude.{◌≡◌, ◌⊎◌, ◌<◌, ◌≤◌, ◌-◌, ℕ, suc, nat_lt, length, slice_index_or, Bool, true, false, ◌==◌, List, [], ◌∷◌, if◌then◌else◌}
 use Rattle.std.specs.List.{flat_map}
+use Rattle.std.specs.List.Sorted.{IsPartitionPoint}
 use Rattle.cad_rows.specs.declared.names.Face.{Face}
 use Rattle.cad_rows.specs.declared.names.Face.TheVariants.{Outside, Parcel}
 use Rattle.cad_rings.specs.Cycle.{Ring, Side, sides_of, Corner, corners_of}
@@ -49,3 +50,21 @@ put_in_canonical_order a (b ∷ bs) = if boundary_comes_first a b then a ∷ b �
 abbrev pub canonical_order : List Boundary → List Boundary
 canonical_order [] = []
 canonical_order (b ∷ bs) = put_in_canonical_order (canonical_form b) (canonical_order bs)
+
+-- ---- Where those of a face stand
+
+-- the place parts these into those of faces below a bound, and those of faces from it on
+abbrev pub IsFirstFrom : List Boundary → ℕ → ℕ → Type 0
+IsFirstFrom bs bound at =
+    IsPartitionPoint (λ b. nat_lt (face_place b.face) bound ≡ true)
+    (λ b. nat_lt (face_place b.face) bound ≡ false) bs at
+
+-- the one before the place, if there is one, is of a face below a bound
+abbrev pub EndsBelow : List Boundary → ℕ → ℕ → Type 0
+EndsBelow bs bound at =
+    (at ≡ 0) ⊎ ((d : Boundary) → face_place (slice_index_or bs (at - 1) d).face < bound)
+
+-- the one at the place, if there is one, is of a face from the bound on
+abbrev pub BeginsFrom : List Boundary → ℕ → ℕ → Type 0
+BeginsFrom bs bound at =
+    (at ≡ length bs) ⊎ ((d : Boundary) → bound ≤ face_place (slice_index_or bs at d).face)

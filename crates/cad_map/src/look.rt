@@ -1,9 +1,10 @@
 //! Looking through rows and rings, one after another.
 ghost use Rattle.std.specs.Prelude.{◌≡◌, ◌≤◌, option_map, find, length, map, filter};
 ghost use Rattle.std.specs.Prelude.{slice_get, slice_range, if◌then◌else◌};
+ghost use Rattle.std.specs.Bool.{OnTrue};
 ghost use Rattle.std.specs.Option.{option_copied};
 ghost use Rattle.cad_rings.specs.Cycle.{has_side as has_side_of, sides_of};
-ghost use Rattle.cad_map.specs.Boundaries.{is_face as is_face_of, canonical_order};
+ghost use Rattle.cad_map.specs.Boundaries.{is_face as is_face_of, canonical_order, EndsBelow, BeginsFrom, IsFirstFrom};
 ghost use Rattle.cad_map.specs.Map.{is_end as is_end_of, far_end as far_end_of, point_after as point_after_in, rings_at};
 
 use crate::boundary::Boundary;
@@ -122,7 +123,54 @@ pub(crate) fn ring_at(boundaries: &[Boundary], face: Face, place: usize) -> Opti
     Some(&boundary.ring)
 }
 
-/// Where the boundaries of a face begin and where they end, by halving.
+/// Whether the boundary before a place, if there is one, is of a face below a bound.
+fn ends_below(boundaries: &[Boundary], at: usize, bound: u64) -> bool
+    requires { at ≤ length boundaries.now }
+    ensures { OnTrue result (EndsBelow boundaries.now bound at) }
+{
+    if at == 0 {
+        return true;
+    }
+    u64::from(face_place(&boundaries[at - 1].face)) < bound
+}
+
+/// Whether the boundary at a place, if there is one, is of a face from a bound on.
+fn begins_from(boundaries: &[Boundary], at: usize, bound: u64) -> bool
+    requires { at ≤ length boundaries.now }
+    ensures { OnTrue result (BeginsFrom boundaries.now bound at) }
+{
+    if at == boundaries.len() {
+        return true;
+    }
+    bound <= u64::from(face_place(&boundaries[at].face))
+}
+
+/// Where the boundaries of faces from a bound on begin. It is looked for first at a place where it
+/// mostly is, and else by halving.
+fn first_from(boundaries: &[Boundary], bound: u64, guessed: usize) -> usize
+    requires { canonical_order boundaries.now ≡ boundaries.now }
+    ensures within { result ≤ length boundaries.now }
+    ensures first { IsFirstFrom boundaries.now bound result }
+{
+    if guessed <= boundaries.len()
+        && ends_below(boundaries, guessed, bound)
+        && begins_from(boundaries, guessed, bound)
+    {
+        return guessed;
+    }
+    boundaries.partition_point(|b| u64::from(face_place(&b.face)) < bound)
+}
+
+/// Where the boundaries of a face begin if each face from the second boundary's on has one, and the
+/// numbers of parcels follow one another.
+fn guessed_place(boundaries: &[Boundary], place: u32) -> usize {
+    match boundaries.get(1) {
+        Some(second) => place.wrapping_sub(face_place(&second.face)).wrapping_add(1) as usize,
+        None => 0,
+    }
+}
+
+/// Where the boundaries of a face begin and where they end.
 fn places_of(boundaries: &[Boundary], face: &Face) -> (usize, usize)
     requires { canonical_order boundaries.now ≡ boundaries.now }
     ensures rise { result.0 ≤ result.1 }
@@ -131,7 +179,11 @@ fn places_of(boundaries: &[Boundary], face: &Face) -> (usize, usize)
         ≡ rings_at face.now boundaries.now }
 {
     let place = face_place(face);
-    let first = boundaries.partition_point(|b| face_place(&b.face) < place);
-    let end = boundaries.partition_point(|b| face_place(&b.face) <= place);
+    let first = first_from(
+        boundaries,
+        u64::from(place),
+        guessed_place(boundaries, place),
+    );
+    let end = first_from(boundaries, u64::from(place) + 1, first.saturating_add(1));
     (first, end)
 }

@@ -1,30 +1,25 @@
-use Rattle.std.proofs.Common.{rules, of_calls, nat_lt, nat_le}
-use Rattle.std.proofs.lemmas.List.Sorted.{IsPartitionPoint-from_clause, IsPartitionedBy-ltb, IsPartitionedBy-leb}
-use Rattle.cad_map.specs.Boundaries.{face_place}
+use Rattle.std.proofs.Common.{◌∙◌, ap, subst, ◌+◌, ℕ}
+use Rattle.cad_map.specs.Boundaries.{face_place, IsFirstFrom}
 use Rattle.cad_map.proofs.Lists.Runs.{AreBounds, bounds_rise}
-use Rattle.cad_map.proofs.Boundaries.FaceRuns.{place_of, canonical_order-rises, rings-run}
+use Rattle.cad_map.proofs.Boundaries.FaceRuns.{place_of, rings-run, up-to}
 use Rattle.cad_map.proofs.look.places_of.Goals as goal
 
 pub returns : goal.returns
 returns c =
     let bs = c.args.boundaries.now in
     let n = face_place c.args.face.now in
-    let place = c.face_place-place.ensures in
-    let rises = canonical_order-rises bs c.requires in
-    let first = c.partition_point-first.result in
-    let end = c.partition_point-end.result in
+    let place = c.from.ensures ∙ c.face_place-place.ensures in
+    let next = ap (λ k. k + 1) (c.from-2.ensures ∙ c.face_place-place.ensures) in
+    let first = c.first_from-first.result in
+    let end = c.first_from-end.result in
     let bounds : AreBounds place_of bs n first end = record {
-      low_within = c.partition_point-first.ensures.bound;
-      high_within = c.partition_point-end.ensures.bound;
-      below = IsPartitionPoint-from_clause (λ b. nat_lt (place_of b) n) bs first
-          c.partition_point-first.ensures.partitioned (IsPartitionedBy-ltb place_of bs n rises)
-          (λ a r f called. search (rules, of_calls, place));
-      up_to = IsPartitionPoint-from_clause (λ b. nat_le (place_of b) n) bs end
-          c.partition_point-end.ensures.partitioned (IsPartitionedBy-leb place_of bs n rises)
-          (λ a r f called. search (rules, of_calls, place));
+      low_within = c.first_from-first.ensures.within;
+      high_within = c.first_from-end.ensures.within;
+      below = subst (λ (k : ℕ). IsFirstFrom bs k first) place c.first_from-first.ensures.first;
+      up_to = up-to bs n end (subst (λ (k : ℕ). IsFirstFrom bs k end) next c.first_from-end.ensures.first);
     } in
     record {
       rise = bounds_rise place_of bs n first end bounds;
-      within = c.partition_point-end.ensures.bound;
+      within = c.first_from-end.ensures.within;
       rings = rings-run c.args.face.now bs first end bounds;
     }
