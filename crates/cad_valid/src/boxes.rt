@@ -15,7 +15,7 @@ pub(crate) fn boxes_of(alloc: Global, items: &[Placed]) -> Result<Vec<Extent>, M
     ensures boxes { IfOk result (λ boxes. boxes.items ≡ map box_in items.now) }
     ensures extents { IfOk result (λ boxes. HasExtents boxes.items) }
 {
-    let mut boxes = Vec::new(alloc);
+    let mut boxes = Vec::with_capacity(alloc, items.len())?;
     for item in items {
         boxes.push(box_of(item))?;
     }

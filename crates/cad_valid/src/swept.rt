@@ -27,7 +27,7 @@ use sweep::{Extent, PairTest, all_of_two_groups_pass, all_that_overlap_pass, row
 pub(crate) fn has_distinct_positions_swept(alloc: Global, map: &PlainMap) -> Result<bool, Memory>
     ensures { IfOk result (λ b. b ≡ has_distinct_positions_of map.now) }
 {
-    let mut points = Vec::new(alloc);
+    let mut points = Vec::with_capacity(alloc, map.counts().points)?;
     put_points(&mut points, map)?;
     let boxes = boxes_of(alloc, &points)?;
     let apart = Apart { points: &points };
@@ -138,7 +138,8 @@ fn placed_rows(alloc: Global, map: &PlainMap) -> Result<Vec<Placed>, Memory>
     requires { HasPlacedRows map.now }
     ensures { IfOk result (λ items. items.items ≡ placed_rows_of map.now) }
 {
-    let mut items = Vec::new(alloc);
+    let counts = map.counts();
+    let mut items = Vec::with_capacity(alloc, counts.strings.saturating_add(counts.points))?;
     put_strings(&mut items, map)?;
     put_points(&mut items, map)?;
     Ok(items)

@@ -96,7 +96,7 @@ fn spans_of(alloc: Global, extents: &[Extent], height: u64) -> Result<Vec<Span>,
     ensures each { IfOk result (λ spans. HasAllSpans spans.items extents.now height) }
     ensures places { IfOk result (λ spans. HavePlacesBelow spans.items (length extents.now)) }
 {
-    let mut spans = Vec::new(alloc);
+    let mut spans = Vec::with_capacity(alloc, extents.len())?;
     for place in 0..extents.len() {
         put_spans(&mut spans, extents[place], height, place)?;
     }

@@ -11,7 +11,7 @@ use Rattle.cad_valid.proofs.swept.has_distinct_positions_swept.Goals as goal
 pub returns : goal.returns
 returns c =
     let m = c.args.map.now in
-    let put = c.in_ok-put_points.ensures ∙ ap (λ (l : List Placed). l ++ placed_points m) c.new-points.ensures.items in
+    let put = c.in_ok-put_points.ensures ∙ ap (λ (l : List Placed). l ++ placed_points m) c.in_ok-points.ensures.items in
     let points = c.deref-2.ensures.value ∙ put in
     let boxes = c.deref-4.ensures.value ∙ c.in_ok-boxes.ensures.boxes ∙ ap (map box_of) (c.deref.ensures.value ∙ put) in
     let answer = c.in_ok-all_that_overlap_pass.field-0 in
