@@ -76,7 +76,7 @@ stays-set (b ∷ flags) zero (suc j) is_set = is_set
 stays-set (b ∷ flags) (suc k) zero is_set = is_set
 stays-set (b ∷ flags) (suc k) (suc j) is_set = stays-set flags k j is_set
 
-now-set : (flags : List Bool) (k : ℕ) → k < length flags → slice_get (set flags k true) k ≡ Some true
+pub now-set : (flags : List Bool) (k : ℕ) → k < length flags → slice_get (set flags k true) k ≡ Some true
 now-set [] k below = absurd (omega (arith, below))
 now-set (b ∷ flags) zero below = refl
 now-set (b ∷ flags) (suc k) below = now-set flags k (omega (arith, below))

@@ -1,5 +1,5 @@
 -- Sides that stand twice, or have a follower twice, by their keys.
-use Rattle.std.proofs.Common.{◌≡◌, ◌≢◌, ℕ, ◌^◌, ◌<◌, ◌≤◌, ◌⊎◌, inl, inr, refl, sym, ap, subst, ◌∙◌, List, length, map, take, min, Bool, true, false, true≢false, ◌==◌, Option, Some, None, option_map, slice_get, get_or, arith}
+use Rattle.std.proofs.Common.{◌≡◌, ◌≢◌, ℕ, ◌^◌, ◌+◌, ◌<◌, ◌≤◌, ◌⊎◌, inl, inr, refl, sym, ap, subst, ◌∙◌, List, length, map, take, min, Bool, true, false, true≢false, ◌==◌, Option, Some, None, is_some, option_map, slice_get, get_or, set, arith}
 use Rattle.std.specs.Prelude.{◌&&◌, ◌||◌, IfSome, IfNone, slice_index}
 use Rattle.std.proofs.lemmas.Bool.{cases_lt, eqb-true, eq-eqb}
 use Rattle.std.proofs.lemmas.List.{get_or-take, get_or_default, length-take, length-map}
@@ -7,11 +7,13 @@ use Rattle.std.proofs.lemmas.Option.{slice_get-map, slice_get-get_or, slice_get_
 use Rattle.std.specs.List.{AllByRecursion, Contains}
 use Rattle.cad_rings.specs.Cycle.{Side, is_side}
 use Rattle.cad_rings.proofs.CallerLemmas.{is_side-same}
-use Rattle.cad_map.proofs.CallerLemmas.{All-follows, All-at_each, Contains-at, list_any-Contains, list_any-none, is_side-refl}
+use Rattle.cad_map.proofs.CallerLemmas.{All-follows, All-at_each, All-from_each, Contains-at, list_any-Contains, list_any-none, is_side-refl}
 use Rattle.sweep.specs.Repeats.{AreDistinct, IsFirstRepeat}
-use Rattle.cad_files.specs.Cycles.{plan_side_of}
+use Rattle.cad_files.specs.Cycles.{plan_side_of, AreLinked}
 use Rattle.cad_files.specs.Corners.{NoneMet, IsFirstMet, key_of, lesser_of}
 use Rattle.cad_files.specs.declared.sides.PlanSide.{PlanSide}
+use Rattle.cad_files.proofs.NextSides.{next-side, next-within}
+use Rattle.cad_files.proofs.PoolFacts.{stays-set, now-set}
 
 -- ---- Keys
 
@@ -23,7 +25,7 @@ key-tells a b small too same =
     λ i. (first i, second i)
 
 -- no two of the first n are equal
-abbrev Differ : List ℕ → ℕ → Type 0
+abbrev pub Differ : List ℕ → ℕ → Type 0
 Differ keys n = (i j : ℕ) → i < j → j < n → get_or keys i 0 ≢ get_or keys j 0
 
 differ-distinct : (keys : List ℕ) (n : ℕ) → n ≤ length keys → AreDistinct (take n keys) → Differ keys n
@@ -60,6 +62,54 @@ in_front xs i k x before past at =
     let e = length-take k xs in
     (i, omega (arith, e, before, past), get_or-take k xs i x before ∙ get_or_from_slice_get xs i x x at)
 
+-- what is told where there is none, if there is none
+pub none-told : {X : Type 0} (o : Option X) (P : Type 0) → is_some o ≡ false → IfNone o P → P
+none-told None P none told = told
+none-told (Some x) P none told = cc
+
+-- ---- Places that are marked
+
+module _ (nexts : List ℕ) (flags : List Bool) (n : ℕ) where
+  -- each of the first n leads to a mark
+  abbrev AreMarked : List Bool → ℕ → Type 0
+  AreMarked flags n = (k : ℕ) → k < n → slice_get flags (get_or nexts k 0) ≡ Some true
+
+  pub mark-next : get_or nexts n 0 < length flags → AreMarked flags n → AreMarked (set flags (get_or nexts n 0) true) (n + 1)
+  mark-next within marked k below = by (cases_lt k n)
+    where
+      by : (k < n) ⊎ (n ≤ k) → slice_get (set flags (get_or nexts n 0) true) (get_or nexts k 0) ≡ Some true
+      by (inl lt) = stays-set flags (get_or nexts n 0) (get_or nexts k 0) (marked k lt)
+      by (inr most) =
+          let is : n ≡ k = omega (arith, below, most) in
+          ap (λ (m : ℕ). slice_get (set flags (get_or nexts n 0) true) (get_or nexts m 0)) (sym is) ∙ now-set flags (get_or nexts n 0) within
+
+  -- one that leads to no mark differs from those before it
+  pub differ-next : slice_get flags (get_or nexts n 0) ≡ Some false → AreMarked flags n → Differ nexts n → Differ nexts (n + 1)
+  differ-next free marked apart i j below last same = by (cases_lt j n)
+    where
+      by : (j < n) ⊎ (n ≤ j) → ⊥
+      by (inl lt) = apart i j below lt same
+      by (inr most) =
+          let is : j ≡ n = omega (arith, last, most) in
+          let set_there : slice_get flags (get_or nexts n 0) ≡ Some true = ap (slice_get flags) (sym (same ∙ ap (λ m. get_or nexts m 0) is)) ∙ marked i (omega (arith, below, is)) in
+          let no : Some false ≡ Some true = sym free ∙ set_there in
+          cc
+
+pub differ-all : (nexts : List ℕ) (n : ℕ) → length nexts ≤ n → Differ nexts n → AreDistinct nexts
+differ-all nexts n most apart i j d below within same =
+    apart i j below (omega (arith, most, within))
+    (get_or_default nexts i 0 d (omega (arith, below, within)) ∙ same ∙ sym (get_or_default nexts j 0 d within))
+
+found : (sides : List PlanSide) (i : ℕ) → i < length sides → (s : PlanSide) × (slice_get sides i ≡ Some s)
+found sides i below = by (slice_get_cases sides i).1
+  where
+    by : ((x : PlanSide) × (i < length sides) × (slice_get sides i ≡ Some x) × (get_or sides i x ≡ x)) ⊎ ((length sides ≤ i) × (slice_get sides i ≡ None)) → (s : PlanSide) × (slice_get sides i ≡ Some s)
+    by (inl h) = (h.0, h.2)
+    by (inr h) = let past = h.0 in absurd (omega (arith, past, below))
+
+pub next-at : (sides : List PlanSide) (i : ℕ) (s : PlanSide) → slice_get sides i ≡ Some s → get_or (map (λ s. s.next) sides) i 0 ≡ s.next
+next-at sides i s at = get_or_from_slice_get (map (λ s. s.next) sides) i s.next 0 (slice_get-map (λ s. s.next) sides i ∙ ap (option_map (λ s. s.next)) at)
+
 -- ---- Keys of sides
 
 module _ (key : PlanSide → Side) (sides : List PlanSide) (small : AllByRecursion (λ s. (key s).1 < 2 ^ 32) sides) where
@@ -89,8 +139,8 @@ module _ (key : PlanSide → Side) (sides : List PlanSide) (small : AllByRecursi
       let within = r.within in
       let before = r.before in
       let past : k < length sides = omega (arith, count, within) in
-      let first = found r.earlier (omega (arith, past, before)) in
-      let second = found k past in
+      let first = found sides r.earlier (omega (arith, past, before)) in
+      let second = found sides k past in
       record {
         first = first.0;
         second = second.0;
@@ -98,13 +148,6 @@ module _ (key : PlanSide → Side) (sides : List PlanSide) (small : AllByRecursi
         there = second.1;
         same = same-key r.earlier k first.0 second.0 first.1 second.1 r.same;
       }
-    where
-      found : (i : ℕ) → i < length sides → (s : PlanSide) × (slice_get sides i ≡ Some s)
-      found i below = by (slice_get_cases sides i).1
-        where
-          by : ((x : PlanSide) × (i < length sides) × (slice_get sides i ≡ Some x) × (get_or sides i x ≡ x)) ⊎ ((length sides ≤ i) × (slice_get sides i ≡ None)) → (s : PlanSide) × (slice_get sides i ≡ Some s)
-          by (inl h) = (h.0, h.2)
-          by (inr h) = let past = h.0 in absurd (omega (arith, past, below))
 
   -- a side before k has another key than the one at k
   other-key : (n k : ℕ) (s t : PlanSide) → Differ keys n → k < n → slice_get sides k ≡ Some t → Contains (take k sides) s → key s ≢ key t
@@ -218,3 +261,56 @@ module _ (sides : List PlanSide) (small : AllByRecursion (λ s. (s.from < 2 ^ 32
   none-lesser None (Some q) none nobody = tt
   none-lesser (Some p) None none nobody = tt
   none-lesser (Some p) (Some q) none nobody = tt
+
+  -- ---- Sides that go on to another each
+
+  abbrev nexts : List ℕ
+  nexts = map (λ s. s.next) sides
+
+  module _ (linked : AreLinked sides) where
+    -- the side at the place that a side tells has the key of its end and its follower
+    key-behind : (i : ℕ) (s : PlanSide) → slice_get sides i ≡ Some s → get_or as_side s.next 0 ≡ key_of (s.to, s.after)
+    key-behind i s at =
+        let n = next-side sides linked s (Contains-at sides i s at) in
+        key-at (λ s. (s.from, s.to)) sides small_ends s.next n.next n.at ∙ ap key_of n.behind
+
+    within : (i : ℕ) (s : PlanSide) → slice_get sides i ≡ Some s → s.next < length sides
+    within i s at = next-within sides linked s (Contains-at sides i s at)
+
+    differ-followers : Differ as_side (length sides) → Differ nexts (length sides) → Differ by_follower (length sides)
+    differ-followers apart others i j below last same =
+        let first = found sides i (omega (arith, below, last)) in
+        let second = found sides j last in
+        let s = first.0 in
+        let t = second.0 in
+        let alike = same-key (λ s. (s.to, s.after)) sides small_afters i j s t first.1 second.1 same in
+        let met = key-behind i s first.1 ∙ ap key_of alike ∙ sym (key-behind j t second.1) in
+        by s t first.1 second.1 met (cases_lt s.next t.next)
+      where
+        by : (s t : PlanSide) → slice_get sides i ≡ Some s → slice_get sides j ≡ Some t → get_or as_side s.next 0 ≡ get_or as_side t.next 0 → (s.next < t.next) ⊎ (t.next ≤ s.next) → ⊥
+        by s t at to met (inl less) = apart s.next t.next less (within j t to) met
+        by s t at to met (inr few) = by_two (cases_lt t.next s.next)
+          where
+            by_two : (t.next < s.next) ⊎ (s.next ≤ t.next) → ⊥
+            by_two (inl less) = apart t.next s.next less (within i s at) (sym met)
+            by_two (inr most) =
+                let one : s.next ≡ t.next = omega (arith, few, most) in
+                others i j below last (next-at sides i s at ∙ one ∙ sym (next-at sides j t to))
+
+    -- of linked sides of which no two have the same ends, none is met where each goes on to another
+    none-met-once : AreDistinct as_side → AreDistinct nexts → NoneMet sides (length sides)
+    none-met-once apart others =
+        let first = all-differ as_side (length sides) (sym (length-map sides (λ s. key_of (s.from, s.to)))) apart in
+        none-met (length sides) first (differ-followers first (all-differ nexts (length sides) (sym (length-map sides (λ s. s.next))) others))
+
+-- where each side's end is small, so is the end of the one after it
+followers-small : (sides : List PlanSide) → AllByRecursion (λ s. (s.from < 2 ^ 32) × (s.to < 2 ^ 32)) sides → AreLinked sides → AllByRecursion (λ s. (s.to < 2 ^ 32) × (s.after < 2 ^ 32)) sides
+followers-small sides small linked = All-from_each (λ s. (s.to < 2 ^ 32) × (s.after < 2 ^ 32)) sides (λ s among.
+    let n = next-side sides linked s among in
+    let ends = All-at_each (λ s. (s.from < 2 ^ 32) × (s.to < 2 ^ 32)) sides n.next small (Contains-at sides s.next n.next n.at) in
+    let from : n.next.from ≡ s.to = ap (λ (v : Side). v.0) n.behind in
+    let to : n.next.to ≡ s.after = ap (λ (v : Side). v.1) n.behind in
+    (subst (λ (p : ℕ). p < 2 ^ 32) from ends.0, subst (λ (p : ℕ). p < 2 ^ 32) to ends.1))
+
+pub none-met-linked : (sides : List PlanSide) → AllByRecursion (λ s. (s.from < 2 ^ 32) × (s.to < 2 ^ 32)) sides → AreLinked sides → AreDistinct (map (λ s. key_of (s.from, s.to)) sides) → AreDistinct (map (λ s. s.next) sides) → NoneMet sides (length sides)
+none-met-linked sides small linked = none-met-once sides small (followers-small sides small linked) linked

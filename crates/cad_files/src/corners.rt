@@ -11,7 +11,7 @@ ghost use Rattle.cad_files.specs.declared.faults.PlanFault.TheVariants as faults
 
 use crate::faults::PlanFault;
 use crate::followers::follower;
-use crate::repeats::first_met;
+use crate::repeats::{are_met_once, first_met};
 use crate::rows::PlanString;
 use crate::sides::PlanSide;
 use crate::turns::{Turn, turns_of};
@@ -120,6 +120,9 @@ pub(crate) fn follow_sides(
     let turns = turns_of(alloc, plain, stars)?;
     let mut passed = Vec::new(alloc);
     let stop = follow_each(plain, stars, &turns, strings, &mut passed)?;
+    if stop.is_none() && are_met_once(alloc, passed.as_slice())? {
+        return Ok(passed);
+    }
     if let Some(place) = first_met(alloc, passed.as_slice())? {
         return Err(PlanFault::Corner(passed[place].to));
     }

@@ -1,7 +1,10 @@
 //! Sides that stand twice, and followers that do.
 ghost use Rattle.std.specs.Prelude.{◌≡◌, ◌<◌, ◌^◌, length, map, IfOk, IfSome, IfNone};
+ghost use Rattle.std.specs.Bool.{OnTrue};
 ghost use Rattle.std.specs.List.{AllByRecursion};
+ghost use Rattle.sweep.specs.Repeats.{AreDistinct};
 ghost use Rattle.cad_files.specs.Corners.{IsFirstMet, NoneMet, key_of, two_points_of, lesser_of};
+ghost use Rattle.cad_files.specs.Cycles.{AreLinked};
 
 use crate::sides::PlanSide;
 use cad_rows::{Memory, PointNo};
@@ -66,4 +69,33 @@ pub(crate) fn first_met(alloc: Global, sides: &[PlanSide]) -> Result<Option<usiz
     let keys = keys_of(alloc, sides, true)?;
     let by_follower = first_repeated(alloc, keys.as_slice())?;
     Ok(lesser(as_side, by_follower))
+}
+
+// Whether no two of these sides go on to the same one, told by a mark at each that one goes on to.
+fn go_on_apart(alloc: Global, sides: &[PlanSide]) -> Result<bool, Memory>
+    requires { AllByRecursion (λ s. s.next < length sides.now) sides.now }
+    ensures { IfOk result (λ apart. OnTrue apart (AreDistinct (map (λ s. s.next) sides.now))) }
+{
+    let mut is_reached = Vec::from_elem(alloc, false, sides.len())?;
+    for i in 0..sides.len() {
+        let next = sides[i].next;
+        if is_reached[next] {
+            return Ok(false);
+        }
+        is_reached[next] = true;
+    }
+    Ok(true)
+}
+
+/// Whether none of these sides stands among earlier ones, or leads to the end of an earlier one and has its follower.
+/// They are all sides of a plan. Takes one sort: two that have a follower in common go on to one side.
+pub(crate) fn are_met_once(alloc: Global, sides: &[PlanSide]) -> Result<bool, Memory>
+    requires { AreLinked sides.now }
+    ensures { IfOk result (λ once. OnTrue once (NoneMet sides.now (length sides.now))) }
+{
+    let keys = keys_of(alloc, sides, false)?;
+    if first_repeated(alloc, keys.as_slice())?.is_some() {
+        return Ok(false);
+    }
+    go_on_apart(alloc, sides)
 }
