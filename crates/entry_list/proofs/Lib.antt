@@ -1,3 +1,4 @@
+pub mod Above
 pub mod Lists
 pub mod Rows
 pub mod Found

@@ -1,5 +1,5 @@
 -- The slots of a list of rows, and the rows read from them.
-use Rattle.std.specs.Prelude.{◌≡◌, ◌+◌, ℕ, List, [], ◌∷◌, ◌++◌, length, map, Option, None, Some, IsSome, nat_eq, slice_get, slice_set, slice_index, insert, not, ◌==◌, filter, if◌then◌else◌}
+use Rattle.std.specs.Prelude.{◌≡◌, ◌+◌, ◌<◌, ℕ, List, [], ◌∷◌, ◌++◌, length, map, Option, None, Some, IsSome, nat_eq, slice_get, slice_set, slice_index, insert, not, ◌==◌, filter, if◌then◌else◌}
 use Rattle.entry_list.specs.Totals.{total_before}
 use Rattle.std.specs.Map.{lookup, keys_of}
 
@@ -58,6 +58,11 @@ module _ {V : Type 0} where
   -- the marks are those of the slots, and the count is that of the rows
   abbrev pub AreCounted : Slots V → List ℕ → ℕ → Type 0
   AreCounted slots marks count = (marks ≡ marks_of slots) × (count ≡ length (rows_of slots))
+
+  -- no slot has a number above this one
+  abbrev pub NoneAbove : ℕ → Slots V → Type 0
+  NoneAbove greatest slots =
+      (number : ℕ) → greatest < number → lookup (nat_eq number) slots ≡ None
 
   -- the slot at i has a row with the number
   abbrev pub IsRowSlot : Slots V → ℕ → ℕ → Type 0

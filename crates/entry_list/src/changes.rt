@@ -28,7 +28,7 @@ impl<V> EntryList<V> {
         ensures added { OnOk result (AddsSlot self.old self.new number) }
         ensures err { OnErr result (self.new ≡ self.old) }
     {
-        if self.slots.get_index_of(&number).is_some() {
+        if self.has_slot(number) {
             return Ok(());
         }
         self.add_slot(number, None)?;
@@ -134,7 +134,7 @@ impl<V> EntryList<V> {
         if self.len == self.slots.len() {
             return false;
         }
-        self.slots.get_index_of(&number).is_some()
+        self.has_slot(number)
     }
 
     /// Puts a row in the place of the one with its number, and gives that one. It takes no memory,
@@ -170,6 +170,7 @@ impl<V> EntryList<V> {
         match self.slots.insert(number, row) {
             Ok(_) => {
                 self.len += mark as usize;
+                self.greatest = self.greatest.max(number);
                 Ok(())
             }
             Err(full) => {

@@ -1,7 +1,7 @@
 //! The list, and what is read of it.
 ghost use Rattle.std.specs.Prelude.{◌≡◌, ◌<◌, [], length, None, slice_get, slice_index, nat_eq};
-ghost use Rattle.std.specs.Prelude.{option_map, option_copied, IfSome, IfNone, IfOk};
-ghost use Rattle.entry_list.specs.Slots.{rows_of, numbers_of, row_at, marks_of, rows_before, IsRowSlot};
+ghost use Rattle.std.specs.Prelude.{option_map, option_copied, IfSome, IfNone, IfOk, IsTrue, ◌↔◌, true};
+ghost use Rattle.entry_list.specs.Slots.{rows_of, numbers_of, row_at, marks_of, rows_before, HasSlot, IsRowSlot};
 ghost use Rattle.std.specs.List.{IsDistinct};
 
 use crate::marks::Marks;
@@ -19,13 +19,16 @@ use std::marker::Model;
 /// slots and slots from places: the idea of a Fenwick tree (P. M. Fenwick, A new data structure
 /// for cumulative frequency tables, 1994), with one level of sums in place of a tree.
 ///
-/// To look a row up by its number takes a look into the table; a place, and the row at a place,
-/// take time by the number of blocks and the length of one. While no slot is empty, the row at a
-/// place is found at once.
+/// To look a row up by its number takes a look into the table, and none where the number is above
+/// all that were given slots, as that of a new row mostly is; a place, and the row at a place, take
+/// time by the number of blocks and the length of one. While no slot is empty, the row at a place is
+/// found at once.
 pub struct EntryList<V> {
     pub(crate) slots: IndexMap<u64, Option<V>, NumberHash>,
     pub(crate) live: Marks,
     pub(crate) len: usize,
+    // No slot has a greater number.
+    pub(crate) greatest: u64,
 }
 
 // Written out, so that the end of one is a single call in a caller's proof.
@@ -35,18 +38,20 @@ impl<V: Drop> Drop for EntryList<V> {
             slots: _slots,
             live: _live,
             len: _len,
+            greatest: _greatest,
         } = self;
     }
 }
 
 impl<V> Model for EntryList<V> {
-    ghost use Rattle.entry_list.specs.Slots.{Slots, AreCounted};
+    ghost use Rattle.entry_list.specs.Slots.{Slots, AreCounted, NoneAbove};
 
     ghost Value = { Slots V };
 
     ghost view = { λ a. a.slots.entries };
 
-    ghost invariant = { λ a. AreCounted a.slots.entries a.live a.len };
+    ghost invariant = { λ a. AreCounted a.slots.entries a.live a.len
+        × NoneAbove a.greatest a.slots.entries };
 }
 
 impl<V> EntryList<V> {
@@ -58,6 +63,7 @@ impl<V> EntryList<V> {
             slots: IndexMap::with_hasher(alloc, hash),
             live: Marks::new(alloc),
             len: 0,
+            greatest: 0,
         }
     }
 
@@ -71,6 +77,7 @@ impl<V> EntryList<V> {
             slots: IndexMap::with_capacity_and_hasher(alloc, rows, hash)?,
             live: Marks::new(alloc),
             len: 0,
+            greatest: 0,
         })
     }
 
@@ -142,24 +149,58 @@ impl<V> EntryList<V> {
         }
     }
 
-    // The slot that a number has where numbers were given slots one after another, without a gap.
-    fn guessed_slot(&self, number: u64) -> usize {
-        match self.slots.get_index(0) {
+    // The slot that a number has where numbers were given slots one after another, without a gap,
+    // from the first slot on.
+    fn slot_from_first(&self, number: u64) -> usize {
+        match self.slots.first() {
             Some((first, _)) => number.wrapping_sub(*first) as usize,
             None => 0,
         }
     }
 
-    // The slot of the row with the number. It is looked for first where it mostly is.
+    // The slot that it has where they were so up to the last slot, as the newest numbers mostly are.
+    fn slot_from_last(&self, number: u64) -> usize {
+        match self.slots.last() {
+            Some((last, _)) => {
+                let back = last.wrapping_sub(number) as usize;
+                self.slots.len().wrapping_sub(1).wrapping_sub(back)
+            }
+            None => 0,
+        }
+    }
+
+    // Whether the slot has the number, and a row.
+    fn has_row_at(&self, slot: usize, number: u64) -> bool
+        ensures { result ≡ true → IsRowSlot self.now slot number }
+    {
+        match self.slots.get_index(slot) {
+            Some((key, Some(_))) => *key == number,
+            _ => false,
+        }
+    }
+
+    // Whether the number has a slot.
+    pub(crate) fn has_slot(&self, number: u64) -> bool
+        ensures { IsTrue result ↔ HasSlot self.now number }
+    {
+        number <= self.greatest && self.slots.get_index_of(&number).is_some()
+    }
+
+    // The slot of the row with the number. It is looked for first where it mostly is, from either end.
     pub(crate) fn slot_of(&self, number: u64) -> Option<usize>
         ensures found { IfSome result (λ i. IsRowSlot self.now i number) }
         ensures absent { IfNone result (row_at number self.now ≡ None) }
     {
-        let guess = self.guessed_slot(number);
-        if let Some((key, Some(_))) = self.slots.get_index(guess) {
-            if *key == number {
-                return Some(guess);
-            }
+        if number > self.greatest {
+            return None;
+        }
+        let guess = self.slot_from_first(number);
+        if self.has_row_at(guess, number) {
+            return Some(guess);
+        }
+        let guess = self.slot_from_last(number);
+        if self.has_row_at(guess, number) {
+            return Some(guess);
         }
         let slot = self.slots.get_index_of(&number)?;
         match self.slots.get_index(slot) {

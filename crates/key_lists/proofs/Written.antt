@@ -1,5 +1,5 @@
 -- The list under a key gives way to another at its place.
-use Rattle.std.proofs.Common.{◌≡◌, ◌≢◌, ◌∙◌, sym, ap, subst, ℕ, [], Some, option_map, unwrap_or, slice_get, nat_eq, true, false, ◌⊎◌, inl, inr, Result, Ok, Err}
+use Rattle.std.proofs.Common.{◌≡◌, ◌≢◌, ◌∙◌, sym, ap, subst, ℕ, [], Some, None, option_map, unwrap_or, slice_get, nat_eq, true, false, ◌⊎◌, inl, inr, Result, Ok, Err}
 use Rattle.std.specs.Prelude.{OnErr}
 use Rattle.std.specs.Global.{Vec}
 use Rattle.std.specs.List.{IsDistinct}
@@ -13,7 +13,7 @@ use Rattle.std.proofs.lemmas.Option.{slice_get-map}
 use Rattle.indexmap.specs.IndexMap.{IndexMap}
 use Rattle.indexmap.specs.Layout.{set_value_at}
 use Rattle.indexmap.proofs.CallerLemmas.{updates-with_value_at}
-use Rattle.key_lists.specs.Held.{Held, list_at, items_at, KeepsOthers, IsSame}
+use Rattle.key_lists.specs.Held.{Held, list_at, items_at, KeepsOthers, IsSame, NoneAbove}
 
 module _ {X : Type 0} where
   pub record IsWritten (old new : Held X) (key : ℕ) (list other : Vec X) : Type 0 where
@@ -47,6 +47,20 @@ module _ {X : Type 0} where
       by : ((eqb key q ≡ true) × (key ≡ q)) ⊎ ((eqb key q ≡ false) × (key ≢ q)) → items_at new q ≡ items_at old q
       by (inl one) = subst (λ (n : ℕ). items_at new n ≡ items_at old n) one.1 (rw (w.is, w.was) same)
       by (inr apart) = ap (λ o. unwrap_or (option_map (λ (l : Vec X). l.items) o) []) (w.others q apart.1)
+
+  -- no key above all others is given room
+  pub none-above : {old new : Held X} {key : ℕ} {list other : Vec X} (greatest : ℕ)
+      → IsWritten old new key list other → NoneAbove greatest old → NoneAbove greatest new
+  none-above {old} {new} {key} {list} greatest w above q more = by (eqb_tells key q)
+    where
+      by : ((eqb key q ≡ true) × (key ≡ q)) ⊎ ((eqb key q ≡ false) × (key ≢ q)) → list_at new q ≡ None
+      by (inl one) =
+          let there : list_at old q ≡ Some list = subst (λ (n : ℕ). list_at old n ≡ Some list) one.1 w.was in
+          absurd (is-some list (sym there ∙ above q more))
+        where
+          is-some : (list : Vec X) → Some list ≡ None → ⊥
+          is-some list h = cc
+      by (inr apart) = w.others q apart.1 ∙ above q more
 
 -- what holds anyhow holds where there is an error
 pub on-err : {T E : Type 0} (r : Result T E) (P : Type 0) → P → OnErr r P

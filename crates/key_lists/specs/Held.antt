@@ -1,5 +1,5 @@
 -- Lists under keys, and the room that each has.
-use Rattle.std.specs.Prelude.{◌≡◌, ℕ, ◌+◌, ◌≤◌, vec_capacity, List, [], length, Option, nat_eq, option_map, unwrap_or, slice_get, Some}
+use Rattle.std.specs.Prelude.{◌≡◌, ℕ, ◌+◌, ◌<◌, ◌≤◌, vec_capacity, List, [], length, Option, nat_eq, option_map, unwrap_or, slice_get, Some, None}
 use Rattle.std.specs.Map.{lookup}
 use Rattle.std.specs.Global.{Vec}
 
@@ -31,6 +31,10 @@ module _ {X : Type 0} where
   -- the items under every key are as they were
   abbrev pub IsSame : Held X → Held X → Type 0
   IsSame old new = (key : ℕ) → items_at new key ≡ items_at old key
+
+  -- no key above this one was ever given room
+  abbrev pub NoneAbove : ℕ → Held X → Type 0
+  NoneAbove greatest held = (key : ℕ) → greatest < key → list_at held key ≡ None
 
   -- the list at the place is that under the key
   abbrev pub IsUnderAt : Held X → ℕ → ℕ → Type 0

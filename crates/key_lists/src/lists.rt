@@ -1,5 +1,5 @@
 //! Lists under keys.
-ghost use Rattle.std.specs.Prelude.{◌≡◌, ◌≤◌, ◌<◌, ◌++◌, ◌∷◌, [], length, option_copied, IsOk, IfOk, OnOk, OnErr, slice_set, slice_get, Some, swap_remove, true};
+ghost use Rattle.std.specs.Prelude.{◌≡◌, ◌≤◌, ◌<◌, ◌++◌, ◌∷◌, [], length, option_copied, IsOk, IfOk, OnOk, OnErr, slice_set, slice_get, Some, None, swap_remove, true, IfSome, IfNone};
 ghost use Rattle.key_lists.specs.Held.{items_at, list_at, capacity_at, HasRoomAt, KeepsOthers, IsSame, IsUnderAt};
 
 use indexmap::IndexMap;
@@ -11,24 +11,32 @@ use std::marker::Model;
 ///
 /// Only `reserve` and `push` take memory, and `reserve` changes no item. A key keeps its list with
 /// its room, also where no item is left, so a change that is taken back needs no memory either. Each
-/// call but those two takes a look into the table, and no time by the length of the list.
+/// call but those two takes a look into the table, and no time by the length of the list; none is
+/// taken where the key is above all that were given room.
 pub struct KeyLists<X: Copy> {
     lists: IndexMap<u64, Vec<X>, NumberHash>,
+    // No key above it was ever given room.
+    greatest: u64,
 }
 
 // Written out, so that the end of one is a single call in a caller's proof.
 impl<X: Copy> Drop for KeyLists<X> {
     fn drop(self) {
-        let KeyLists { lists: _lists } = self;
+        let KeyLists {
+            lists: _lists,
+            greatest: _greatest,
+        } = self;
     }
 }
 
 impl<X: Copy> Model for KeyLists<X> {
-    ghost use Rattle.key_lists.specs.Held.{Held};
+    ghost use Rattle.key_lists.specs.Held.{Held, NoneAbove};
 
     ghost Value = { Held X };
 
     ghost view = { λ a. a.lists.entries };
+
+    ghost invariant = { λ a. NoneAbove a.greatest a.lists.entries };
 }
 
 impl<X: Copy> KeyLists<X> {
@@ -38,6 +46,7 @@ impl<X: Copy> KeyLists<X> {
     {
         KeyLists {
             lists: IndexMap::with_hasher(alloc, hash),
+            greatest: 0,
         }
     }
 
@@ -48,14 +57,26 @@ impl<X: Copy> KeyLists<X> {
     {
         Ok(KeyLists {
             lists: IndexMap::with_capacity_and_hasher(alloc, keys, hash)?,
+            greatest: 0,
         })
     }
 
     // Where a key stands if the keys from the second on came one after another, without a gap. The
     // first may stand apart from them.
-    fn guessed_place(&self, key: u64) -> usize {
+    fn place_from_second(&self, key: u64) -> usize {
         match self.lists.get_index(1) {
             Some((second, _)) => key.wrapping_sub(*second).wrapping_add(1) as usize,
+            None => 0,
+        }
+    }
+
+    // Where it stands if they did up to the last, as the newest keys mostly do.
+    fn place_from_last(&self, key: u64) -> usize {
+        match self.lists.last() {
+            Some((last, _)) => {
+                let back = last.wrapping_sub(key) as usize;
+                self.lists.len().wrapping_sub(1).wrapping_sub(back)
+            }
             None => 0,
         }
     }
@@ -70,16 +91,40 @@ impl<X: Copy> KeyLists<X> {
         }
     }
 
-    // The list under a key. It is looked for first where it mostly is.
+    // The place of the list under a key. It is looked for first where it mostly is, from either end.
+    fn place_of(&self, key: u64) -> Option<usize>
+        ensures there { IfSome result (λ place. IsUnderAt self.now place key) }
+        ensures none { IfNone result (list_at self.now key ≡ None) }
+    {
+        if key > self.greatest {
+            return None;
+        }
+        let guess = self.place_from_second(key);
+        if self.is_at(guess, key) {
+            return Some(guess);
+        }
+        let guess = self.place_from_last(key);
+        if self.is_at(guess, key) {
+            return Some(guess);
+        }
+        let (place, _, _) = self.lists.get_full(&key)?;
+        Some(place)
+    }
+
+    // The list under a key. What reads mostly finds it at the first guess.
     fn find(&self, key: u64) -> Option<&Vec<X>>
         ensures { option_copied result ≡ list_at self.now key }
     {
-        if let Some((other, list)) = self.lists.get_index(self.guessed_place(key)) {
+        if let Some((other, list)) = self.lists.get_index(self.place_from_second(key)) {
             if *other == key {
                 return Some(list);
             }
         }
-        self.lists.get(&key)
+        let place = self.place_of(key)?;
+        match self.lists.get_index(place) {
+            Some((_, list)) => Some(list),
+            None => None,
+        }
     }
 
     /// The items under a key.
@@ -108,6 +153,20 @@ impl<X: Copy> KeyLists<X> {
         Ok(())
     }
 
+    // Sees that so many items more fit under the key at a place.
+    fn reserve_at(&mut self, place: usize, key: u64, more: usize) -> Result<(), AllocError>
+        requires { IsUnderAt self.old place key }
+        ensures room { OnOk result (HasRoomAt self.new key more) }
+        ensures same { IsSame self.old self.new }
+        ensures capacity { capacity_at self.old key ≤ capacity_at self.new key }
+        ensures others { KeepsOthers key self.old self.new }
+        ensures had_room { HasRoomAt self.old key more → IsOk result }
+        ensures err { OnErr result (capacity_at self.new key ≡ capacity_at self.old key) }
+    {
+        let items = self.lists.get_index_mut(place).unwrap();
+        items.reserve(more)
+    }
+
     /// Sees that so many items more fit under a key. It takes memory where they don't yet, and
     /// time by the items under the key. The items stay as they are; where memory runs out, the
     /// room too.
@@ -122,13 +181,13 @@ impl<X: Copy> KeyLists<X> {
         if more == 0 {
             return Ok(());
         }
-        if let Some(list) = self.lists.get_mut(&key) {
-            list.reserve(more)?;
-            return Ok(());
+        if let Some(place) = self.place_of(key) {
+            return self.reserve_at(place, key, more);
         }
         let mut list = Vec::new(*self.lists.allocator());
         list.reserve(more)?;
         self.lists.insert(key, list)?;
+        self.greatest = self.greatest.max(key);
         Ok(())
     }
 
@@ -142,19 +201,16 @@ impl<X: Copy> KeyLists<X> {
         ensures err { OnErr result (IsSame self.old self.new) }
         ensures err_room { OnErr result (capacity_at self.new key ≡ capacity_at self.old key) }
     {
-        let guessed = self.guessed_place(key);
-        if self.is_at(guessed, key) {
-            return self.push_at(guessed, key, item);
-        }
-        if let Some(items) = self.lists.get_mut(&key) {
-            items.reserve(1)?;
-            items.push_reserved(item);
-            return Ok(());
+        if let Some(place) = self.place_of(key) {
+            return self.push_at(place, key, item);
         }
         let mut list = Vec::new(*self.lists.allocator());
         list.push(item)?;
         match self.lists.insert(key, list) {
-            Ok(_) => Ok(()),
+            Ok(_) => {
+                self.greatest = self.greatest.max(key);
+                Ok(())
+            }
             Err(full) => Err(AllocError::from(full)),
         }
     }
@@ -166,9 +222,9 @@ impl<X: Copy> KeyLists<X> {
         ensures capacity { capacity_at self.new key ≡ capacity_at self.old key }
         ensures others { KeepsOthers key self.old self.new }
     {
-        if let Some(list) = self.lists.get_mut(&key) {
-            list.push_reserved(item);
-        }
+        let place = self.place_of(key).unwrap();
+        let items = self.lists.get_index_mut(place).unwrap();
+        items.push_reserved(item);
     }
 
     /// Takes the item at a place out and gives it; the last one under the key takes its place. It
@@ -181,9 +237,10 @@ impl<X: Copy> KeyLists<X> {
         ensures capacity { capacity_at self.new key ≡ capacity_at self.old key }
         ensures others { KeepsOthers key self.old self.new }
     {
-        let list = self.lists.get_mut(&key).unwrap();
-        let _length = list.len();
-        list.swap_remove(place)
+        let found = self.place_of(key).unwrap();
+        let items = self.lists.get_index_mut(found).unwrap();
+        let _length = items.len();
+        items.swap_remove(place)
     }
 
     /// Puts an item in the place of another. It takes no memory.
@@ -193,7 +250,8 @@ impl<X: Copy> KeyLists<X> {
         ensures capacity { capacity_at self.new key ≡ capacity_at self.old key }
         ensures others { KeepsOthers key self.old self.new }
     {
-        let list = self.lists.get_mut(&key).unwrap();
-        list[place] = item;
+        let found = self.place_of(key).unwrap();
+        let items = self.lists.get_index_mut(found).unwrap();
+        items[place] = item;
     }
 }

@@ -1,4 +1,5 @@
 use Rattle.std.proofs.Common.{◌≡◌, None, ◌∙◌, sym, nat_eq, [], ◌∷◌, ◌++◌, arith}
+use Rattle.std.proofs.lemmas.Bool.{ne_eqb}
 use Rattle.std.specs.Map.{lookup}
 use Rattle.indexmap.proofs.CallerLemmas.{insert_entry-new}
 use Rattle.entry_list.proofs.Rows.{marks-push, rows-push, length-push, rows-le}
@@ -18,7 +19,7 @@ pub overflow_add-self : goal.overflow_add-self
 overflow_add-self g c =
     omega (
       arith,
-      c.self.invariant.1,
+      c.self.invariant.0.1,
       rows-le c.self.inside.slots.entries,
       c.len-slots.ensures.len,
       c.len-slots.ensures.small,
@@ -30,9 +31,12 @@ invariant_of-self-in-Ok g c =
     let es = c.self.inside.slots.entries in
     let n = c.args.number in
     let e = slots_are g (goal.at.invariant_of-self-in-Ok g c).In-Ok in (
-      rw (e, c.in_ok-push.ensures.ok, c.self.invariant.0, c.mark_of-mark.ensures.mark)
-          (sym (marks-push es n c.args.row)),
-      rw (e, c.self.invariant.1, c.mark_of-mark.ensures.mark) (sym (length-push es n c.args.row)),
+      (
+        rw (e, c.in_ok-push.ensures.ok, c.self.invariant.0.0, c.mark_of-mark.ensures.mark)
+            (sym (marks-push es n c.args.row)),
+        rw (e, c.self.invariant.0.1, c.mark_of-mark.ensures.mark) (sym (length-push es n c.args.row)),
+      ),
+      λ q more. c.in-Ok.ensures.updates.2 q (ne_eqb n q (λ same. absurd (omega (arith, same, more)))) ∙ c.self.invariant.1 q (omega (arith, more)),
     )
 
 pub returns-in-Ok-clause-added : goal.returns-in-Ok-clause-added

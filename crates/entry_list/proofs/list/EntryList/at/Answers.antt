@@ -5,7 +5,7 @@ use Rattle.entry_list.proofs.list.EntryList.at.Goals as goal
 
 pub slot_at-slot-requires : goal.slot_at-slot-requires
 slot_at-slot-requires g c =
-    let within : c.args.place < length (rows_of c.self.inside.slots.entries) = subst (λ n. c.args.place < n) c.self.invariant.1 c.if-place-self.false in
+    let within : c.args.place < length (rows_of c.self.inside.slots.entries) = subst (λ n. c.args.place < n) c.self.invariant.0.1 c.if-place-self.false in
     rw (← c.self.view_is) within
 
 pub unwrap-requires : goal.unwrap-requires

@@ -1,5 +1,6 @@
 use Rattle.std.proofs.Common.{Some, sym, arith}
 use Rattle.entry_list.specs.Slots.{IsEmptySlot}
+use Rattle.entry_list.proofs.Above.{above-set}
 use Rattle.entry_list.proofs.Rows.{marks-set, filled-length, put-row, rows-le}
 use Rattle.entry_list.proofs.Found.{slots-set}
 use Rattle.entry_list.proofs.list.EntryList.fill.Goals as goal
@@ -8,7 +9,7 @@ pub overflow_add-self : goal.overflow_add-self
 overflow_add-self g c =
     omega (
       arith,
-      c.self.invariant.1,
+      c.self.invariant.0.1,
       rows-le c.self.inside.slots.entries,
       c.len-slots.ensures.len,
       c.len-slots.ensures.small,
@@ -19,10 +20,13 @@ invariant_of-self g c =
     let i = c.args.slot in
     let n = c.args.number in
     let h : IsEmptySlot c.self.inside.slots.entries i n = rw c.self.view_is c.requires in (
-      rw (c.set.ensures, c.self.invariant.0, c.replace.ensures.after)
-          (sym (marks-set i c.self.inside.slots.entries (Some c.args.row))),
-      rw (c.replace.ensures.after, c.self.invariant.1)
-          (sym (filled-length n i c.self.inside.slots.entries c.args.row h)),
+      (
+        rw (c.set.ensures, c.self.invariant.0.0, c.replace.ensures.after)
+            (sym (marks-set i c.self.inside.slots.entries (Some c.args.row))),
+        rw (c.replace.ensures.after, c.self.invariant.0.1)
+            (sym (filled-length n i c.self.inside.slots.entries c.args.row h)),
+      ),
+      above-set c.self.inside.greatest i c.self.inside.slots.entries c.replace.new.dest c.self.invariant.1,
     )
 
 pub returns-clause-rows : goal.returns-clause-rows

@@ -20,10 +20,10 @@ mark_between-requires g c =
     let k : MovesEmpty es c.move_index.new.self.entries from to n
     = rw c.move_index.ensures.entries (move-empty from to n es h inside) in
     record {
-      size = ap length c.self.invariant.0 ∙ (length-marks es ∙ sym k.long);
+      size = ap length c.self.invariant.0.0 ∙ (length-marks es ∙ sym k.long);
       within = omega (arith, empty-within from n es h, inside, k.long);
-      before = λ i l. rw c.self.invariant.0 (k.before i (omega (arith, l)) (omega (arith, l)));
-      behind = λ i l. rw c.self.invariant.0 (k.behind i (omega (arith, l)) (omega (arith, l)));
+      before = λ i l. rw c.self.invariant.0.0 (k.before i (omega (arith, l)) (omega (arith, l)));
+      behind = λ i l. rw c.self.invariant.0.0 (k.behind i (omega (arith, l)) (omega (arith, l)));
     }
 
 pub invariant_of-self : goal.invariant_of-self
@@ -32,7 +32,7 @@ invariant_of-self g c =
     let h : IsEmptySlot es c.args.from c.args.number = rw c.self.view_is c.requires.own in
     let k : MovesEmpty es c.move_index.new.self.entries c.args.from c.args.to c.args.number
     = rw c.move_index.ensures.entries (move-empty _ _ _ es h (rw c.self.view_is c.requires.to)) in
-    (c.mark_between.ensures, rw k.rows c.self.invariant.1)
+    ((c.mark_between.ensures, rw k.rows c.self.invariant.0.1), λ n more. c.move_index.ensures.reordered.2 n ∙ c.self.invariant.1 n more)
 
 pub returns : goal.returns
 returns g c =

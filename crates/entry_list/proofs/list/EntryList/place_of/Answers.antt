@@ -8,5 +8,5 @@ returns-clause-place g c =
     let n = c.args.number in
     let r : IsRowSlot c.self.inside.slots.entries i n =
     rw c.self.view_is c.in_ok-slot.ensures.found in
-    rw (c.count_before.ensures.value, c.self.invariant.0, ← c.self.view_is)
+    rw (c.count_before.ensures.value, c.self.invariant.0.0, ← c.self.view_is)
     (number-place n i c.self.inside.slots.entries r)

@@ -1,6 +1,7 @@
 use Rattle.std.proofs.Common.{sym, ◌∙◌}
 use Rattle.indexmap.specs.Layout.{set_value_at}
 use Rattle.entry_list.specs.Slots.{IsRowSlot}
+use Rattle.entry_list.proofs.Above.{above-set}
 use Rattle.entry_list.proofs.OneSlot.{Replaces, replaces}
 use Rattle.entry_list.proofs.list.EntryList.replace.Goals.{After-unwrap}
 use Rattle.entry_list.proofs.list.EntryList.replace.Goals as goal
@@ -21,7 +22,8 @@ replaced g c =
 pub invariant_of-self : goal.invariant_of-self
 invariant_of-self g c =
     let k = replaced g (goal.at.invariant_of-self g c).After-unwrap in
-    (rw k.marks c.self.invariant.0, rw k.long c.self.invariant.1)
+    let i = c.unwrap-slot.result in
+    ((rw k.marks c.self.invariant.0.0, rw k.long c.self.invariant.0.1), above-set c.self.inside.greatest i c.self.inside.slots.entries c.replace.new.dest c.self.invariant.1)
 
 pub returns : goal.returns
 returns g c =

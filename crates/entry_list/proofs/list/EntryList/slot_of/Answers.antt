@@ -1,5 +1,5 @@
 use Rattle.std.proofs.Common.{sym, ◌∙◌}
-use Rattle.entry_list.proofs.Found.{none-slot, found-slot, absent-slot}
+use Rattle.entry_list.proofs.Found.{no-slot, none-slot, found-slot, absent-slot}
 use Rattle.entry_list.proofs.list.EntryList.slot_of.Goals as goal
 
 pub returns-in_err-slot-clause-absent : goal.returns-in_err-slot-clause-absent
@@ -21,3 +21,9 @@ returns-else-is_some-clause-absent g c =
     c.in-Some.field-0-0.now c.in-Some.row.now c.in_ok-slot.ensures.index
     c.in-Some.ensures.entry c.in-Some.ensures.value c.in_ok-slot.ensures.unique
     (sym c.is_some.ensures ∙ c.if-is_some.false))
+
+pub returns-then-number-self-clause-absent : goal.returns-then-number-self-clause-absent
+returns-then-number-self-clause-absent g c =
+    let n = c.args.number in
+    rw (← c.self.view_is)
+    (no-slot n c.self.inside.slots.entries (c.self.invariant.1 n c.if-number-self.true))

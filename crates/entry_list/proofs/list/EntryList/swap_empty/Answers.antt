@@ -1,4 +1,4 @@
-use Rattle.std.proofs.Common.{rules}
+use Rattle.std.proofs.Common.{rules, ◌∙◌}
 use Rattle.entry_list.proofs.EmptySlots.{KeepsRows, swap-unmarked}
 use Rattle.entry_list.proofs.list.EntryList.swap_empty.Goals as goal
 
@@ -9,7 +9,7 @@ invariant_of-self g c =
     rw c.swap_indices.ensures.entries (swap-unmarked c.args.own c.args.other c.args.number es
     (rw c.self.view_is c.requires.own) (rw c.self.view_is c.requires.other)
     (rw c.self.view_is c.requires.unmarked)) in
-    (rw k.marks c.self.invariant.0, rw k.rows c.self.invariant.1)
+    ((rw k.marks c.self.invariant.0.0, rw k.rows c.self.invariant.0.1), λ n more. c.swap_indices.ensures.reordered.2 n ∙ c.self.invariant.1 n more)
 
 pub returns : goal.returns
 returns g c =

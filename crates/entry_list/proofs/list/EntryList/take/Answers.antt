@@ -2,6 +2,7 @@ use Rattle.std.proofs.Common.{None, sym, ◌∙◌, ap, arith, rules}
 use Rattle.indexmap.specs.Layout.{set_value_at}
 use Rattle.entry_list.specs.Totals.{total_before}
 use Rattle.entry_list.specs.Slots.{rows_of, IsRowSlot}
+use Rattle.entry_list.proofs.Above.{above-set}
 use Rattle.entry_list.proofs.Rows.{marks-set, emptied-length}
 use Rattle.entry_list.proofs.Numbers.{without-none}
 use Rattle.entry_list.proofs.OneSlot.{Takes, takes}
@@ -12,7 +13,7 @@ overflow_sub-self g c =
     let es = c.self.inside.slots.entries in
     let i = c.in_ok-slot.slot in
     let r : IsRowSlot es i c.args.number = rw c.self.view_is c.in_ok-slot.ensures.found in
-    omega (arith, c.self.invariant.1, emptied-length c.args.number i es r)
+    omega (arith, c.self.invariant.0.1, emptied-length c.args.number i es r)
 
 pub invariant_of-self : goal.invariant_of-self
 invariant_of-self g c =
@@ -20,8 +21,11 @@ invariant_of-self g c =
     let i = c.in_ok-slot.slot in
     let r : IsRowSlot es i c.args.number = rw c.self.view_is c.in_ok-slot.ensures.found in
     let less = emptied-length c.args.number i es r in (
-      rw (c.set.ensures, c.self.invariant.0, c.replace.ensures.after) (sym (marks-set i es None)),
-      rw c.replace.ensures.after (omega (arith, c.self.invariant.1, less)),
+      (
+        rw (c.set.ensures, c.self.invariant.0.0, c.replace.ensures.after) (sym (marks-set i es None)),
+        rw c.replace.ensures.after (omega (arith, c.self.invariant.0.1, less)),
+      ),
+      above-set c.self.inside.greatest i es c.replace.new.dest c.self.invariant.1,
     )
 
 pub returns-in_err-slot-clause-without : goal.returns-in_err-slot-clause-without
@@ -38,7 +42,7 @@ returns g c =
     let r : IsRowSlot es i n = rw c.self.view_is c.in_ok-slot.ensures.found in
     let here = rw c.unwrap-cell.ensures at c.get_index_mut.ensures.value in
     let value = sym c.replace.ensures.value ∙ c.unwrap-row.ensures in
-    let place = c.count_before-place.ensures.value ∙ ap (total_before i) c.self.invariant.0 in
+    let place = c.count_before-place.ensures.value ∙ ap (total_before i) c.self.invariant.0.0 in
     let once = c.get_index_mut.ensures.unique in
     let k : Takes c.args.self.now (set_value_at es i c.replace.new.dest) n p row =
     rw (← c.self.view_is, c.replace.ensures.after)

@@ -1,7 +1,7 @@
 use Rattle.std.proofs.Common.{rules}
 use Rattle.std.specs.Global.{Vec}
 use Rattle.indexmap.specs.Layout.{set_value_at}
-use Rattle.key_lists.proofs.Written.{IsWritten, written, same-items, on-err}
+use Rattle.key_lists.proofs.Written.{IsWritten, written, none-above, same-items, on-err}
 use Rattle.key_lists.proofs.lists.KeyLists.push_at.Goals.{After-unwrap-items}
 use Rattle.key_lists.proofs.lists.KeyLists.push_at.Goals as goal
 
@@ -48,3 +48,13 @@ pub returns-clause-capacity : goal.returns-clause-capacity
 returns-clause-capacity g c =
     let k = changed g (goal.at.returns-clause-capacity g c).After-unwrap-items c.push_reserved.new.self in
     rw (k.is, k.was) (search rules)
+
+pub invariant_of-self : goal.invariant_of-self
+invariant_of-self g c =
+    let k = changed g (goal.at.invariant_of-self g c).After-unwrap-items c.reserve.new.self in
+    none-above c.self.inside.greatest k (rw (← c.self.view_is) c.self.invariant)
+
+pub invariant_of-self-2 : goal.invariant_of-self-2
+invariant_of-self-2 g c =
+    let k = changed g (goal.at.invariant_of-self-2 g c).After-unwrap-items c.push_reserved.new.self in
+    none-above c.self.inside.greatest k (rw (← c.self.view_is) c.self.invariant)
