@@ -13,25 +13,48 @@ use number_hash::NumberHash;
 
 pub(crate) type Rows = IndexMap<StringNo, Ends, NumberHash>;
 
-// Where a string stands if the strings came one after another, without a gap in their numbers.
-fn guessed_place(rows: &Rows, string: &StringNo) -> usize {
-    match rows.get_index(0) {
+// Where a string stands if the strings came one after another, without a gap in their numbers, from
+// the first on.
+fn place_from_first(rows: &Rows, string: &StringNo) -> usize {
+    match rows.first() {
         Some((first, _)) => string.get().wrapping_sub(first.get()) as usize,
         None => 0,
     }
 }
 
+// Where it stands if they did up to the last, as the newest strings mostly do.
+fn place_from_last(rows: &Rows, string: &StringNo) -> usize {
+    match rows.last() {
+        Some((last, _)) => {
+            let back = last.get().wrapping_sub(string.get()) as usize;
+            rows.len().wrapping_sub(1).wrapping_sub(back)
+        }
+        None => 0,
+    }
+}
+
+// The links of the halves of a string, if they stand at a place.
+fn ends_at<'a>(rows: &'a Rows, place: usize, string: &StringNo) -> Option<&'a Ends>
+    ensures there { IfSome result (λ ends. slice_get rows.now.entries place ≡ Some (string.now, ends.now)) }
+    ensures ends { IfSome result (λ ends. lookup (nat_eq string.now) rows.now.entries ≡ Some ends.now) }
+{
+    let (key, ends) = rows.get_index(place)?;
+    if key == string { Some(ends) } else { None }
+}
+
 // Where the links of the halves of a string stand, and what they are. They are looked for first
-// where they mostly are.
+// where they mostly are, from either end.
 fn find_ends<'a>(rows: &'a Rows, string: &StringNo) -> Option<(usize, &'a Ends)>
     ensures ends { option_map (λ found. found.1.now) result ≡ lookup (nat_eq string.now) rows.now.entries }
     ensures place { IfSome result (λ found. slice_get rows.now.entries found.0 ≡ Some (string.now, found.1.now)) }
 {
-    let guess = guessed_place(rows, string);
-    if let Some((key, ends)) = rows.get_index(guess) {
-        if key == string {
-            return Some((guess, ends));
-        }
+    let guess = place_from_first(rows, string);
+    if let Some(ends) = ends_at(rows, guess, string) {
+        return Some((guess, ends));
+    }
+    let guess = place_from_last(rows, string);
+    if let Some(ends) = ends_at(rows, guess, string) {
+        return Some((guess, ends));
     }
     let (place, _, ends) = rows.get_full(string)?;
     Some((place, ends))
