@@ -96,6 +96,12 @@ pub on_err : {T E A B : Type 0} → (r : Result T E) → (A → B) → OnErr r A
 on_err (Ok t) f a = tt
 on_err (Err t) f a = f a
 
+-- what follows both ways
+pub in_either : {T E A B C : Type 0} → (r : Result T E) → (A → C) → (B → C) → OnOk r A → OnErr r B
+    → C
+in_either (Ok t) f g a b = f a
+in_either (Err t) f g a b = g b
+
 -- where nothing has changed, whatever the result is
 pub OnErr_always : {T E P : Type 0} → (r : Result T E) → P → OnErr r P
 OnErr_always r p = on_err r (λ (t : Unit). p) (ends r)

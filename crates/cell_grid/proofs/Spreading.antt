@@ -7,18 +7,14 @@ use Rattle.cell_grid.specs.declared.held_list.HeldList.{HeldList}
 use Rattle.cell_grid.specs.declared.block.Block.{Block}
 use Rattle.cell_grid.specs.declared.entry.Entry.{Entry}
 use Rattle.cell_grid.specs.Cells.{IsBlock, cell_count, cell_at}
-use Rattle.cell_grid.specs.Held.{HeldEntries, entries_at, HasRoomInCell, KeepsOtherCells}
-use Rattle.cell_grid.specs.Spread.{HasRoomIn, IsPutIn, IsTakenOut}
+use Rattle.cell_grid.specs.Held.{HeldEntries, entries_at, KeepsOtherCells}
+use Rattle.cell_grid.specs.Spread.{IsPutIn, IsTakenOut}
 use Rattle.cell_grid.proofs.Blocks.{cell-once}
 
 pub items-kept : (c : ℕ) (old new : HeldEntries) → KeepsOtherCells c old new → (b : ℕ) → ¬ (c ≡ b)
     → entries_at new b ≡ entries_at old b
 items-kept c old new keeps b other =
     ap (λ o. unwrap_or (option_map (λ (l : HeldList). l.entries.items) o) []) (keeps b other)
-
-pub room-kept : (c : ℕ) (old new : HeldEntries) → KeepsOtherCells c old new → (b : ℕ) → ¬ (c ≡ b)
-    → HasRoomInCell old b 1 → HasRoomInCell new b 1
-room-kept c old new keeps b other room = (room.0, keeps b other ∙ room.1, room.2)
 
 -- a number below the next one is it, or below this one
 below_next : (k i : ℕ) → k < i + 1 → (k ≡ i) ⊎ (k < i)
@@ -32,21 +28,6 @@ module _ (b : Block) (h : IsBlock b) (i : ℕ) (within : i < cell_count b) where
   earlier : (j : ℕ) → j < i → ¬ (cell_at b j ≡ cell_at b i)
   earlier j hj same =
       other_cell j (omega arith) (λ e. absurd (omega arith)) (sym same)
-
-  pub room-more : (old new : HeldEntries) → KeepsOtherCells (cell_at b i) old new
-      → ((k : ℕ) → k < i → HasRoomInCell old (cell_at b k) 1) → HasRoomInCell new (cell_at b i) 1
-      → (k : ℕ) → k < i + 1 → HasRoomInCell new (cell_at b k) 1
-  room-more old new keeps before here k hk = elim (below_next k i hk) [
-    | inl same ↦ subst (λ (n : ℕ). HasRoomInCell new (cell_at b n) 1) (sym same) here
-    | inr lt ↦ room-kept (cell_at b i) old new keeps (cell_at b k)
-        (other_cell k (omega arith) (λ e. absurd (omega arith))) (before k lt)
-  ]
-
-  pub room-less : (old new : HeldEntries) → KeepsOtherCells (cell_at b i) old new → HasRoomIn old b i
-      → HasRoomIn new b (i + 1)
-  room-less old new keeps room k from hk =
-      room-kept (cell_at b i) old new keeps (cell_at b k)
-      (other_cell k hk (λ e. absurd (omega arith))) (room k (omega arith) hk)
 
   pub put-more : (start old new : HeldEntries) (e : Entry) → IsPutIn start b e i old
       → entries_at new (cell_at b i) ≡ entries_at old (cell_at b i) ++ e ∷ []

@@ -1,5 +1,5 @@
 -- What a put and a take do to entries that are spread over the cells of one size.
-use Rattle.std.proofs.Common.{◌≡◌, ℕ, zero, suc, ◌+◌, ◌<◌, ◌≤◌, List, [], ◌∷◌, ◌++◌, Bool, true, false, cond, refl, sym, subst, ◌∙◌, arith, ◌⊎◌, inl, inr, mul-pos}
+use Rattle.std.proofs.Common.{◌≡◌, ℕ, zero, suc, ◌+◌, ◌<◌, ◌≤◌, List, [], ◌∷◌, ◌++◌, Bool, true, false, cond, refl, sym, ap, subst, ◌∙◌, arith, ◌⊎◌, inl, inr, mul-pos}
 use Rattle.std.proofs.lemmas.Bool.{cases_lt, cases_eq}
 use Rattle.std.proofs.lemmas.List.Elements.{Contains-append_left, Contains-append_right, Contains-append_cases, Contains-push, Contains-push_cases}
 use Rattle.std.proofs.lemmas.List.Sorted.{sum_by-IsPermutation, Contains-permutation, IsPermutation-sym}
@@ -11,22 +11,24 @@ use Rattle.cell_grid.specs.declared.block.CellSize.{CellSize}
 use Rattle.cell_grid.specs.declared.entry.Entry.{Entry}
 use Rattle.cell_grid.specs.Entries.{is_same_entry}
 use Rattle.cell_grid.specs.Cells.{IsBlock, IsCellOf, cell_count, cell_at}
-use Rattle.cell_grid.specs.Held.{HeldEntries, entries_at, HasSameEntries}
+use Rattle.cell_grid.specs.Held.{HeldEntries, entries_at, HasSameEntries, times_at, HasEachAsOften}
 use Rattle.cell_grid.specs.Spread.{IsSpread, IsSoundEntry, Stands, StandsSame, StandsOneMore, StandsOneLess, block_at, IsPutIn, IsTakenOut}
 use Rattle.cell_grid.proofs.Blocks.{cell-of, cell-found}
 use Rattle.cell_grid.proofs.Same.{same_entry, is_itself, one_from_Contains, Contains_from_one, count_more}
 
--- ---- Cells that were only given room
+-- ---- Cells that have each entry as often as before
 
 -- the same entries stand there as before
-module _ (old new : HeldEntries) (same : HasSameEntries old new) where
+module _ (old new : HeldEntries) (same : HasEachAsOften old new) where
   into_same : (cell : ℕ) (e : Entry) → Contains (entries_at old cell) e
       → Contains (entries_at new cell) e
-  into_same cell e h = subst (λ (l : List Entry). Contains l e) (sym (same cell)) h
+  into_same cell e h = Contains_from_one (entries_at new cell) e
+      (subst (λ (n : ℕ). 1 ≤ n) (sym (same cell e)) (one_from_Contains (entries_at old cell) e h))
 
   from_same : (cell : ℕ) (e : Entry) → Contains (entries_at new cell) e
       → Contains (entries_at old cell) e
-  from_same cell e h = subst (λ (l : List Entry). Contains l e) (same cell) h
+  from_same cell e h = Contains_from_one (entries_at old cell) e
+      (subst (λ (n : ℕ). 1 ≤ n) (same cell e) (one_from_Contains (entries_at new cell) e h))
 
   pub stands-same : StandsSame old new
   stands-same e = ((λ h. (h.0, from_same h.0 e h.1)), (λ h. (h.0, into_same h.0 e h.1)))
@@ -37,18 +39,9 @@ module _ (old new : HeldEntries) (same : HasSameEntries old new) where
     in_box = λ cell e h. s.in_box cell e (from_same cell e h);
     everywhere =
         λ from cell e h c. into_same cell e (s.everywhere from cell e (from_same from e h) c);
-    once = λ cell e. subst (λ (l : List Entry). count_by (is_same_entry e) l ≤ 1)
-        (sym (same cell)) (s.once cell e);
+    once = λ cell e. subst (λ (n : ℕ). n ≤ 1) (sym (same cell e)) (s.once cell e);
     sound = λ e h. s.sound e ((stands-same e).0 h);
   }
-
-  -- an entry that is put in after that
-  pub stands-through : (e : Entry) (after : HeldEntries) → StandsOneMore new e after
-      → StandsOneMore old e after
-  stands-through e after put x = (
-    (λ h. elim ((put x).0 h) [ inl stood ↦ inl ((stands-same x).0 stood) | inr is ↦ inr is ]),
-    (λ h. (put x).1 (elim h [ inl stood ↦ inl ((stands-same x).1 stood) | inr is ↦ inr is ])),
-  )
 
 -- ---- Numbers below a bound
 
@@ -126,6 +119,34 @@ module _ (old new : List Entry) (e : Entry) (out : IsPermutation old (e ∷ new)
       only : (x : Entry) → Contains (e ∷ []) x → x ≡ e
       only x (zero, within, is) = sym is
       only x (suc k, within, is) = absurd (omega arith)
+
+-- an entry that went into cells of a block, and that is taken out of them again
+module _ (b : Block) (n : ℕ) (e : Entry) (old full kept : HeldEntries)
+    (put : IsPutIn old b e n full) (same : HasSameEntries full kept) where
+  items : (k : ℕ) → k < n → entries_at kept (cell_at b k) ≡ entries_at old (cell_at b k) ++ e ∷ []
+  items k low = same (cell_at b k) ∙ put.there k low
+
+  pub went-in : (k : ℕ) → k < n → Contains (entries_at kept (cell_at b k)) e
+  went-in k low = subst (λ (l : List Entry). Contains l e) (sym (items k low))
+      (Contains-push (entries_at old (cell_at b k)) e)
+
+  pub came-out : (new : HeldEntries) → IsTakenOut kept b e n new → HasEachAsOften old new
+  came-out new out cell x = elim (some_below (cell_at b) cell n) [
+    | inl found ↦ subst (λ (c : ℕ). times_at new c x ≡ times_at old c x) found.2
+        (as_often found.0 found.1)
+    | inr none ↦ ap (λ (l : List Entry). count_by (is_same_entry x) l)
+        (out.others cell none ∙ same cell ∙ put.others cell none)
+  ]
+    where
+      as_often : (k : ℕ) → k < n → times_at new (cell_at b k) x ≡ times_at old (cell_at b k) x
+      as_often k low =
+          let was = entries_at old (cell_at b k) in
+          let is = entries_at new (cell_at b k) in
+          let more = sum_by_push (λ (y : Entry). cond {A = ℕ} (is_same_entry x y) 1 0) was e in
+          let out_of : IsPermutation (was ++ e ∷ []) (e ∷ is) =
+          subst (λ (l : List Entry). IsPermutation l (e ∷ is)) (items k low) (out.there k low) in
+          let less = count_out (was ++ e ∷ []) is e out_of x in
+          omega arith
 
 -- ---- Into the cells of a box, and out of them
 

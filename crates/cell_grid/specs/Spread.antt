@@ -8,7 +8,7 @@ use Rattle.cell_grid.specs.declared.block.CellSize.{CellSize}
 use Rattle.cell_grid.specs.declared.entry.Entry.{Entry}
 use Rattle.cell_grid.specs.Entries.{is_same_entry}
 use Rattle.cell_grid.specs.Cells.{IsCellOf, IsCellSize, block_of, cell_count, cell_at}
-use Rattle.cell_grid.specs.Held.{HeldEntries, entries_at, HasRoomInCell}
+use Rattle.cell_grid.specs.Held.{HeldEntries, entries_at}
 
 -- the cells of a size that an entry's box touches
 abbrev pub block_at : CellSize → Entry → Block
@@ -57,10 +57,6 @@ pub record IsSpread (size : CellSize) (lists : HeldEntries) : Type 0 where
       → IsCellOf (block_at size e) cell → Contains (entries_at lists cell) e
   pub once : (cell : ℕ) (e : Entry) → count_by (is_same_entry e) (entries_at lists cell) ≤ 1
   pub sound : (e : Entry) → Stands lists e → IsSoundEntry e
-
--- the cells of the block from a place on have room for one entry more
-abbrev pub HasRoomIn : HeldEntries → Block → ℕ → Type 0
-HasRoomIn lists b from = (k : ℕ) → from ≤ k → k < cell_count b → HasRoomInCell lists (cell_at b k) 1
 
 -- the entry was put into so many cells of the block, and nothing else has changed
 pub record IsPutIn (old : HeldEntries) (b : Block) (e : Entry) (n : ℕ) (new : HeldEntries) : Type 0 where

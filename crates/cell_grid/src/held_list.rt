@@ -1,10 +1,10 @@
 //! One list of entries.
-ghost use Rattle.std.specs.Prelude.{◌≡◌, ◌<◌, ◌≤◌, ◌+◌, ◌∷◌, ◌++◌, [], true, false, length, vec_len, vec_capacity, IsPermutation, OnOk, OnErr, slice_index_or};
+ghost use Rattle.std.specs.Prelude.{◌≡◌, ◌<◌, ◌∷◌, ◌++◌, [], true, false, length, IsPermutation, OnOk, OnErr, slice_index_or};
 ghost use Rattle.std.specs.List.{Contains};
 
 use crate::entry::{Entry, is_same};
 use cad_rows::Memory;
-use std::alloc::{AllocError, Global};
+use std::alloc::Global;
 
 /// Entries in a list, and the place where one was taken out last: what is taken out one after
 /// another mostly stood side by side.
@@ -53,23 +53,6 @@ impl HeldList {
             entries: Vec::new(alloc),
             taken: 0,
         }
-    }
-
-    /// Room for one entry more. The entries stay as they are, also where memory runs out.
-    pub(crate) fn reserve(&mut self) -> Result<(), AllocError>
-        ensures room { OnOk result
-            (vec_len self.new.entries + 1 ≤ vec_capacity self.new.entries) }
-        ensures same { self.new.entries.items ≡ self.old.entries.items }
-    {
-        self.entries.reserve(1)
-    }
-
-    /// Puts an entry last where there is room for it. It takes no memory.
-    pub(crate) fn put_reserved(&mut self, entry: Entry)
-        requires { vec_len self.old.entries + 1 ≤ vec_capacity self.old.entries }
-        ensures { self.new.entries.items ≡ self.old.entries.items ++ entry ∷ [] }
-    {
-        self.entries.push_reserved(entry);
     }
 
     /// Puts an entry last. Where memory runs out the entries stay as they are.

@@ -1,9 +1,9 @@
 //! Entries by the cells of one size.
-ghost use Rattle.std.specs.Prelude.{◌≡◌, ℕ, ◌<◌, OnOk, OnErr};
+ghost use Rattle.std.specs.Prelude.{◌≡◌, ℕ, ◌<◌, ◌≤◌, OnOk, OnErr};
 ghost use Rattle.std.specs.List.{Contains};
 ghost use Rattle.cell_grid.specs.Cells.{IsBlock, IsCellSize, cell_count, cell_at};
-ghost use Rattle.cell_grid.specs.Held.{entries_at, HasSameEntries};
-ghost use Rattle.cell_grid.specs.Spread.{IsSoundEntry, HasRoomIn, IsPutIn, IsTakenOut, IsSpread, Stands, StandsNone, StandsOneMore, StandsOneLess, StandsSame, fits as fits_of, most_cells as most_cells_of};
+ghost use Rattle.cell_grid.specs.Held.{entries_at, HasEachAsOften};
+ghost use Rattle.cell_grid.specs.Spread.{IsSoundEntry, IsPutIn, IsTakenOut, IsSpread, Stands, StandsNone, StandsOneMore, StandsOneLess, StandsSame, fits as fits_of, most_cells as most_cells_of};
 
 use crate::block::{Block, CellSize, block_of};
 use crate::entry::Entry;
@@ -38,40 +38,34 @@ fn most_cells(size: &CellSize) -> u64
     }
 }
 
-/// Gives each cell of a block room for one entry more. No cell has another entry after it, also
-/// where memory runs out.
-fn reserve_each(lists: &mut CellLists, block: &Block) -> Result<(), Memory>
-    requires { IsBlock block.now }
-    ensures room { OnOk result (HasRoomIn lists.new block.now 0) }
-    ensures same { HasSameEntries lists.old lists.new }
-{
-    for place in 0..block.cell_count() {
-        lists.reserve(block.cell_at(place))?;
-    }
-    Ok(())
-}
-
-/// Puts an entry into each cell of a block, which all have room for it. It takes no memory.
-fn put_each(lists: &mut CellLists, block: &Block, entry: &Entry)
+/// Takes an entry out of the first so many cells of a block, which all have it.
+fn take_each(lists: &mut CellLists, block: &Block, cells: u64, entry: &Entry)
     requires block { IsBlock block.now }
-    requires room { HasRoomIn lists.old block.now 0 }
-    ensures { IsPutIn lists.old block.now entry.now (cell_count block.now) lists.new }
-{
-    for place in 0..block.cell_count() {
-        lists.put(block.cell_at(place), *entry);
-    }
-}
-
-/// Takes an entry out of each cell of a block, which all have it.
-fn take_each(lists: &mut CellLists, block: &Block, entry: &Entry)
-    requires block { IsBlock block.now }
-    requires there { (k : ℕ) → k < cell_count block.now
+    requires within { cells ≤ cell_count block.now }
+    requires there { (k : ℕ) → k < cells
         → Contains (entries_at lists.old (cell_at block.now k)) entry.now }
-    ensures { IsTakenOut lists.old block.now entry.now (cell_count block.now) lists.new }
+    ensures { IsTakenOut lists.old block.now entry.now cells lists.new }
 {
-    for turn in 0..block.cell_count() {
+    for turn in 0..cells {
         lists.take(block.cell_at(turn), entry);
     }
+}
+
+/// Puts an entry into each cell of a block. Where memory runs out, the cells that have it by then
+/// lose it again, so each cell has what it had, maybe in another order.
+fn put_each(lists: &mut CellLists, block: &Block, entry: &Entry) -> Result<(), Memory>
+    requires { IsBlock block.now }
+    ensures put { OnOk result
+        (IsPutIn lists.old block.now entry.now (cell_count block.now) lists.new) }
+    ensures err { OnErr result (HasEachAsOften lists.old lists.new) }
+{
+    for place in 0..block.cell_count() {
+        if let Err(memory) = lists.push(block.cell_at(place), *entry) {
+            take_each(lists, block, place, entry);
+            return Err(memory);
+        }
+    }
+    Ok(())
 }
 
 impl Layer {
@@ -96,8 +90,8 @@ impl Layer {
         block_of(self.size, entry.from, entry.to).cell_count() <= most_cells(&self.size)
     }
 
-    /// Puts an entry in that doesn't stand here. It makes room in all cells first, so where memory
-    /// runs out the same entries stand here as before.
+    /// Puts an entry in that doesn't stand here. Where memory runs out the same entries stand here
+    /// as before.
     pub(crate) fn put(&mut self, entry: Entry) -> Result<(), Memory>
         requires spread { IsSpread self.old.size self.old.lists }
         requires sound { IsSoundEntry entry }
@@ -108,9 +102,7 @@ impl Layer {
         ensures err { OnErr result (StandsSame self.old.lists self.new.lists) }
     {
         let block = block_of(self.size, entry.from, entry.to);
-        reserve_each(&mut self.lists, &block)?;
-        put_each(&mut self.lists, &block, &entry);
-        Ok(())
+        put_each(&mut self.lists, &block, &entry)
     }
 
     /// Takes an entry out that stands here. It takes no memory.
@@ -122,6 +114,6 @@ impl Layer {
         ensures taken { StandsOneLess self.old.lists entry.now self.new.lists }
     {
         let block = block_of(self.size, entry.from, entry.to);
-        take_each(&mut self.lists, &block, entry);
+        take_each(&mut self.lists, &block, block.cell_count(), entry);
     }
 }

@@ -1,19 +1,19 @@
 //! Lists of entries under cells.
 ghost use Rattle.std.specs.Prelude.{◌≡◌, ℕ, ◌<◌, ◌^◌, ◌++◌, ◌∷◌, [], length, IsPermutation, OnOk, OnErr};
 ghost use Rattle.std.specs.List.{Contains};
-ghost use Rattle.cell_grid.specs.Held.{entries_at, cell_list, HasRoomInCell, KeepsOtherCells, HasSameEntries, cell_in_turn, list_in_turn};
+ghost use Rattle.cell_grid.specs.Held.{entries_at, KeepsOtherCells, HasSameEntries, cell_in_turn, list_in_turn};
 
 use crate::entry::Entry;
 use crate::held_list::HeldList;
+use cad_rows::Memory;
 use indexmap::IndexMap;
 use number_hash::NumberHash;
-use std::alloc::{AllocError, Global};
+use std::alloc::Global;
 use std::marker::Model;
 
-/// Under each cell a list of entries; a cell that was never given room has the empty one.
+/// Under each cell a list of entries; a cell that no entry was ever put into has the empty one.
 ///
-/// Only `reserve` takes memory, and it changes no entry. A cell keeps its list with its room, also
-/// where no entry is left.
+/// Only `push` takes memory. A cell keeps its list with its room, also where no entry is left.
 #[derive(Drop)]
 pub(crate) struct CellLists {
     lists: IndexMap<u64, HeldList, NumberHash>,
@@ -28,7 +28,7 @@ impl Model for CellLists {
 }
 
 impl CellLists {
-    /// No entries, and no room in any cell.
+    /// No entries, and no cell with a list.
     pub(crate) fn new(alloc: Global, hash: NumberHash) -> CellLists
         ensures { result ≡ [] }
     {
@@ -47,7 +47,7 @@ impl CellLists {
         }
     }
 
-    /// How many cells were given room.
+    /// How many cells have a list.
     pub(crate) fn cell_count(&self) -> usize
         ensures count { result ≡ length self.now }
         ensures small { result < 2 ^ 63 }
@@ -55,7 +55,7 @@ impl CellLists {
         self.lists.len()
     }
 
-    /// The cell at a place, in the order in which cells were given room, and the entries in it.
+    /// The cell at a place, in the order in which cells came to have lists, and the entries in it.
     pub(crate) fn in_turn(&self, place: usize) -> (u64, &[Entry])
         requires { place < length self.now }
         ensures cell { result.0 ≡ cell_in_turn self.now place }
@@ -65,32 +65,22 @@ impl CellLists {
         (*cell, list.entries.as_slice())
     }
 
-    /// Gives a cell room for one entry more. The entries stay as they are, also where memory runs
-    /// out.
-    pub(crate) fn reserve(&mut self, cell: u64) -> Result<(), AllocError>
-        ensures room { OnOk result (HasRoomInCell self.new cell 1) }
-        ensures same { HasSameEntries self.old self.new }
+    /// Puts an entry last into a cell, in one look for it where it has a list. Where memory runs
+    /// out, each cell has the same entries as before.
+    pub(crate) fn push(&mut self, cell: u64, entry: Entry) -> Result<(), Memory>
+        ensures items { OnOk result
+            (entries_at self.new cell ≡ entries_at self.old cell ++ entry ∷ []) }
         ensures others { KeepsOtherCells cell self.old self.new }
+        ensures err { OnErr result (HasSameEntries self.old self.new) }
     {
         if let Some(list) = self.lists.get_mut(&cell) {
-            list.reserve()?;
+            list.put(entry)?;
             return Ok(());
         }
         let mut list = HeldList::new(*self.lists.allocator());
-        list.reserve()?;
+        list.put(entry)?;
         self.lists.insert(cell, list)?;
         Ok(())
-    }
-
-    /// Puts an entry last into a cell that has room for it. It takes no memory.
-    pub(crate) fn put(&mut self, cell: u64, entry: Entry)
-        requires { HasRoomInCell self.old cell 1 }
-        ensures items { entries_at self.new cell ≡ entries_at self.old cell ++ entry ∷ [] }
-        ensures others { KeepsOtherCells cell self.old self.new }
-    {
-        if let Some(list) = self.lists.get_mut(&cell) {
-            list.put_reserved(entry);
-        }
     }
 
     /// Takes an entry out of a cell that has it. It takes no memory.

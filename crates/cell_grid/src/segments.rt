@@ -94,8 +94,7 @@ impl Segments {
         }
     }
 
-    /// Puts an entry in that isn't held. It makes room in all cells first, so where memory runs out
-    /// the same entries are held as before.
+    /// Puts an entry in that isn't held. Where memory runs out the same entries are held as before.
     pub(crate) fn put(&mut self, entry: Entry) -> Result<(), Memory>
         requires spread { AreSpread self.old }
         requires sound { IsSoundEntry entry }

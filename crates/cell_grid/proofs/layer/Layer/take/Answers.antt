@@ -9,8 +9,8 @@ take_each-requires-clause-there c =
     let old = c.args.self.now in
     let is_block : IsBlock (block_at old.size c.args.entry.now) =
     subst IsBlock c.block_of-block.ensures.value c.block_of-block.ensures.block in
-    rw c.block_of-block.ensures.value (stands-each old.size c.args.entry.now is_block old.lists
-    c.requires.spread c.requires.there)
+    rw (c.cell_count.ensures, c.block_of-block.ensures.value) (stands-each old.size c.args.entry.now
+    is_block old.lists c.requires.spread c.requires.there)
 
 pub returns : goal.returns
 returns c =
@@ -18,7 +18,8 @@ returns c =
     let e = c.args.entry.now in
     let is_block : IsBlock (block_at old.size e) =
     subst IsBlock c.block_of-block.ensures.value c.block_of-block.ensures.block in
-    let out = rw c.block_of-block.ensures.value at c.take_each.ensures in
+    let out =
+    rw (c.cell_count.ensures, c.block_of-block.ensures.value) at c.take_each.ensures in
     record {
       size = search rules;
       spread = spread-take old.size e is_block old.lists c.take_each.new.lists c.requires.spread out;
