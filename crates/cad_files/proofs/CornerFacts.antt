@@ -1,13 +1,13 @@
 -- Sides that have a follower of their own.
 use Rattle.std.proofs.Common.{◌≡◌, ◌∙◌, sym, ap, refl, subst, ℕ, zero, suc, ◌+◌, ◌<◌, ◌≤◌, ◌==◌, ◌⊎◌, inl, inr, List, [], ◌∷◌, ◌++◌, append-nil, length, map, reverse, take, drop, get_or, Bool, true, false, not, ◌&&◌, ◌||◌, Option, Some, None, slice_get, add-one, arith}
-use Rattle.std.specs.Prelude.{if◌then◌else◌, IfSome, IfNone}
+use Rattle.std.specs.Prelude.{if◌then◌else◌, flat_map, IfSome, IfNone}
 use Rattle.std.specs.List.{list_any, AllByRecursion}
 use Rattle.std.specs.Str.{bytes_eq as is_same_list}
 use Rattle.std.proofs.lemmas.List.{map-append, reverse-append, take_more, take_all, drop_all}
 use Rattle.std.proofs.lemmas.List.Folds.{list_any-append}
 use Rattle.std.proofs.lemmas.Option.{slice_get_cases, get_or_from_slice_get, slice_get_within}
-use Rattle.cad_rings.specs.Cycle.{Side, is_side, has_side}
-use Rattle.cad_map.specs.Map.{Map}
+use Rattle.cad_rings.specs.Cycle.{Side, opposite, is_side, has_side}
+use Rattle.cad_map.specs.Map.{Map, side_of, string_sides}
 use Rattle.cad_map.proofs.CallerLemmas.{drop-at, All-at_each, Contains-at}
 use Rattle.cad_files.specs.Follower.{followers, LabelledSide, labelled_sides}
 use Rattle.cad_files.specs.Building.{is_bad_corner, first_bad_corner, bad_corner}
@@ -166,6 +166,10 @@ module _ (m : Map) (strings : List PlanString) (passed : List PlanSide) (all : A
   unfolding bad_corner
   no-corner same none = parted [] (append-nil (map labelled passed) ∙ same) ∙ bad-none_met m passed all [] none
 
+sides-rows : (strings : List PlanString) → flat_map (λ t. side_of t ∷ opposite (side_of t) ∷ []) (map (λ s. s.row) strings) ≡ map (λ l. l.side) (labelled_sides strings)
+sides-rows [] = refl
+sides-rows (s ∷ strings) = ap (λ (l : List Side). side_of s.row ∷ opposite (side_of s.row) ∷ l) (sides-rows strings)
+
 -- ---- Links
 
 module _ (strings : List PlanString) (passed : List PlanSide) (same : map labelled passed ≡ labelled_sides strings) where
@@ -178,3 +182,7 @@ module _ (strings : List PlanString) (passed : List PlanSide) (same : map labell
   pub are-linked : AreLinkedIn strings passed → AreLinked passed
   are-linked linked =
       subst (λ (l : List Side). AllByRecursion (λ s. slice_get l s.next ≡ Some (s.to, s.after)) passed) same-sides linked
+
+  -- they are the sides of a map with these strings
+  pub sides-of_map : (m : Map) → m.strings ≡ map (λ s. s.row) strings → string_sides m ≡ map plan_side_of passed
+  sides-of_map m rows = ap (flat_map (λ t. side_of t ∷ opposite (side_of t) ∷ [])) rows ∙ sides-rows strings ∙ same-sides

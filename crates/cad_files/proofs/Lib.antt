@@ -40,5 +40,6 @@ pub mod NoCornerMet
 pub mod NextSides
 pub mod PoolFacts
 pub mod RepeatFacts
+pub mod AloneFacts
 pub mod CallerLemmas
 pub mod TurnFacts

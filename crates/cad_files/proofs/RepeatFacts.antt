@@ -1,18 +1,19 @@
 -- Sides that stand twice, or have a follower twice, by their keys.
-use Rattle.std.proofs.Common.{◌≡◌, ◌≢◌, ℕ, ◌^◌, ◌+◌, ◌<◌, ◌≤◌, ◌⊎◌, inl, inr, refl, sym, ap, subst, ◌∙◌, List, length, map, take, min, Bool, true, false, true≢false, ◌==◌, Option, Some, None, is_some, option_map, slice_get, get_or, set, arith}
+use Rattle.std.proofs.Common.{◌≡◌, ◌≢◌, ℕ, ◌^◌, ◌+◌, ◌<◌, ◌≤◌, ◌⊎◌, inl, inr, refl, sym, ap, subst, ◌∙◌, List, [], ◌∷◌, length, map, take, min, Bool, true, false, ◌==◌, Option, Some, None, is_some, option_map, slice_get, get_or, set, arith}
 use Rattle.std.specs.Prelude.{◌&&◌, ◌||◌, IfSome, IfNone, slice_index}
-use Rattle.std.proofs.lemmas.Bool.{cases_lt, eqb-true, eq-eqb}
+use Rattle.std.proofs.lemmas.Bool.{and_from, and_parts, cases_lt, eqb-true, eq-eqb, or_right}
 use Rattle.std.proofs.lemmas.List.{get_or-take, get_or_default, length-take, length-map}
-use Rattle.std.proofs.lemmas.Option.{slice_get-map, slice_get-get_or, slice_get_cases, get_or_from_slice_get}
+use Rattle.std.proofs.lemmas.Option.{slice_get-map, slice_get-get_or, slice_get_cases, slice_get_within, get_or_from_slice_get}
 use Rattle.std.specs.List.{AllByRecursion, Contains}
 use Rattle.cad_rings.specs.Cycle.{Side, is_side}
 use Rattle.cad_rings.proofs.CallerLemmas.{is_side-same}
-use Rattle.cad_map.proofs.CallerLemmas.{All-follows, All-at_each, All-from_each, Contains-at, list_any-Contains, list_any-none, is_side-refl}
+use Rattle.cad_map.specs.Valid.{EachPair}
+use Rattle.cad_map.proofs.CallerLemmas.{AllPairs-from_EachPair, All-follows, All-at_each, Contains-at, list_any-Contains, list_any-none, is_side-refl}
 use Rattle.sweep.specs.Repeats.{AreDistinct, IsFirstRepeat}
-use Rattle.cad_files.specs.Cycles.{plan_side_of, AreLinked}
+use Rattle.cad_files.specs.Cycles.{plan_side_of, followed_side, side_behind, AreLinked}
 use Rattle.cad_files.specs.Corners.{NoneMet, IsFirstMet, key_of, lesser_of}
 use Rattle.cad_files.specs.declared.sides.PlanSide.{PlanSide}
-use Rattle.cad_files.proofs.NextSides.{next-side, next-within}
+use Rattle.cad_files.proofs.NextSides.{next-side}
 use Rattle.cad_files.proofs.PoolFacts.{stays-set, now-set}
 
 -- ---- Keys
@@ -62,6 +63,14 @@ in_front xs i k x before past at =
     let e = length-take k xs in
     (i, omega (arith, e, before, past), get_or-take k xs i x before ∙ get_or_from_slice_get xs i x x at)
 
+stood : {X : Type 0} (xs : List X) (k : ℕ) (x : X) → Contains (take k xs) x → (i : ℕ) × (i < k) × (slice_get xs i ≡ Some x)
+stood xs k x among =
+    let place : ℕ = among.0 in
+    let inside = among.1 in
+    let e = length-take k xs in
+    let before : place < k = omega (arith, inside, e) in
+    (place, before, slice_get-get_or xs place x (omega (arith, inside, e)) ∙ ap (λ (y : _). Some y) (sym (get_or-take k xs place x before) ∙ among.2))
+
 -- what is told where there is none, if there is none
 pub none-told : {X : Type 0} (o : Option X) (P : Type 0) → is_some o ≡ false → IfNone o P → P
 none-told None P none told = told
@@ -107,8 +116,11 @@ found sides i below = by (slice_get_cases sides i).1
     by (inl h) = (h.0, h.2)
     by (inr h) = let past = h.0 in absurd (omega (arith, past, below))
 
+pub value-at : {Y : Type 0} (f : PlanSide → Y) (sides : List PlanSide) (i : ℕ) (s : PlanSide) (d : Y) → slice_get sides i ≡ Some s → get_or (map f sides) i d ≡ f s
+value-at f sides i s d at = get_or_from_slice_get (map f sides) i (f s) d (slice_get-map f sides i ∙ ap (option_map f) at)
+
 pub next-at : (sides : List PlanSide) (i : ℕ) (s : PlanSide) → slice_get sides i ≡ Some s → get_or (map (λ s. s.next) sides) i 0 ≡ s.next
-next-at sides i s at = get_or_from_slice_get (map (λ s. s.next) sides) i s.next 0 (slice_get-map (λ s. s.next) sides i ∙ ap (option_map (λ s. s.next)) at)
+next-at sides i s at = value-at (λ s. s.next) sides i s 0 at
 
 -- ---- Keys of sides
 
@@ -117,7 +129,7 @@ module _ (key : PlanSide → Side) (sides : List PlanSide) (small : AllByRecursi
   keys = map (λ s. key_of (key s)) sides
 
   key-at : (i : ℕ) (s : PlanSide) → slice_get sides i ≡ Some s → get_or keys i 0 ≡ key_of (key s)
-  key-at i s at = get_or_from_slice_get keys i (key_of (key s)) 0 (slice_get-map (λ s. key_of (key s)) sides i ∙ ap (option_map (λ s. key_of (key s))) at)
+  key-at i s at = value-at (λ s. key_of (key s)) sides i s 0 at
 
   -- two sides with one key have the same points
   same-key : (i j : ℕ) (s t : PlanSide) → slice_get sides i ≡ Some s → slice_get sides j ≡ Some t → get_or keys i 0 ≡ get_or keys j 0 → key s ≡ key t
@@ -152,32 +164,18 @@ module _ (key : PlanSide → Side) (sides : List PlanSide) (small : AllByRecursi
   -- a side before k has another key than the one at k
   other-key : (n k : ℕ) (s t : PlanSide) → Differ keys n → k < n → slice_get sides k ≡ Some t → Contains (take k sides) s → key s ≢ key t
   other-key n k s t apart below at among same =
-      let place : ℕ = among.0 in
-      let inside = among.1 in
-      let e = length-take k sides in
-      let before : place < k = omega (arith, inside, e) in
-      let is : slice_get sides place ≡ Some s =
-      slice_get-get_or sides place s (omega (arith, inside, e)) ∙ ap (λ (u : PlanSide). Some u) (sym (get_or-take k sides place s before) ∙ among.2) in
-      apart place k before below (key-at place s is ∙ ap key_of same ∙ sym (key-at k t at))
-
-or-last : (a b : Bool) → b ≡ true → (a || b) ≡ true
-or-last true b h = refl
-or-last false b h = h
+      let place = stood sides k s among in
+      apart place.0 k place.1 below (key-at place.0 s place.2 ∙ ap key_of same ∙ sym (key-at k t at))
 
 or-none : (a b : Bool) → (a ≡ true → ⊥) → (b ≡ true → ⊥) → (a || b) ≡ false
 or-none true b first second = absurd (first refl)
 or-none false true first second = absurd (second refl)
 or-none false false first second = refl
 
-and-both : (a b : Bool) → a ≡ true → b ≡ true → (a && b) ≡ true
-and-both true b h k = k
-and-both false b h k = h
-
-and-parts : (a b : Bool) → (a && b) ≡ true → (a ≡ true) × (b ≡ true)
-and-parts true b h = (refl, h)
-and-parts false b h = absurd (true≢false (sym h))
-
 -- ---- Sides that are met
+
+abbrev meets : PlanSide → PlanSide → Bool
+meets s f = is_side (plan_side_of s) (plan_side_of f) || ((f.to == s.to) && (f.after == s.after))
 
 module _ (sides : List PlanSide) (small : AllByRecursion (λ s. (s.from < 2 ^ 32) × (s.to < 2 ^ 32)) sides) (near : AllByRecursion (λ s. (s.to < 2 ^ 32) × (s.after < 2 ^ 32)) sides) where
   abbrev as_side : List ℕ
@@ -191,9 +189,6 @@ module _ (sides : List PlanSide) (small : AllByRecursion (λ s. (s.from < 2 ^ 32
 
   small_afters : AllByRecursion (λ s. s.after < 2 ^ 32) sides
   small_afters = All-follows (λ s. (s.to < 2 ^ 32) × (s.after < 2 ^ 32)) (λ s. s.after < 2 ^ 32) (λ s both. both.1) sides near
-
-  abbrev meets : PlanSide → PlanSide → Bool
-  meets s f = is_side (plan_side_of s) (plan_side_of f) || ((f.to == s.to) && (f.after == s.after))
 
   -- a side that meets an earlier one, where none before it does, is the first that does
   first-met : (k : ℕ) (first second : PlanSide) → Contains (take k sides) first → slice_get sides k ≡ Some second → meets second first ≡ true → NoneMet sides k → IsFirstMet sides k
@@ -210,14 +205,14 @@ module _ (sides : List PlanSide) (small : AllByRecursion (λ s. (s.from < 2 ^ 32
   met-by_follower k r =
       let t = twin-from (λ s. (s.to, s.after)) sides small_afters k r in
       first-met k t.first t.second t.among t.there
-      (or-last (is_side (plan_side_of t.second) (plan_side_of t.first)) _
-      (and-both (t.first.to == t.second.to) (t.first.after == t.second.after) (eq-eqb t.first.to t.second.to (ap (λ (v : Side). v.0) t.same)) (eq-eqb t.first.after t.second.after (ap (λ (v : Side). v.1) t.same))))
+      (or_right (is_side (plan_side_of t.second) (plan_side_of t.first)) _
+      (and_from (t.first.to == t.second.to) (t.first.after == t.second.after) (eq-eqb t.first.to t.second.to (ap (λ (v : Side). v.0) t.same)) (eq-eqb t.first.after t.second.after (ap (λ (v : Side). v.1) t.same))))
 
   none-met : (n : ℕ) → Differ as_side n → Differ by_follower n → NoneMet sides n
   none-met n apart others k s below at = list_any-none (meets s) (take k sides) (λ f among.
       or-none (is_side (plan_side_of s) (plan_side_of f)) ((f.to == s.to) && (f.after == s.after))
       (λ is. other-key (λ s. (s.from, s.to)) sides small_ends n k f s apart below at among (sym (is_side-same (plan_side_of s) (plan_side_of f) is)))
-      (λ is. let parts = and-parts (f.to == s.to) (f.after == s.after) is in
+      (λ is. let parts = and_parts (f.to == s.to) (f.after == s.after) is in
       other-key (λ s. (s.to, s.after)) sides small_afters n k f s others below at among (λ i. (eqb-true f.to s.to parts.0 i, eqb-true f.after s.after parts.1 i))))
 
   fewer : (keys : List ℕ) (n k : ℕ) → k ≤ n → Differ keys n → Differ keys k
@@ -262,55 +257,49 @@ module _ (sides : List PlanSide) (small : AllByRecursion (λ s. (s.from < 2 ^ 32
   none-lesser (Some p) None none nobody = tt
   none-lesser (Some p) (Some q) none nobody = tt
 
-  -- ---- Sides that go on to another each
+-- ---- Sides that go on to another each
 
-  abbrev nexts : List ℕ
-  nexts = map (λ s. s.next) sides
+-- where no two have one key, no two are equal
+pub keys-apart : {X Y : Type 0} (f : X → Y) (key : Y → ℕ) (xs : List X) → EachPair (λ a b. a ≢ b) (map (λ x. key (f x)) xs) → EachPair (λ a b. a ≢ b) (map f xs)
+keys-apart f key [] apart = tt
+keys-apart f key (x ∷ xs) apart = (others xs apart.0, keys-apart f key xs apart.1)
+  where
+    others : (ys : List _) → AllByRecursion (λ b. key (f x) ≢ b) (map (λ x. key (f x)) ys) → AllByRecursion (λ b. f x ≢ b) (map f ys)
+    others [] all = tt
+    others (y ∷ ys) all = ((λ e. all.0 (ap key e)), others ys all.1)
 
-  module _ (linked : AreLinked sides) where
-    -- the side at the place that a side tells has the key of its end and its follower
-    key-behind : (i : ℕ) (s : PlanSide) → slice_get sides i ≡ Some s → get_or as_side s.next 0 ≡ key_of (s.to, s.after)
-    key-behind i s at =
-        let n = next-side sides linked s (Contains-at sides i s at) in
-        key-at (λ s. (s.from, s.to)) sides small_ends s.next n.next n.at ∙ ap key_of n.behind
+module _ (sides : List PlanSide) (once : EachPair (λ a b. a ≢ b) (map plan_side_of sides)) where
+  earlier : (i j : ℕ) (s t : PlanSide) → i < j → slice_get sides i ≡ Some s → slice_get sides j ≡ Some t → plan_side_of s ≢ plan_side_of t
+  earlier i j s t below at to same =
+      let within = slice_get_within sides j t to in
+      let count = length-map sides plan_side_of in
+      AllPairs-from_EachPair (λ a b. a ≢ b) (map plan_side_of sides) once i j (plan_side_of s) below (omega (arith, within, count))
+      (value-at plan_side_of sides i s (plan_side_of s) at ∙ same ∙ sym (value-at plan_side_of sides j t (plan_side_of s) to))
 
-    within : (i : ℕ) (s : PlanSide) → slice_get sides i ≡ Some s → s.next < length sides
-    within i s at = next-within sides linked s (Contains-at sides i s at)
+  -- two places with equal sides are one
+  one-place : (i j : ℕ) (s t : PlanSide) → slice_get sides i ≡ Some s → slice_get sides j ≡ Some t → plan_side_of s ≡ plan_side_of t → i ≡ j
+  one-place i j s t at to same = elim (cases_lt i j) [
+    | inl less ↦ absurd (earlier i j s t less at to same)
+    | inr most ↦ elim (cases_lt j i) [
+      | inl less ↦ absurd (earlier j i t s less to at (sym same))
+      | inr few ↦ omega arith
+    ]
+  ]
 
-    differ-followers : Differ as_side (length sides) → Differ nexts (length sides) → Differ by_follower (length sides)
-    differ-followers apart others i j below last same =
-        let first = found sides i (omega (arith, below, last)) in
-        let second = found sides j last in
-        let s = first.0 in
-        let t = second.0 in
-        let alike = same-key (λ s. (s.to, s.after)) sides small_afters i j s t first.1 second.1 same in
-        let met = key-behind i s first.1 ∙ ap key_of alike ∙ sym (key-behind j t second.1) in
-        by s t first.1 second.1 met (cases_lt s.next t.next)
-      where
-        by : (s t : PlanSide) → slice_get sides i ≡ Some s → slice_get sides j ≡ Some t → get_or as_side s.next 0 ≡ get_or as_side t.next 0 → (s.next < t.next) ⊎ (t.next ≤ s.next) → ⊥
-        by s t at to met (inl less) = apart s.next t.next less (within j t to) met
-        by s t at to met (inr few) = by_two (cases_lt t.next s.next)
-          where
-            by_two : (t.next < s.next) ⊎ (s.next ≤ t.next) → ⊥
-            by_two (inl less) = apart t.next s.next less (within i s at) (sym met)
-            by_two (inr most) =
-                let one : s.next ≡ t.next = omega (arith, few, most) in
-                others i j below last (next-at sides i s at ∙ one ∙ sym (next-at sides j t to))
-
-    -- of linked sides of which no two have the same ends, none is met where each goes on to another
-    none-met-once : AreDistinct as_side → AreDistinct nexts → NoneMet sides (length sides)
-    none-met-once apart others =
-        let first = all-differ as_side (length sides) (sym (length-map sides (λ s. key_of (s.from, s.to)))) apart in
-        none-met (length sides) first (differ-followers first (all-differ nexts (length sides) (sym (length-map sides (λ s. s.next))) others))
-
--- where each side's end is small, so is the end of the one after it
-followers-small : (sides : List PlanSide) → AllByRecursion (λ s. (s.from < 2 ^ 32) × (s.to < 2 ^ 32)) sides → AreLinked sides → AllByRecursion (λ s. (s.to < 2 ^ 32) × (s.after < 2 ^ 32)) sides
-followers-small sides small linked = All-from_each (λ s. (s.to < 2 ^ 32) × (s.after < 2 ^ 32)) sides (λ s among.
-    let n = next-side sides linked s among in
-    let ends = All-at_each (λ s. (s.from < 2 ^ 32) × (s.to < 2 ^ 32)) sides n.next small (Contains-at sides s.next n.next n.at) in
-    let from : n.next.from ≡ s.to = ap (λ (v : Side). v.0) n.behind in
-    let to : n.next.to ≡ s.after = ap (λ (v : Side). v.1) n.behind in
-    (subst (λ (p : ℕ). p < 2 ^ 32) from ends.0, subst (λ (p : ℕ). p < 2 ^ 32) to ends.1))
-
-pub none-met-linked : (sides : List PlanSide) → AllByRecursion (λ s. (s.from < 2 ^ 32) × (s.to < 2 ^ 32)) sides → AreLinked sides → AreDistinct (map (λ s. key_of (s.from, s.to)) sides) → AreDistinct (map (λ s. s.next) sides) → NoneMet sides (length sides)
-none-met-linked sides small linked = none-met-once sides small (followers-small sides small linked) linked
+  -- none is met where they are linked, and no two go on to the same one
+  pub none-met_once : AreLinked sides → AreDistinct (map (λ s. s.next) sides) → NoneMet sides (length sides)
+  none-met_once linked others k s below at = list_any-none (meets s) (take k sides) (λ f among.
+      let earlier_place = stood sides k f among in
+      let place : ℕ = earlier_place.0 in
+      let before : place < k = earlier_place.1 in
+      let is : slice_get sides place ≡ Some f = earlier_place.2 in
+      or-none (is_side (plan_side_of s) (plan_side_of f)) ((f.to == s.to) && (f.after == s.after))
+      (λ same. let one = one-place place k f s is at (sym (is_side-same (plan_side_of s) (plan_side_of f) same)) in omega arith)
+      (λ met.
+      let parts = and_parts (f.to == s.to) (f.after == s.after) met in
+      let on = next-side sides linked f (Contains-at sides place f is) in
+      let too = next-side sides linked s (Contains-at sides k s at) in
+      let behind : side_behind (followed_side f) ≡ side_behind (followed_side s) = λ i. (eqb-true f.to s.to parts.0 i, eqb-true f.after s.after parts.1 i) in
+      let one = one-place f.next s.next on.next too.next on.at too.at (on.behind ∙ behind ∙ sym too.behind) in
+      let count = length-map sides (λ s. s.next) in
+      others place k 0 before (omega (arith, below, count)) (value-at (λ s. s.next) sides place f 0 is ∙ one ∙ sym (value-at (λ s. s.next) sides k s 0 at))))

@@ -1,10 +1,10 @@
 -- Of spokes that a turn about their point meets one after another the one before a side's own leads to its follower.
-use Rattle.std.proofs.Common.{◌≡◌, inl, inr, ◌∙◌, sym, ap, subst, refl, ℕ, ◌<◌, ◌≤◌, ◌==◌, List, [], ◌∷◌, ◌++◌, Option, length, get_or, Bool, true, false, not, arith}
-use Rattle.std.specs.Prelude.{◌||◌, option_map, unwrap_or}
-use Rattle.std.specs.Global.{Vec}
-use Rattle.std.specs.List.{AllByRecursion, Contains}
+use Rattle.std.proofs.Common.{◌≡◌, inl, inr, ◌∙◌, sym, ap, subst, refl, ℕ, ◌<◌, ◌≤◌, ◌==◌, List, Option, Some, length, get_or, Bool, true, false, cond, nat_eq, not, arith}
+use Rattle.std.specs.Prelude.{◌||◌, IfSome}
+use Rattle.std.specs.List.{Contains}
 use Rattle.std.specs.List.Sorted.{IsPermutation}
-use Rattle.std.proofs.lemmas.Bool.{cases_eq, cases_lt, eq-eqb, ne_eqb}
+use Rattle.std.specs.Map.{lookup}
+use Rattle.std.proofs.lemmas.Bool.{cases_lt, eq-eqb, ne_eqb}
 use Rattle.std.proofs.lemmas.List.{get_or_default}
 use Rattle.std.proofs.lemmas.List.Sorted.{Contains-permutation, IsPermutation-sym}
 use Rattle.geo_exact.specs.Position.{Position}
@@ -14,10 +14,9 @@ use Rattle.cad_map.specs.Map.{Map, position_of}
 use Rattle.cad_map.specs.Stars.{star, spokes_of}
 use Rattle.cad_map.specs.Turn.{AreMetInTurn}
 use Rattle.cad_map.specs.declared.stars.Spoke.{Spoke}
-use Rattle.cad_map.proofs.CallerLemmas.{All-at_each, list_all-from, All-push}
+use Rattle.cad_map.proofs.CallerLemmas.{All-at_each, list_all-from}
 use Rattle.cad_valid.proofs.TurnNeighbours.{Beside, IsPlaceBefore, ends-apart, beside}
 use Rattle.cad_valid.proofs.TurnNeighbours.Beside.{before_it, itself, elsewhere}
-use Rattle.key_lists.specs.Held.{Held, items_at, KeepsOthers}
 use Rattle.cad_files.specs.declared.followers.Arrival.{Arrival}
 use Rattle.cad_files.specs.Arrival.{leaves_open, is_barred, may_follow_there, IsPlacedSpoke, IsOnly}
 use Rattle.cad_files.specs.Turns.{IsSoleSpoke, place_before}
@@ -89,10 +88,11 @@ module _ (m : Map) (p : ℕ) (order : List Spoke) (moved : IsPermutation (star p
       subst (λ (q : Position). IsOnly (record { from = u.far; back = q; at = v }) ends ends w) (placed u u_there)
       (sole (along v w u w) ends w w_there follows barred)
 
--- what holds of each item under every key, and of one that is put under a key
-pub pushed-each : {X : Type 0} (P : X → Type 0) (key : ℕ) (item : X) (old new : Held X) → items_at new key ≡ items_at old key ++ item ∷ [] → KeepsOthers key old new
-    → ((k : ℕ) → AllByRecursion P (items_at old k)) → P item → (k : ℕ) → AllByRecursion P (items_at new k)
-pushed-each {X} P key item old new put others each holds k = elim (cases_eq key k) [
-  | inl same ↦ subst (λ (n : ℕ). AllByRecursion P (items_at new n)) same (rw put (All-push P (items_at old key) item (each key) holds))
-  | inr away ↦ subst (λ (o : Option (Vec X)). AllByRecursion P (unwrap_or (option_map (λ list. list.items) o) [])) (sym (others k away)) (each k)
-]
+-- what holds of each item that is found, and of one that is put under a key
+pub inserted-each : {X : Type 0} (P : X → Type 0) (key : ℕ) (item : X) (old new : List (ℕ × X)) → ((q : ℕ) → lookup (nat_eq q) new ≡ cond (nat_eq key q) (Some item) (lookup (nat_eq q) old))
+    → ((k : ℕ) → IfSome (lookup (nat_eq k) old) P) → P item → (k : ℕ) → IfSome (lookup (nat_eq k) new) P
+inserted-each {X} P key item old new put each holds k = subst (λ (o : Option X). IfSome o P) (sym (put k)) (by (nat_eq key k))
+  where
+    by : (b : Bool) → IfSome (cond b (Some item) (lookup (nat_eq k) old)) P
+    by true = holds
+    by false = each k

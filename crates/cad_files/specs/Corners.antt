@@ -1,9 +1,10 @@
 -- The sides of a plan's strings, as they are found one after another.
-use Rattle.std.specs.Prelude.{◌≡◌, ◌<◌, ◌+◌, ◌*◌, ◌^◌, ◌⊎◌, ℕ, Bool, true, false, ◌&&◌, ◌||◌, ◌==◌, List, [], ◌∷◌, ◌++◌, length, map, reverse, take, slice_get, min, Option, Some, None}
+use Rattle.std.specs.Prelude.{◌≡◌, ◌≢◌, ◌<◌, ◌≤◌, ◌+◌, ◌*◌, ◌^◌, ◌⊎◌, ℕ, Bool, true, false, ◌&&◌, ◌||◌, ◌==◌, List, [], ◌∷◌, ◌++◌, length, map, reverse, take, slice_get, min, count_by, Option, Some, None}
 use Rattle.std.specs.List.{list_any, AllByRecursion}
+use Rattle.cad_rows.specs.declared.rows.StringRow.{StringRow}
 use Rattle.cad_rings.specs.Cycle.{Side, is_side}
 use Rattle.cad_map.specs.Boundaries.{is_face}
-use Rattle.cad_map.specs.Map.{Map}
+use Rattle.cad_map.specs.Map.{Map, is_end, far_end}
 use Rattle.cad_files.specs.Follower.{LabelledSide, followers, labelled_sides}
 use Rattle.cad_files.specs.Cycles.{plan_side_of}
 use Rattle.cad_map.specs.declared.stars.Spoke.{Spoke}
@@ -76,6 +77,18 @@ abbrev pub lesser_of : Option ℕ → Option ℕ → Option ℕ
 lesser_of None b = b
 lesser_of (Some p) None = Some p
 lesser_of (Some p) (Some q) = Some (min p q)
+
+-- ---- Strings between the same points
+
+-- the string leads from one of these points to the other, whichever of them it has first
+abbrev pub leads : ℕ → ℕ → StringRow → Bool
+leads p q t = is_end t p && (far_end t p == q)
+
+-- its ends are two points, and at most one of these strings leads from one to the other
+pub record LeadsAlone (strings : List StringRow) (s : StringRow) : Type 0 where
+  pub two : s.from ≢ s.to
+  pub alone : (count_by (leads s.from s.to) strings ≤ 1)
+      ⊎ (count_by (leads s.to s.from) strings ≤ 1)
 
 -- ---- Faces
 

@@ -1,10 +1,9 @@
 -- What follows the sides at a point, told by the order of its spokes.
-use Rattle.std.specs.Prelude.{ℕ, ◌-◌, ◌==◌, if◌then◌else◌}
-use Rattle.std.specs.List.{AllByRecursion}
+use Rattle.std.specs.Prelude.{ℕ, ◌-◌, ◌==◌, if◌then◌else◌, List, IfSome, nat_eq}
+use Rattle.std.specs.Map.{lookup}
 use Rattle.cad_map.specs.Map.{Map}
 use Rattle.cad_map.specs.Stars.{star, spokes_of}
 use Rattle.cad_map.specs.declared.stars.Spoke.{Spoke}
-use Rattle.key_lists.specs.Held.{Held, items_at}
 use Rattle.cad_files.specs.Arrival.{IsOnly, arrival_of}
 use Rattle.cad_files.specs.declared.turns.Turn.{Turn}
 
@@ -17,9 +16,9 @@ IsSoleSpoke m from to w =
 abbrev pub IsTurnOf : Map → Turn → Type 0
 IsTurnOf m t = IsSoleSpoke m t.from t.to t.next
 
--- each of these, under whatever key, is so
-abbrev pub AreTurnsOf : Map → Held Turn → Type 0
-AreTurnsOf m turns = (key : ℕ) → AllByRecursion (IsTurnOf m) (items_at turns key)
+-- each that is found, under whatever key, is so
+abbrev pub AreTurnsOf : Map → List (ℕ × Turn) → Type 0
+AreTurnsOf m entries = (key : ℕ) → IfSome (lookup (nat_eq key) entries) (IsTurnOf m)
 
 -- the place before one of so many in a circle
 abbrev pub place_before : ℕ → ℕ → ℕ

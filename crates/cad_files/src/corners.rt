@@ -11,13 +11,12 @@ ghost use Rattle.cad_files.specs.declared.faults.PlanFault.TheVariants as faults
 
 use crate::faults::PlanFault;
 use crate::followers::follower;
-use crate::repeats::{are_met_once, first_met};
+use crate::repeats::{are_met_once, first_met, lead_alone};
 use crate::rows::PlanString;
 use crate::sides::PlanSide;
-use crate::turns::{Turn, turns_of};
+use crate::turns::{Turns, turns_of};
 use cad_map::{PlainMap, Spoke, Stars};
 use cad_rows::{Face, Memory, PointNo, StringNo};
-use key_lists::KeyLists;
 use std::alloc::Global;
 
 // The place of the side along a spoke away from its point.
@@ -64,12 +63,12 @@ fn plan_side(
 fn follow_each(
     plain: &PlainMap,
     stars: &Stars,
-    turns: &KeyLists<Turn>,
+    turns: &Turns,
     strings: &[PlanString],
     passed: &mut Vec<PlanSide>,
 ) -> Result<Option<PointNo>, Memory>
     requires stars { AreStarsOf plain.now stars.now }
-    requires turns { AreTurnsOf plain.now turns.now }
+    requires turns { AreTurnsOf plain.now turns.now.entries }
     requires rows { plain.now.strings ≡ map (λ s. s.row) strings.now }
     requires none { passed.old.items ≡ [] }
     ensures each { OnOk result (AllByRecursion (HasFollower plain.now) passed.new.items) }
@@ -98,6 +97,13 @@ fn follow_each(
     Ok(None)
 }
 
+// No sides yet, and room for both of each of these strings.
+fn room_for_sides(alloc: Global, strings: &[PlanString]) -> Result<Vec<PlanSide>, Memory>
+    ensures { IfOk result (λ sides. sides.items ≡ []) }
+{
+    Ok(Vec::with_capacity(alloc, strings.len().saturating_mul(2))?)
+}
+
 /// Both sides of each of these strings, each with the one that follows it, up to one that stands among earlier ones,
 /// hasn't just one follower, or has that of an earlier side to the same point.
 ///
@@ -118,9 +124,10 @@ pub(crate) fn follow_sides(
         → option_map (λ n. faults.Corner n) (bad_corner plain.now strings.now) ≡ Some fault) }
 {
     let turns = turns_of(alloc, plain, stars)?;
-    let mut passed = Vec::new(alloc);
+    let mut passed = room_for_sides(alloc, strings)?;
     let stop = follow_each(plain, stars, &turns, strings, &mut passed)?;
-    if stop.is_none() && are_met_once(alloc, passed.as_slice())? {
+    drop(turns);
+    if stop.is_none() && are_met_once(alloc, passed.as_slice(), lead_alone(stars, strings))? {
         return Ok(passed);
     }
     if let Some(place) = first_met(alloc, passed.as_slice())? {

@@ -1,17 +1,17 @@
 //! The point that follows a side of a plan.
-ghost use Rattle.std.specs.Prelude.{◌⊎◌, ◌≡◌, ◌∷◌, [], ◌==◌, false, length, IfSome, IfNone, Some};
+ghost use Rattle.std.specs.Prelude.{◌⊎◌, ◌≡◌, ◌∷◌, [], ◌==◌, false, not, length, IfSome, IfNone, Some};
 ghost use Rattle.std.specs.List.{AllByRecursion, list_all, Contains};
+ghost use Rattle.geo_exact.specs.Sector.{in_sector};
 ghost use Rattle.cad_map.specs.Map.{position_of};
 ghost use Rattle.cad_map.specs.Stars.{star, spokes_of};
 ghost use Rattle.cad_files.specs.Follower.{followers};
 ghost use Rattle.cad_files.specs.Arrival.{AreStarsOf, leaves_open as leaves_open_in, may_follow_there as may_follow_among, is_barred as is_barred_in, is_other as is_other_than, IsOnly, HasNone, HasTwo, IsPlacedSpoke};
 ghost use Rattle.cad_files.specs.Turns.{AreTurnsOf};
 
-use crate::turns::{MANY_STRINGS, Turn, turn_after};
+use crate::turns::{MANY_STRINGS, Turns, turn_after};
 use cad_map::{PlainMap, Spoke, Stars, position};
 use cad_rows::PointNo;
 use geo_exact::{Pt, in_sector};
-use key_lists::KeyLists;
 
 // A side at its end: the point that it comes from, the position of that, and the position of its end.
 #[derive(Drop)]
@@ -23,11 +23,19 @@ struct Arrival {
 
 // ---- One spoke after another
 
+// Whether an end isn't in the sector from `to` to where the side comes from. A border of the sector isn't in it.
+fn is_outside(side: &Arrival, to: &Spoke, end: &Spoke) -> bool
+    ensures { result
+        ≡ not (in_sector side.now.at to.now.position side.now.back end.now.position) }
+{
+    end.position == side.back || !in_sector(side.at, to.position, side.back, end.position)
+}
+
 // Whether an end leads where `to` does, or isn't in the sector from `to` to where the side comes from.
 fn leaves_open(side: &Arrival, to: &Spoke, end: &Spoke) -> bool
     ensures { result ≡ leaves_open_in side.now to.now end.now }
 {
-    end.far.get() == to.far.get() || !in_sector(side.at, to.position, side.back, end.position)
+    end.far.get() == to.far.get() || is_outside(side, to, end)
 }
 
 // Whether none of these spokes is in the sector from `to` to where the side comes from.
@@ -157,12 +165,12 @@ fn searched_follower(ends: &[Spoke], side: &Arrival) -> Option<Spoke>
 pub(crate) fn follower(
     plain: &PlainMap,
     stars: &Stars,
-    turns: &KeyLists<Turn>,
+    turns: &Turns,
     from: PointNo,
     to: PointNo,
 ) -> Option<Spoke>
     requires stars { AreStarsOf plain.now stars.now }
-    requires turns { AreTurnsOf plain.now turns.now }
+    requires turns { AreTurnsOf plain.now turns.now.entries }
     ensures among { IfSome result (λ w. Contains (star to (spokes_of plain.now)) w) }
     ensures some { IfSome result (λ w. followers plain.now (from, to) ≡ w.far ∷ []) }
     ensures none { IfNone result ((length (followers plain.now (from, to)) == 1) ≡ false) }

@@ -1,12 +1,18 @@
 //! Sides that stand twice, and followers that do.
-ghost use Rattle.std.specs.Prelude.{◌≡◌, ◌<◌, ◌^◌, length, map, IfOk, IfSome, IfNone};
+ghost use Rattle.std.specs.Prelude.{◌≡◌, ◌≢◌, ◌<◌, ◌≤◌, ◌==◌, ◌^◌, length, map, count_by, IfOk, IfSome, IfNone};
 ghost use Rattle.std.specs.Bool.{OnTrue};
 ghost use Rattle.std.specs.List.{AllByRecursion};
 ghost use Rattle.sweep.specs.Repeats.{AreDistinct};
-ghost use Rattle.cad_files.specs.Corners.{IsFirstMet, NoneMet, key_of, two_points_of, lesser_of};
-ghost use Rattle.cad_files.specs.Cycles.{AreLinked};
+ghost use Rattle.cad_map.specs.Map.{Map, string_sides};
+ghost use Rattle.cad_map.specs.Valid.{EachPair};
+ghost use Rattle.cad_files.specs.Arrival.{AreStarsOf};
+ghost use Rattle.cad_files.specs.Corners.{IsFirstMet, NoneMet, LeadsAlone, leads, key_of, two_points_of, lesser_of};
+ghost use Rattle.cad_files.specs.Cycles.{AreLinked, plan_side_of};
 
+use crate::rows::PlanString;
 use crate::sides::PlanSide;
+use crate::turns::MANY_STRINGS;
+use cad_map::{Spoke, Stars};
 use cad_rows::{Memory, PointNo};
 use std::alloc::Global;
 use sweep::first_repeated;
@@ -71,6 +77,58 @@ pub(crate) fn first_met(alloc: Global, sides: &[PlanSide]) -> Result<Option<usiz
     Ok(lesser(as_side, by_follower))
 }
 
+// How many of these spokes lead to the point.
+fn count_to(ends: &[Spoke], far: PointNo) -> usize
+    ensures { result ≡ count_by (λ e. e.far == far) ends.now }
+{
+    ends.iter().filter(|end| end.far.get() == far.get()).count()
+}
+
+// Whether at most one string leads from a point of few strings to the other point.
+fn is_led_to_once(stars: &Stars, at: PointNo, far: PointNo) -> bool
+    ensures { (m : Map) → AreStarsOf m stars.now
+        → OnTrue result (count_by (leads at far) m.strings ≤ 1) }
+{
+    let ends = stars.ends(at);
+    ends.len() < MANY_STRINGS && count_to(ends, far) <= 1
+}
+
+// Whether the string leads from one point to another, and no other one does, where one of these has few strings.
+fn leads_alone(stars: &Stars, string: &PlanString) -> bool
+    ensures { (m : Map) → AreStarsOf m stars.now
+        → OnTrue result (LeadsAlone m.strings string.now.row) }
+{
+    let row = &string.row;
+    row.from.get() != row.to.get()
+        && (is_led_to_once(stars, row.from, row.to) || is_led_to_once(stars, row.to, row.from))
+}
+
+/// Whether no two sides of these strings are equal, as far as the spokes at points of few strings tell.
+pub(crate) fn lead_alone(stars: &Stars, strings: &[PlanString]) -> bool
+    ensures { (m : Map) → AreStarsOf m stars.now → m.strings ≡ map (λ s. s.row) strings.now
+        → OnTrue result (EachPair (λ a b. a ≢ b) (string_sides m)) }
+{
+    for string in strings {
+        if !leads_alone(stars, string) {
+            return false;
+        }
+    }
+    true
+}
+
+// Whether no two of these sides are equal. Takes a sort where it isn't known before.
+fn are_apart(alloc: Global, sides: &[PlanSide], is_known: bool) -> Result<bool, Memory>
+    requires { OnTrue is_known (EachPair (λ a b. a ≢ b) (map plan_side_of sides.now)) }
+    ensures { IfOk result
+        (λ apart. OnTrue apart (EachPair (λ a b. a ≢ b) (map plan_side_of sides.now))) }
+{
+    if is_known {
+        return Ok(true);
+    }
+    let keys = keys_of(alloc, sides, false)?;
+    Ok(first_repeated(alloc, keys.as_slice())?.is_none())
+}
+
 // Whether no two of these sides go on to the same one, told by a mark at each that one goes on to.
 fn go_on_apart(alloc: Global, sides: &[PlanSide]) -> Result<bool, Memory>
     requires { AllByRecursion (λ s. s.next < length sides.now) sides.now }
@@ -88,14 +146,20 @@ fn go_on_apart(alloc: Global, sides: &[PlanSide]) -> Result<bool, Memory>
 }
 
 /// Whether none of these sides stands among earlier ones, or leads to the end of an earlier one and has its follower.
-/// They are all sides of a plan. Takes one sort: two that have a follower in common go on to one side.
-pub(crate) fn are_met_once(alloc: Global, sides: &[PlanSide]) -> Result<bool, Memory>
-    requires { AreLinked sides.now }
+/// They are all sides of a plan: two that have a follower in common go on to one side. Takes a sort where it isn't
+/// known that no two are equal.
+pub(crate) fn are_met_once(
+    alloc: Global,
+    sides: &[PlanSide],
+    is_known: bool,
+) -> Result<bool, Memory>
+    requires apart { OnTrue is_known (EachPair (λ a b. a ≢ b) (map plan_side_of sides.now)) }
+    requires linked { AreLinked sides.now }
     ensures { IfOk result (λ once. OnTrue once (NoneMet sides.now (length sides.now))) }
 {
-    let keys = keys_of(alloc, sides, false)?;
-    if first_repeated(alloc, keys.as_slice())?.is_some() {
-        return Ok(false);
+    if are_apart(alloc, sides, is_known)? {
+        go_on_apart(alloc, sides)
+    } else {
+        Ok(false)
     }
-    go_on_apart(alloc, sides)
 }

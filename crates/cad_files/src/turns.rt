@@ -10,7 +10,8 @@ ghost use Rattle.cad_files.specs.Turns.{AreTurnsOf, IsSoleSpoke, place_before as
 use crate::repeats::key;
 use cad_map::{MapView, PlainMap, Spoke, Stars, position, sort_in_turn};
 use cad_rows::{Memory, PointNo};
-use key_lists::KeyLists;
+use indexmap::IndexMap;
+use number_hash::NumberHash;
 use std::alloc::Global;
 
 /// A side, and the spoke from its end to the point that follows it.
@@ -20,6 +21,9 @@ pub(crate) struct Turn {
     to: PointNo,
     next: Spoke,
 }
+
+/// What follows sides, each under the key of its side.
+pub(crate) type Turns = IndexMap<u64, Turn, NumberHash>;
 
 /// So many strings at a point are sorted. Fewer are looked at one by one for each side.
 pub(crate) const MANY_STRINGS: usize = 12;
@@ -37,13 +41,13 @@ fn put_each(
     plain: &PlainMap,
     point: PointNo,
     order: &[Spoke],
-    turns: &mut KeyLists<Turn>,
+    turns: &mut Turns,
 ) -> Result<(), Memory>
     requires many { 2 ≤ length order.now }
     requires all { IsPermutation (star point (spokes_of plain.now)) order.now }
     requires turn { AreMetInTurn (position_of plain.now point) order.now }
-    requires turns { AreTurnsOf plain.now turns.old }
-    ensures { OnOk result (AreTurnsOf plain.now turns.new) }
+    requires turns { AreTurnsOf plain.now turns.old.entries }
+    ensures { OnOk result (AreTurnsOf plain.now turns.new.entries) }
 {
     for i in 0..order.len() {
         let from = order[i].far;
@@ -53,7 +57,7 @@ fn put_each(
             to: point,
             next,
         };
-        turns.push(key(from, point), turn)?;
+        turns.insert(key(from, point), turn)?;
     }
     Ok(())
 }
@@ -64,12 +68,12 @@ fn put_star(
     plain: &PlainMap,
     point: PointNo,
     ends: &[Spoke],
-    turns: &mut KeyLists<Turn>,
+    turns: &mut Turns,
 ) -> Result<(), Memory>
     requires many { 2 ≤ length ends.now }
     requires all { ends.now ≡ star point (spokes_of plain.now) }
-    requires turns { AreTurnsOf plain.now turns.old }
-    ensures { OnOk result (AreTurnsOf plain.now turns.new) }
+    requires turns { AreTurnsOf plain.now turns.old.entries }
+    ensures { OnOk result (AreTurnsOf plain.now turns.new.entries) }
 {
     let mut order = Vec::from_slice(alloc, ends)?;
     if sort_in_turn(position(plain, point), order.as_mut_slice()) {
@@ -80,15 +84,11 @@ fn put_star(
 
 /// What follows the sides to each point of many strings, where no two of these lead into one direction. It takes n log n
 /// steps for n strings of such points.
-pub(crate) fn turns_of(
-    alloc: Global,
-    plain: &PlainMap,
-    stars: &Stars,
-) -> Result<KeyLists<Turn>, Memory>
+pub(crate) fn turns_of(alloc: Global, plain: &PlainMap, stars: &Stars) -> Result<Turns, Memory>
     requires { AreStarsOf plain.now stars.now }
-    ensures { IfOk result (AreTurnsOf plain.now) }
+    ensures { IfOk result (λ turns. AreTurnsOf plain.now turns.entries) }
 {
-    let mut turns = KeyLists::new(alloc, plain.hash());
+    let mut turns = IndexMap::with_hasher(alloc, plain.hash());
     for place in 0..plain.counts().points {
         let point = plain.point_at(place).unwrap().number;
         let ends = stars.ends(point);
@@ -100,10 +100,14 @@ pub(crate) fn turns_of(
 }
 
 /// The spoke to the one point that follows a side, where a sort told it.
-pub(crate) fn turn_after(turns: &KeyLists<Turn>, from: PointNo, to: PointNo) -> Option<Spoke>
-    ensures { IfSome result (λ w. (m : Map) → AreTurnsOf m turns.now → IsSoleSpoke m from to w) }
+pub(crate) fn turn_after(turns: &Turns, from: PointNo, to: PointNo) -> Option<Spoke>
+    ensures { IfSome result
+        (λ w. (m : Map) → AreTurnsOf m turns.now.entries → IsSoleSpoke m from to w) }
 {
-    let turn = turns.at(key(from, to)).first()?;
+    if turns.is_empty() {
+        return None;
+    }
+    let turn = turns.get(&key(from, to))?;
     if turn.from == from && turn.to == to {
         Some(turn.next)
     } else {

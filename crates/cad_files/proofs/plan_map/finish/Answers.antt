@@ -1,4 +1,4 @@
-use Rattle.std.proofs.Common.{◌≡◌, map}
+use Rattle.std.proofs.Common.{◌≡◌}
 use Rattle.cad_map.specs.Boundaries.{canonical_order}
 use Rattle.cad_files.specs.Begun.{IsBegun}
 use Rattle.cad_files.specs.Building.{breaking}
