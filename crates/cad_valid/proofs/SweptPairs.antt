@@ -107,6 +107,19 @@ module _ (test : Placed → Placed → Bool) (items : List Placed) where
       → (test f g ≡ true) ⊎ (test g f ≡ true)
   passed-two all i j f g at_f at_g apart overlap = passed-pair i j f g at_f at_g (λ d in_i in_j met. all i j d in_i in_j apart met) overlap
 
+  -- what passes a test passes one that asks less
+  pub pass-less : (less : Placed → Placed → Bool) → ((f g : Placed) → test f g ≡ true → less f g ≡ true)
+      → AllThatOverlapPass (passes_at test items) (map box_of items) → AllThatOverlapPass (passes_at less items) (map box_of items)
+  pass-less less asks all i j d in_i in_j apart met = elim (all i j d in_i in_j apart met) [
+    | inl passes ↦ inl (one (slice_get items i) (slice_get items j) passes)
+    | inr passes ↦ inr (one (slice_get items j) (slice_get items i) passes)
+  ]
+    where
+      one : (o p : Option Placed) → both_pass test o p ≡ true → both_pass less o p ≡ true
+      one (Some f) (Some g) passes = asks f g passes
+      one (Some f) None passes = refl
+      one None p passes = refl
+
   -- two that fail
   pub record HasFailing : Type 0 where
     pub i : ℕ

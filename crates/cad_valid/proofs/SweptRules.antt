@@ -1,6 +1,6 @@
 -- What sweeps over the boxes of a map's points and strings tell of V3 and V4.
 use Rattle.std.proofs.Common.{◌≡◌, ◌≢◌, ℕ, ◌+◌, ◌<◌, List, map, length, slice_get, Some, Bool, true, false, not, eqb, refl, sym, ap, subst, ◌∙◌, true≢false, arith, inl, inr, ◌⊎◌}
-use Rattle.std.specs.Prelude.{if◌then◌else◌}
+use Rattle.std.specs.Prelude.{if◌then◌else◌, ◌&&◌}
 use Rattle.std.specs.Bool.{OnTrue, OnFalse}
 use Rattle.std.specs.Ordering.{int_eq}
 use Rattle.std.specs.List.{AllByRecursion}
@@ -13,16 +13,16 @@ use Rattle.sweep.specs.Extents.{Overlap, AllThatOverlapPass, SomePairFails}
 use Rattle.cad_rows.specs.declared.rows.PointRow.{PointRow}
 use Rattle.cad_rows.specs.declared.rows.StringRow.{StringRow}
 use Rattle.cad_map.specs.Map.{Map}
-use Rattle.cad_map.specs.Valid.{is_same_position, each_pair, HaveCommon, MeetAtEnds, LiesOnlyAsEnd, HasNoCrossing}
+use Rattle.cad_map.specs.Valid.{is_same_position, each_pair, HaveCommon, MeetAtEnds, LiesOnlyAsEnd, HasNoCrossing, HasSoundRows, HasTwoEnds}
 use Rattle.cad_map.specs.Crossings.{HasPlacedRows}
 use Rattle.cad_map.proofs.CallerLemmas.{EachPair-from_test, placed-at, position-on_map}
 use Rattle.cad_valid.specs.declared.placed.Placed.{Placed}
 use Rattle.cad_valid.specs.Boxes.{box_of}
 use Rattle.cad_valid.specs.Placed.{placed_string, placed_point, meets_at_ends, is_only_end}
-use Rattle.cad_valid.specs.Swept.{passes_at, lie_apart, is_point, have_no_crossing, placed_strings, placed_points, placed_rows}
+use Rattle.cad_valid.specs.Swept.{passes_at, lie_apart, is_point, have_no_crossing, are_clear, placed_strings, placed_points, placed_rows}
 use Rattle.cad_valid.proofs.BoxesOfMap.{IsOnMap, overlap-common}
 use Rattle.cad_valid.proofs.PlacedStrings.{meets_at_ends-is, is_only_end-is}
-use Rattle.cad_valid.proofs.SweptPairs.{All-from_places, All-at_place, EachPair-from_places, EachPair-at_places, each_pair-true, get-first, get-second, get-either, get-mapped, from-mapped, passed-two, HasFailing, failing}
+use Rattle.cad_valid.proofs.SweptPairs.{All-from_places, All-at_place, EachPair-from_places, EachPair-at_places, each_pair-true, get-first, get-second, get-either, get-mapped, from-mapped, passed-two, pass-less, HasFailing, failing}
 
 -- of two different places one is the lesser
 either_order : (i j : ℕ) → i ≢ j → (i < j) ⊎ (j < i)
@@ -54,8 +54,10 @@ overlap_itself : (f : Placed) → Overlap (box_of f) (box_of f)
 overlap_itself f = record { a_left = omega arith; b_left = omega arith; a_bottom = omega arith; b_bottom = omega arith }
 
 module _ (points : List PointRow) where
-  pub distinct-passed : AllThatOverlapPass (passes_at lie_apart (map placed_point points)) (map box_of (map placed_point points)) → each_pair differ points ≡ true
-  distinct-passed all = each_pair-true differ points (EachPair-from_places (λ r t. differ r t ≡ true) points each)
+  -- positions differ where each two points whose boxes overlap are tested, in one of the two orders
+  distinct-from : ((i j : ℕ) (r t : PointRow) → i ≢ j → slice_get points i ≡ Some r → slice_get points j ≡ Some t
+      → Overlap (box_of (placed_point r)) (box_of (placed_point t)) → (differ r t ≡ true) ⊎ (differ t r ≡ true)) → each_pair differ points ≡ true
+  distinct-from tested = each_pair-true differ points (EachPair-from_places (λ r t. differ r t ≡ true) points each)
     where
       each : (i j : ℕ) (r t : PointRow) → i < j → slice_get points i ≡ Some r → slice_get points j ≡ Some t → differ r t ≡ true
       each i j r t lt at_r at_t = by (is_same_position r.position t.position) refl
@@ -66,11 +68,15 @@ module _ (points : List PointRow) where
               let one = same_position r.position t.position is in
               let met : Overlap (box_of (placed_point r)) (box_of (placed_point t)) =
               subst (λ (p : Position). Overlap (box_of (placed_point r)) (box_of (record { from = t.number; to = t.number; a = p; b = p }))) one (overlap_itself (placed_point r)) in
-              elim (passed-two lie_apart (map placed_point points) all i j (placed_point r) (placed_point t)
-              (get-mapped placed_point points i r at_r) (get-mapped placed_point points j t at_t) (λ e. absurd (omega arith)) met) [
+              elim (tested i j r t (λ e. absurd (omega arith)) at_r at_t met) [
                 | inl passes ↦ passes
                 | inr passes ↦ absurd (true≢false (sym passes ∙ ap not (same_back r.position t.position is)))
               ]
+
+  distinct-passed : AllThatOverlapPass (passes_at lie_apart (map placed_point points)) (map box_of (map placed_point points)) → each_pair differ points ≡ true
+  distinct-passed all =
+      let asked = passed-two lie_apart (map placed_point points) all in
+      distinct-from (λ i j r t apart at_r at_t met. asked i j (placed_point r) (placed_point t) (get-mapped placed_point points i r at_r) (get-mapped placed_point points j t at_t) apart met)
 
   pub distinct-failed : SomePairFails (passes_at lie_apart (map placed_point points)) (length (map box_of (map placed_point points))) → each_pair differ points ≡ false
   distinct-failed some = by (each_pair differ points) refl
@@ -127,6 +133,9 @@ chosen f g b c is_b is_c = λ k. if is_b k then (if is_c k then true else is_onl
 pub point_is : (p : PointRow) → is_point (placed_point p) ≡ true
 point_is p = eq-eqb p.number p.number refl
 
+point_at : (m : Map) (k : ℕ) (p : PointRow) → slice_get m.points k ≡ Some p → slice_get (placed_rows m) (length (placed_strings m) + k) ≡ Some (placed_point p)
+point_at m k p at = get-second (placed_strings m) (placed_points m) k (placed_point p) (get-mapped placed_point m.points k p at)
+
 module _ (m : Map) (rows : HasPlacedRows m) where
   string_is : (i : ℕ) (s : StringRow) → slice_get m.strings i ≡ Some s → is_point (placed_string m s) ≡ false
   string_is i s at = false_from_ne_true (eqb s.from s.to) (λ same. (placed-at m rows i s at).two (eqb-true s.from s.to same))
@@ -139,9 +148,6 @@ module _ (m : Map) (rows : HasPlacedRows m) where
 
   pub string_at : (i : ℕ) (s : StringRow) → slice_get m.strings i ≡ Some s → slice_get (placed_rows m) i ≡ Some (placed_string m s)
   string_at i s at = get-first (placed_strings m) (placed_points m) i (placed_string m s) (get-mapped (placed_string m) m.strings i s at)
-
-  point_at : (k : ℕ) (p : PointRow) → slice_get m.points k ≡ Some p → slice_get (placed_rows m) (length (placed_strings m) + k) ≡ Some (placed_point p)
-  point_at k p at = get-second (placed_strings m) (placed_points m) k (placed_point p) (get-mapped placed_point m.points k p at)
 
   -- the tests, as what they say of strings and points at their places
   module _ (i j : ℕ) (s t : StringRow) (at_s : slice_get m.strings i ≡ Some s) (at_t : slice_get m.strings j ≡ Some t) where
@@ -181,7 +187,7 @@ module _ (m : Map) (rows : HasPlacedRows m) where
           let met = overlap-common (placed_string m s) (placed_point p) (string_on s) (point_on k p at_p) common in
           let within = slice_get_within (placed_strings m) i (placed_string m s) (get-mapped (placed_string m) m.strings i s at_s) in
           let j = length (placed_strings m) + k in
-          elim (passed-two have_no_crossing (placed_rows m) all i j (placed_string m s) (placed_point p) (string_at i s at_s) (point_at k p at_p) (λ e. absurd (omega arith)) met) [
+          elim (passed-two have_no_crossing (placed_rows m) all i j (placed_string m s) (placed_point p) (string_at i s at_s) (point_at m k p at_p) (λ e. absurd (omega arith)) met) [
             | inl passes ↦ (is_only_end-is m p s).0 (sym (string_point i s at_s p) ∙ passes) common
             | inr passes ↦ (is_only_end-is m p s).0 (sym (point_string i s at_s p) ∙ passes) common
           ]
@@ -225,3 +231,38 @@ module _ (m : Map) (rows : HasPlacedRows m) where
                   sym (λ k. have_no_crossing (p.2 k) (q.2 k)) ∙ chosen (placed_point p.0) (placed_point q.0) true true (point_is p.0) (point_is q.0)
             ]
       ]
+
+-- ---- V3 and V4 in one
+
+clear-chosen : (f g : Placed) (b c : Bool) → is_point f ≡ b → is_point g ≡ c → are_clear f g ≡ (if b && c then lie_apart f g else have_no_crossing f g)
+clear-chosen f g b c is_b is_c = λ k. if is_b k && is_c k then lie_apart f g else have_no_crossing f g
+
+-- two that pass both tests have no crossing
+clear-uncrossed : (f g : Placed) → are_clear f g ≡ true → have_no_crossing f g ≡ true
+clear-uncrossed f g clear = by (is_point f) (is_point g) refl refl
+  where
+    by : (b c : Bool) → is_point f ≡ b → is_point g ≡ c → have_no_crossing f g ≡ true
+    by true true is_f is_g = chosen f g true true is_f is_g
+    by true false is_f is_g = sym (clear-chosen f g true false is_f is_g) ∙ clear
+    by false c is_f is_g = sym (clear-chosen f g false c is_f is_g) ∙ clear
+
+-- and of two points it is asked whether they differ
+clear-differ : (r t : PointRow) → are_clear (placed_point r) (placed_point t) ≡ differ r t
+clear-differ r t = clear-chosen (placed_point r) (placed_point t) true true (point_is r) (point_is t)
+
+module _ (m : Map) (sound : HasSoundRows m) (two : HasTwoEnds m)
+    (all : AllThatOverlapPass (passes_at are_clear (placed_rows m)) (map box_of (placed_rows m))) where
+  pub clear-distinct : each_pair differ m.points ≡ true
+  clear-distinct = distinct-from m.points asked
+    where
+      asked : (i j : ℕ) (r t : PointRow) → i ≢ j → slice_get m.points i ≡ Some r → slice_get m.points j ≡ Some t
+          → Overlap (box_of (placed_point r)) (box_of (placed_point t)) → (differ r t ≡ true) ⊎ (differ t r ≡ true)
+      asked i j r t apart at_r at_t met =
+          let n = length (placed_strings m) in
+          elim (passed-two are_clear (placed_rows m) all (n + i) (n + j) (placed_point r) (placed_point t) (point_at m i r at_r) (point_at m j t at_t) (λ e. apart (omega arith)) met) [
+            | inl passes ↦ inl (sym (clear-differ r t) ∙ passes)
+            | inr passes ↦ inr (sym (clear-differ t r) ∙ passes)
+          ]
+
+  pub clear-passed : HasNoCrossing m
+  clear-passed = uncrossed-passed m (record { v1 = sound; v2 = two; v3 = clear-distinct }) (pass-less are_clear (placed_rows m) have_no_crossing clear-uncrossed all)

@@ -1,5 +1,5 @@
 -- Tests of two strings or points by their places among many.
-use Rattle.std.specs.Prelude.{ℕ, Bool, true, ◌==◌, not, if◌then◌else◌, List, ◌++◌, map, Option, Some, None, slice_get}
+use Rattle.std.specs.Prelude.{ℕ, Bool, true, ◌==◌, not, ◌&&◌, if◌then◌else◌, List, ◌++◌, map, Option, Some, None, slice_get}
 use Rattle.cad_map.specs.Map.{Map}
 use Rattle.cad_map.specs.Valid.{is_same_position}
 use Rattle.cad_valid.specs.declared.placed.Placed.{Placed}
@@ -28,6 +28,10 @@ abbrev pub have_no_crossing : Placed → Placed → Bool
 have_no_crossing f g =
     if is_point f then (if is_point g then true else is_only_end f g)
     else (if is_point g then is_only_end g f else meets_at_ends f g)
+
+-- two points lie apart, and any other two have no crossing
+abbrev pub are_clear : Placed → Placed → Bool
+are_clear f g = if is_point f && is_point g then lie_apart f g else have_no_crossing f g
 
 -- the strings of the map
 abbrev pub placed_strings : Map → List Placed

@@ -30,7 +30,7 @@ use crate::holes_swept::has_holes_in_place_swept;
 use crate::outlines::has_one_outline_each;
 use crate::outlines_by_runs::has_one_outline_each_by_runs;
 use crate::points::has_distinct_positions;
-use crate::swept::{has_distinct_positions_swept, has_no_crossing_swept};
+use crate::swept::first_broken_of_places;
 use cad_map::{MapView, PlainMap};
 use cad_rows::{Memory, Rule};
 pub use near::{Joined, Moved, Touched, first_broken_near};
@@ -72,11 +72,12 @@ pub fn first_broken<M: MapView>(map: &M) -> Option<Rule>
 /// point puts no string inside a corner, so a map read from strings alone has it by the way its rings
 /// were made, and to look at each corner again would cost more than all else.
 ///
-/// V3 and V4 are told by a sort of boxes each: of strings and points only those are compared whose
-/// boxes lie beside one another in a row of the map. For that it takes memory for the boxes, and for
-/// at most three spans a box. Its time for them is that of the sort and of these pairs: many long
-/// strings that lie slantwise over one another are compared each with each. Strings of a point that
-/// has very many are sorted by their directions instead, and not compared with one another.
+/// V3 and V4 are told by one sort of boxes, and by one more each where a map breaks one of them: of
+/// strings and points only those are compared whose boxes lie beside one another in a row of the map.
+/// For that it takes memory for the boxes, and for at most three spans a box. Its time for them is
+/// that of the sort and of these pairs: many long strings that lie slantwise over one another are
+/// compared each with each. Where a point may have very many strings they are told by a sort each,
+/// and its strings are sorted by their directions instead, and not compared with one another.
 ///
 /// V7 and V8 take each face's rings as they stand together in the map's list, and of holes too only
 /// those are compared whose boxes overlap. Each side of an outline is counted at the anchors of those
@@ -91,11 +92,8 @@ pub fn first_broken_swept(alloc: Global, map: &PlainMap) -> Result<Option<Rule>,
     ensures broken { IfOk result (λ rule. IfSome rule (FirstBroken map.now)) }
     ensures kept { IfOk result (λ rule. IfNone rule (KeepsAll map.now)) }
 {
-    if !has_distinct_positions_swept(alloc, map)? {
-        return Ok(Some(Rule::V3));
-    }
-    if !has_no_crossing_swept(alloc, map)? {
-        return Ok(Some(Rule::V4));
+    if let Some(rule) = first_broken_of_places(alloc, map)? {
+        return Ok(Some(rule));
     }
     if !has_one_outline_each_by_runs(map) {
         return Ok(Some(Rule::V7));

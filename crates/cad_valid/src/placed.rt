@@ -1,7 +1,6 @@
 //! Strings with the positions of their ends, and where two of them may meet.
 ghost use Rattle.std.specs.Prelude.{◌≡◌};
 ghost use Rattle.geo_exact.specs.Position.{Position};
-ghost use Rattle.cad_map.specs.Crossings.{HasTwoPoints};
 ghost use Rattle.cad_map.specs.Map.{position_of};
 ghost use Rattle.cad_valid.specs.Placed.{IsPlacedIn, placed_string as placed_string_of};
 ghost use Rattle.cad_valid.specs.Placed.{placed_point as placed_point_of};
@@ -50,7 +49,6 @@ impl Placed {
 
 /// A string of the map.
 pub(crate) fn placed_string<M: MapView>(map: &M, string: &StringRow) -> Placed
-    requires { HasTwoPoints (M.map map.now) string.now }
     ensures { result ≡ placed_string_of (M.map map.now) string.now }
 {
     Placed {

@@ -2,17 +2,11 @@ use Rattle.std.proofs.Common.{ℕ, ◌≤◌, sym, ap, subst, length}
 use Rattle.std.proofs.lemmas.Bool.{iff_false}
 use Rattle.cad_map.specs.Valid.{LiesOnlyAsEnd}
 use Rattle.cad_valid.proofs.Decisions.{stepwise-all, goes, stops, ends}
-use Rattle.cad_map.proofs.CallerLemmas.{placed-at}
 use Rattle.cad_valid.proofs.PlacedStrings.{lies-by}
 use Rattle.cad_valid.proofs.crossings.lies_at_ends.Goals as goal
 
 pub loop-place-init : goal.loop-place-init
 loop-place-init g c = ((λ h. h), (λ h. h))
-
-pub placed_string-requires : goal.placed_string-requires
-placed_string-requires g c =
-    let at = rw c.unwrap-string.ensures at c.string_at.ensures in
-    placed-at (g.M.MapView.map c.args.map.now) c.requires c.loop-place.place _ (sym at)
 
 pub returns-then-not-lies_only_as_end : goal.returns-then-not-lies_only_as_end
 returns-then-not-lies_only_as_end g c =

@@ -9,11 +9,6 @@ use Rattle.cad_valid.proofs.crossings.meets_later_at_ends.Goals as goal
 pub loop-place-init : goal.loop-place-init
 loop-place-init g c = ((λ h. h), (λ h. h))
 
-pub placed_string-requires : goal.placed_string-requires
-placed_string-requires g c =
-    let at = rw c.unwrap-other.ensures at c.string_at.ensures in
-    placed-at (g.M.MapView.map c.args.map.now) c.requires.rows c.loop-place.place _ (sym at)
-
 pub returns-then-not-meet_at_ends : goal.returns-then-not-meet_at_ends
 returns-then-not-meet_at_ends g c =
     let m = g.M.MapView.map c.args.map.now in

@@ -1,13 +1,7 @@
 use Rattle.std.proofs.Common.{sym}
-use Rattle.cad_map.proofs.CallerLemmas.{placed-at}
 use Rattle.cad_valid.specs.Placed.{placed_string}
 use Rattle.cad_valid.proofs.GrownLists.{grown}
 use Rattle.cad_valid.proofs.swept.put_strings.Goals as goal
-
-pub placed_string-requires : goal.placed_string-requires
-placed_string-requires c =
-    let at = rw c.unwrap-string.ensures at c.string_at.ensures in
-    placed-at c.args.map.now c.requires c.loop-place.place c.unwrap-string.result.now (sym at)
 
 pub loop-place-preserved : goal.loop-place-preserved
 loop-place-preserved c =

@@ -5,13 +5,8 @@ use Rattle.cad_valid.specs.declared.placed.Placed.{Placed}
 use Rattle.cad_valid.specs.Many.{AreNamed}
 use Rattle.cad_valid.proofs.GrownLists.{where_ok}
 use Rattle.cad_valid.proofs.ManyStrings.{named-more, named-none, named-again}
-use Rattle.cad_valid.proofs.RowsByNumber.{string-placed}
 use Rattle.cad_valid.proofs.near.many.placed_strings.Goals as goal
 use Rattle.cad_valid.proofs.near.many.placed_strings.Goals.{in-Some+in_ok-ok, in_default}
-
-pub placed_string-requires : goal.placed_string-requires
-placed_string-requires g c =
-    string-placed (g.M.MapView.map c.args.map.now) c.requires c.index-numbers-place-in-loop-place.result c.in-Some.row.now (sym c.in-Some.ensures)
 
 pub loop-place-preserved : goal.loop-place-preserved
 loop-place-preserved g c =

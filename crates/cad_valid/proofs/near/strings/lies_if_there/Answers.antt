@@ -1,12 +1,8 @@
 use Rattle.std.proofs.Common.{sym}
 use Rattle.cad_map.specs.Valid.{LiesOnlyAsEnd}
 use Rattle.cad_valid.proofs.PlacedStrings.{lies-by}
-use Rattle.cad_valid.proofs.RowsByNumber.{of_string, string-placed}
+use Rattle.cad_valid.proofs.RowsByNumber.{of_string}
 use Rattle.cad_valid.proofs.near.strings.lies_if_there.Goals as goal
-
-pub placed_string-requires : goal.placed_string-requires
-placed_string-requires g c =
-    string-placed (g.M.MapView.map c.args.map.now) c.requires c.args.string c.in-Some.row.now (sym c.in-Some.ensures)
 
 pub returns-in-Some : goal.returns-in-Some
 returns-in-Some g c =
