@@ -6,6 +6,7 @@ ghost use Rattle.cad_map.specs.Map.{has_string};
 ghost use Rattle.half_table.specs.declared.half.Half.{Half as HalfOf};
 ghost use Rattle.half_table.specs.Half.{twin};
 ghost use Rattle.half_table.specs.Rows.{has, origin_of};
+ghost use Rattle.key_lists.specs.Held.{items_at};
 ghost use Rattle.cad_laws.specs.Local.{side_by};
 ghost use Rattle.map_parts.specs.Labels.{IsAlong};
 ghost use Rattle.edit_records.specs.Gridded.{IsGridOf};
@@ -21,7 +22,7 @@ use edit_records::grid_of;
 use half_table::{Half, HalfTable, Tally};
 use key_lists::KeyLists;
 use map_parts::{
-    MapRows, Spoke, add_strings, far_at, far_by_star, find_half_by_ends, half_at, kept_half,
+    MapRows, Spoke, add_strings, far_at, far_in_star, find_half_in_star, half_at, kept_half,
     link_rings, star_of,
 };
 use std::alloc::Global;
@@ -120,16 +121,27 @@ impl<T: Tally> Draft<T> {
         ensures some { IfSome result (IsAlong (rows_of self.now) self.now.table.rows (from, to)) }
         ensures none { IfNone result (IsNoSide (map_of self.now) (from, to)) }
     {
-        find_half_by_ends(&self.stars, from, to)
+        self.half_in(star_of(&self.stars, to), from, to)
     }
 
-    /// The point where a half ends. It is sought in the star of the point where it begins, which was
-    /// mostly just looked at.
-    fn far_of(&self, point: PointNo, half: &Half) -> PointNo
-        requires { has self.now.table.rows half.now ≡ true }
+    /// As [`Draft::half`], with the star of the second point at hand.
+    fn half_in(&self, here: &[Spoke], from: PointNo, to: PointNo) -> Option<Half>
+        requires { here.now ≡ items_at self.now.stars to }
+        ensures told { result ≡ view_half self.now (from, to) }
+        ensures some { IfSome result (IsAlong (rows_of self.now) self.now.table.rows (from, to)) }
+        ensures none { IfNone result (IsNoSide (map_of self.now) (from, to)) }
+    {
+        find_half_in_star(&self.stars, here, from, to)
+    }
+
+    /// The point where a half ends. It is sought in the star of the point where it begins, which is at
+    /// hand.
+    fn far_in(&self, point: PointNo, here: &[Spoke], half: &Half) -> PointNo
+        requires there { has self.now.table.rows half.now ≡ true }
+        requires star { here.now ≡ items_at self.now.stars point }
         ensures { result ≡ origin_of self.now.table.rows (twin half.now) }
     {
-        match far_by_star(&self.stars, point, *half) {
+        match far_in_star(here, *half) {
             Some(far) => far,
             None => self.table.origin(self.table.twin(*half)),
         }
@@ -235,9 +247,10 @@ impl<T: Tally> MapView for Draft<T> {
     }
 
     fn after(&self, from: PointNo, to: PointNo) -> Option<PointNo> {
-        let half = self.half(from, to)?;
+        let here = star_of(&self.stars, to);
+        let half = self.half_in(here, from, to)?;
         let after = self.table.next(half);
-        Some(self.far_of(to, &after))
+        Some(self.far_in(to, here, &after))
     }
 
     fn ring_side(&self, face: Face, place: usize) -> Option<(PointNo, PointNo)> {

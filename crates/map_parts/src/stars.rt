@@ -84,7 +84,19 @@ fn are_fewer_at(stars: &KeyLists<Spoke>, here: &[Spoke], there: PointNo) -> bool
 pub fn find_half_by_ends(stars: &KeyLists<Spoke>, from: PointNo, to: PointNo) -> Option<Half>
     ensures { result ≡ half_by_ends stars.now (from, to) }
 {
-    let here = star_of(stars, to);
+    find_half_in_star(stars, star_of(stars, to), from, to)
+}
+
+/// As [`find_half_by_ends`], with the star of the second point at hand.
+pub fn find_half_in_star(
+    stars: &KeyLists<Spoke>,
+    here: &[Spoke],
+    from: PointNo,
+    to: PointNo,
+) -> Option<Half>
+    requires { here.now ≡ items_at stars.now to }
+    ensures { result ≡ half_by_ends stars.now (from, to) }
+{
     if are_fewer_at(stars, here, from) {
         return find_half(stars, from, to);
     }
@@ -107,11 +119,10 @@ fn far_among(spokes: &[Spoke], half: &Half) -> Option<PointNo>
 }
 
 /// Where a half ends that begins at a point, as the point's star tells it if few halves begin there.
-pub fn far_by_star(stars: &KeyLists<Spoke>, point: PointNo, half: Half) -> Option<PointNo>
-    ensures told { result ≡ far_among_few half (items_at stars.now point) }
-    ensures there { IfSome result (λ far. Contains (items_at stars.now point) (spoke half far)) }
+pub fn far_in_star(spokes: &[Spoke], half: Half) -> Option<PointNo>
+    ensures told { result ≡ far_among_few half spokes.now }
+    ensures there { IfSome result (λ far. Contains spokes.now (spoke half far)) }
 {
-    let spokes = star_of(stars, point);
     if spokes.len() > FEW {
         return None;
     }

@@ -15,5 +15,5 @@ returns-clause-some g c =
     let half = c.in_ok-half.half in
     let along = subst (λ (d : Parts). IsAlong (rows_of d) d.table.rows side half) (sym c.self.view_is) c.in_ok-half.ensures.some in
     let comes = subst (λ (d : Parts). ComesAfter (map_of d) side (origin_of d.table.rows (twin (next d.table.rows half)))) c.self.view_is (along-after _ c.self.invariant side half along) in
-    let far = c.far_of.ensures ∙ ap (λ (h : Half). origin_of c.args.self.now.table.rows (twin h)) (subst (λ (d : Parts). c.next-after.result ≡ next d.table.rows half) c.self.view_is c.next-after.ensures.is) in
+    let far = c.far_in.ensures ∙ ap (λ (h : Half). origin_of c.args.self.now.table.rows (twin h)) (subst (λ (d : Parts). c.next-after.result ≡ next d.table.rows half) c.self.view_is c.next-after.ensures.is) in
     subst (ComesAfter (map_of c.args.self.now) side) (sym far) comes

@@ -5,10 +5,9 @@ use Rattle.cad_map.proofs.CallerLemmas.{find-Contains}
 use Rattle.half_table.specs.declared.half.Half.{Half}
 use Rattle.half_table.specs.Half.{is_half}
 use Rattle.half_table.proofs.Halves.{is_half-same}
-use Rattle.key_lists.specs.Held.{items_at}
 use Rattle.map_parts.specs.declared.stars.Spoke.{Spoke}
 use Rattle.map_parts.specs.Stars.{spoke}
-use Rattle.map_parts.proofs.stars.far_by_star.Goals as goal
+use Rattle.map_parts.proofs.stars.far_in_star.Goals as goal
 
 -- a far end that is told stands in a spoke along the half
 in_spoke : (h : Half) (xs : List Spoke) (f : Option Spoke) → find (λ (x : Spoke). is_half x.half h) xs ≡ f
@@ -25,5 +24,5 @@ in_spoke h xs (Some x) found (Some far) is =
 pub returns-clause-there : goal.returns-clause-there
 returns-clause-there c =
     let h = c.args.half in
-    let xs = items_at c.args.stars.now c.args.point in
-    in_spoke h xs (find (λ (x : Spoke). is_half x.half h) xs) refl c.far_among.result (rw c.star_of-spokes.ensures at c.far_among.ensures)
+    let xs = c.args.spokes.now in
+    in_spoke h xs (find (λ (x : Spoke). is_half x.half h) xs) refl c.far_among.result c.far_among.ensures
