@@ -15,6 +15,8 @@ mod hashes;
 #[cfg(test)]
 mod lists_under_keys;
 #[cfg(test)]
+mod number_tables;
+#[cfg(test)]
 mod rings;
 #[cfg(test)]
 mod row_values;

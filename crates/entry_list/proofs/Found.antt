@@ -8,6 +8,8 @@ use Rattle.std.proofs.lemmas.Cmp.{nat_eq_equiv}
 use Rattle.std.proofs.lemmas.Map.Made.{lookup_key_passes}
 use Rattle.indexmap.proofs.MapLemmas.{Found-position}
 use Rattle.indexmap.specs.Layout.{set_value_at}
+use Rattle.number_table.specs.Rows.{HasNumberAt}
+use Rattle.number_table.proofs.Found.{same-number}
 use Rattle.entry_list.specs.Slots.{Slots, rows_of, row_at, HasSlot, IsRowSlot}
 use Rattle.entry_list.proofs.Rows.{rows-le}
 use Rattle.entry_list.proofs.Lists.{entry-keys, slice_get-keys, slice_get-values}
@@ -247,3 +249,25 @@ module _ {V : Type 0} where
     where
       inj : (p q : Option V) → Some p ≡ Some q → p ≡ q
       inj p q h = cc
+
+  -- the slot at the place of a number, and what stands there
+  pub placed-slot : (n i : ℕ) (es : Slots V) (k : ℕ) (o : Option V) → HasNumberAt es i n → Some (k, o) ≡ slice_get es i
+      → is_some o ≡ true → IsRowSlot es i n
+  placed-slot n i es k o has h t =
+      let e : k ≡ n = same-number es i n (k, o) has (sym h) in
+      is-full n i es o (rw (← e) (sym h)) t
+
+  pub absent-placed : (n i : ℕ) (es : Slots V) (k : ℕ) (o : Option V) → HasNumberAt es i n → Some (k, o) ≡ slice_get es i
+      → lookup (nat_eq k) es ≡ Some o → IsDistinct nat_eq (keys_of es) → is_some o ≡ false → row_at n es ≡ None
+  absent-placed n i es k o has h l d t =
+      let e : k ≡ n = same-number es i n (k, o) has (sym h) in
+      let z : lookup (nat_eq n) es ≡ Some o = rw (← e) l in
+      slot-row n es o z d ∙ is-empty o t
+
+  pub empty-placed : (n i : ℕ) (es : Slots V) → HasNumberAt es i n → slice_get (values_of es) i ≡ lookup (nat_eq n) es
+      → HasSlot es n → row_at n es ≡ None → slice_get es i ≡ Some (n, None)
+  empty-placed n i es has v s r =
+      let z : lookup (nat_eq n) es ≡ Some None = slot-empty n es (lookup (nat_eq n) es) refl s r in
+      let k = entry-at i es None (v ∙ z) in
+      let e : k.0 ≡ n = same-number es i n (k.0, None) has k.1 in
+      rw (← e) k.1

@@ -1,4 +1,5 @@
-//! Room for rows, and rows that go and come. Only `keep_slot`, `spare_slot` and `push` take memory.
+//! Room for rows, and rows that go and come. Only `keep_slot`, `spare_slot` and `push` can be
+//! refused for want of memory.
 ghost use Rattle.std.specs.Prelude.{◌≡◌, ◌≤◌, ◌++◌, ◌∷◌, [], length, Some, None, remove};
 ghost use Rattle.std.specs.Prelude.{slice_get, ◌↔◌, IfSome, IfNone, OnOk, OnErr, OnSome, IsOk, IsSome, IsTrue};
 ghost use Rattle.entry_list.specs.Slots.{row_of, rows_of, row_at, without_number, with_number};
@@ -66,7 +67,7 @@ impl<V> EntryList<V> {
         ensures slot { OnSome result (HasSlot self.new number) }
     {
         let slot = self.slot_of(number)?;
-        let cell = self.slots.get_index_mut(slot).unwrap();
+        let cell = self.slots.value_at(slot);
         let row = mem::replace(cell, None).unwrap();
         let place = self.live.count_before(slot);
         self.live.set(slot, 0);
@@ -74,8 +75,8 @@ impl<V> EntryList<V> {
         Some((place, row))
     }
 
-    /// Puts a row in at the place, and those from there on stand one place later. It takes no
-    /// memory. Where the number's own slot fits, as after a `take` from there, or the slot behind
+    /// Puts a row in at the place, and those from there on stand one place later. It can't be
+    /// refused for want of memory. Where the number's own slot fits, as after a `take` from there, or the slot behind
     /// the row before is empty, it takes time as `place_of` does; else its slot is moved, which
     /// takes time by the distance.
     pub fn put_at(&mut self, number: u64, row: V, place: usize)
@@ -92,7 +93,8 @@ impl<V> EntryList<V> {
         self.fill(slot, number, row);
     }
 
-    /// Puts a row in behind all others. It takes no memory, and time as `put_at` does.
+    /// Puts a row in behind all others. It can't be refused for want of memory, and takes time as
+    /// `put_at` does.
     pub fn put_last(&mut self, number: u64, row: V)
     where
         V: Drop,
@@ -149,7 +151,7 @@ impl<V> EntryList<V> {
         ensures slots { KeepsSlots self.old self.new }
     {
         let slot = self.slot_of(number).unwrap();
-        let cell = self.slots.get_index_mut(slot).unwrap();
+        let cell = self.slots.value_at(slot);
         mem::replace(cell, Some(row)).unwrap()
     }
 
@@ -167,15 +169,15 @@ impl<V> EntryList<V> {
         let _slots = self.slots.len();
         let mark = mark_of(&row);
         self.live.push(mark)?;
-        match self.slots.insert(number, row) {
-            Ok(_) => {
+        match self.slots.push(number, row) {
+            Ok(()) => {
                 self.len += mark as usize;
                 self.greatest = self.greatest.max(number);
                 Ok(())
             }
             Err(full) => {
                 self.live.pop();
-                Err(AllocError::from(full))
+                Err(full)
             }
         }
     }
@@ -190,7 +192,7 @@ impl<V> EntryList<V> {
         ensures filled { self.new ≡ set_value_at self.old slot (Some row) }
     {
         let _slots = self.slots.len();
-        let cell = self.slots.get_index_mut(slot).unwrap();
+        let cell = self.slots.value_at(slot);
         let _ = mem::replace(cell, Some(row));
         self.live.set(slot, 1);
         self.len += 1;

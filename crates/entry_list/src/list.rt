@@ -5,8 +5,8 @@ ghost use Rattle.entry_list.specs.Slots.{rows_of, numbers_of, row_at, marks_of, 
 ghost use Rattle.std.specs.List.{IsDistinct};
 
 use crate::marks::Marks;
-use indexmap::IndexMap;
 use number_hash::NumberHash;
+use number_table::NumberTable;
 use std::alloc::{AllocError, Global};
 use std::marker::Model;
 
@@ -14,7 +14,8 @@ use std::marker::Model;
 /// it, and is counted; nothing of it is kept.
 ///
 /// A number has a slot in the table, with its row or empty, and keeps it when the row is taken
-/// out. So `keep_slot` is what takes memory, and each change of the rows after it is certain.
+/// out. So `keep_slot` is what memory may be wanting for, and each change of the rows after it is
+/// certain.
 /// A mark for each slot tells whether it has a row, and sums of blocks of marks give places from
 /// slots and slots from places: the idea of a Fenwick tree (P. M. Fenwick, A new data structure
 /// for cumulative frequency tables, 1994), with one level of sums in place of a tree.
@@ -24,7 +25,7 @@ use std::marker::Model;
 /// time by the number of blocks and the length of one. While no slot is empty, the row at a place is
 /// found at once.
 pub struct EntryList<V> {
-    pub(crate) slots: IndexMap<u64, Option<V>, NumberHash>,
+    pub(crate) slots: NumberTable<Option<V>>,
     pub(crate) live: Marks,
     pub(crate) len: usize,
     // No slot has a greater number.
@@ -48,10 +49,10 @@ impl<V> Model for EntryList<V> {
 
     ghost Value = { Slots V };
 
-    ghost view = { λ a. a.slots.entries };
+    ghost view = { λ a. a.slots };
 
-    ghost invariant = { λ a. AreCounted a.slots.entries a.live a.len
-        × NoneAbove a.greatest a.slots.entries };
+    ghost invariant = { λ a. AreCounted a.slots a.live a.len
+        × NoneAbove a.greatest a.slots };
 }
 
 impl<V> EntryList<V> {
@@ -60,7 +61,7 @@ impl<V> EntryList<V> {
         ensures { result ≡ [] }
     {
         EntryList {
-            slots: IndexMap::with_hasher(alloc, hash),
+            slots: NumberTable::new(alloc, hash),
             live: Marks::new(alloc),
             len: 0,
             greatest: 0,
@@ -74,7 +75,7 @@ impl<V> EntryList<V> {
         ensures none { IfOk result (λ list. list ≡ []) }
     {
         Ok(EntryList {
-            slots: IndexMap::with_capacity_and_hasher(alloc, rows, hash)?,
+            slots: NumberTable::with_room(alloc, hash, rows)?,
             live: Marks::new(alloc),
             len: 0,
             greatest: 0,
@@ -83,12 +84,12 @@ impl<V> EntryList<V> {
 
     /// What the list takes its memory from.
     pub fn allocator(&self) -> Global {
-        *self.slots.allocator()
+        self.slots.allocator()
     }
 
     /// How the list finds numbers.
     pub fn hash(&self) -> NumberHash {
-        *self.slots.hasher()
+        self.slots.hash()
     }
 
     /// The number of rows. No number has two.
@@ -104,11 +105,11 @@ impl<V> EntryList<V> {
     pub fn get(&self, number: u64) -> Option<&V>
         ensures { option_copied result ≡ row_at number self.now }
     {
-        let slot = self.slot_of(number)?;
-        match self.slots.get_index(slot) {
-            Some((_, Some(row))) => Some(row),
-            _ => None,
+        let _slots = self.slots.len();
+        if number > self.greatest {
+            return None;
         }
+        self.slots.get(number)?.as_ref()
     }
 
     /// How many rows stand before the one with the number; none where no row has it.
@@ -128,8 +129,8 @@ impl<V> EntryList<V> {
             return None;
         }
         let slot = self.slot_at(place);
-        match self.slots.get_index(slot) {
-            Some((number, row)) => Some((*number, row.as_ref().unwrap())),
+        match self.slots.at(slot) {
+            Some((number, row)) => Some((number, row.as_ref().unwrap())),
             None => None,
         }
     }
@@ -149,44 +150,14 @@ impl<V> EntryList<V> {
         }
     }
 
-    // The slot that a number has where numbers were given slots one after another, without a gap,
-    // from the first slot on.
-    fn slot_from_first(&self, number: u64) -> usize {
-        match self.slots.first() {
-            Some((first, _)) => number.wrapping_sub(*first) as usize,
-            None => 0,
-        }
-    }
-
-    // The slot that it has where they were so up to the last slot, as the newest numbers mostly are.
-    fn slot_from_last(&self, number: u64) -> usize {
-        match self.slots.last() {
-            Some((last, _)) => {
-                let back = last.wrapping_sub(number) as usize;
-                self.slots.len().wrapping_sub(1).wrapping_sub(back)
-            }
-            None => 0,
-        }
-    }
-
-    // Whether the slot has the number, and a row.
-    fn has_row_at(&self, slot: usize, number: u64) -> bool
-        ensures { result ≡ true → IsRowSlot self.now slot number }
-    {
-        match self.slots.get_index(slot) {
-            Some((key, Some(_))) => *key == number,
-            _ => false,
-        }
-    }
-
     // Whether the number has a slot.
     pub(crate) fn has_slot(&self, number: u64) -> bool
         ensures { IsTrue result ↔ HasSlot self.now number }
     {
-        number <= self.greatest && self.slots.get_index_of(&number).is_some()
+        number <= self.greatest && self.slots.place_of(number).is_some()
     }
 
-    // The slot of the row with the number. It is looked for first where it mostly is, from either end.
+    // The slot of the row with the number.
     pub(crate) fn slot_of(&self, number: u64) -> Option<usize>
         ensures found { IfSome result (λ i. IsRowSlot self.now i number) }
         ensures absent { IfNone result (row_at number self.now ≡ None) }
@@ -194,16 +165,8 @@ impl<V> EntryList<V> {
         if number > self.greatest {
             return None;
         }
-        let guess = self.slot_from_first(number);
-        if self.has_row_at(guess, number) {
-            return Some(guess);
-        }
-        let guess = self.slot_from_last(number);
-        if self.has_row_at(guess, number) {
-            return Some(guess);
-        }
-        let slot = self.slots.get_index_of(&number)?;
-        match self.slots.get_index(slot) {
+        let slot = self.slots.place_of(number)?;
+        match self.slots.at(slot) {
             Some((_, row)) => { if row.is_some() { Some(slot) } else { None } }
             None => None,
         }

@@ -2,16 +2,16 @@
 ghost use Rattle.std.specs.Prelude.{◌≡◌, ◌↔◌, ◌+◌, ◌<◌, ◌≤◌, ℕ, length, None, slice_index, true};
 ghost use Rattle.entry_list.specs.Slots.{rows_of, row_at, marks_of, mark_of as mark_of_row, rows_before, HasMark};
 ghost use Rattle.entry_list.specs.Slots.{HasSlot, KeepsSlots, IsEmptySlot};
-ghost use Rattle.indexmap.specs.IndexMap.{index_map_len};
 
 use crate::list::EntryList;
 use crate::marks::Marks;
-use indexmap::IndexMap;
-use number_hash::NumberHash;
+use number_table::NumberTable;
 
 impl<V> EntryList<V> {
     // Brings the number's empty slot to where a row at the place belongs, and gives the slot.
     pub(crate) fn make_room(&mut self, number: u64, place: usize) -> usize
+    where
+        V: Drop,
         requires slot { HasSlot self.old number }
         requires absent { row_at number self.old ≡ None }
         requires place { place ≤ length (rows_of self.old) }
@@ -45,7 +45,7 @@ impl<V> EntryList<V> {
         ensures empty { IsEmptySlot self.now result number }
         ensures within { result < length self.now }
     {
-        self.slots.get_index_of(&number).unwrap()
+        self.slots.place_of(number).unwrap()
     }
 
     // The slot behind that of the row before the place.
@@ -79,11 +79,13 @@ impl<V> EntryList<V> {
         ensures slots { KeepsSlots self.old self.new }
         ensures empty { IsEmptySlot self.new other number }
     {
-        self.slots.swap_indices(own, other);
+        self.slots.swap(own, other);
     }
 
     // Moves a slot that has no row to another place, and those between by one towards where it was.
     fn move_empty(&mut self, number: u64, from: usize, to: usize)
+    where
+        V: Drop,
         requires own { IsEmptySlot self.old from number }
         requires to { to < length self.old }
         ensures rows { rows_of self.new ≡ rows_of self.old }
@@ -92,7 +94,7 @@ impl<V> EntryList<V> {
         ensures later { from ≤ to → rows_before to self.new ≡ rows_before (to + 1) self.old }
         ensures earlier { to ≤ from → rows_before to self.new ≡ rows_before to self.old }
     {
-        self.slots.move_index(from, to);
+        self.slots.move_row(from, to);
         mark_between(&self.slots, &mut self.live, from.min(to), from.max(to));
     }
 }
@@ -106,29 +108,24 @@ pub(crate) fn mark_of<V>(row: &Option<V>) -> u8
 }
 
 // The mark of the slot.
-fn mark_at<V>(slots: &IndexMap<u64, Option<V>, NumberHash>, slot: usize) -> u8
-    requires { slot < index_map_len slots.now }
-    ensures mark { result ≡ slice_index (marks_of slots.now.entries) slot }
+fn mark_at<V>(slots: &NumberTable<Option<V>>, slot: usize) -> u8
+    requires { slot < length slots.now }
+    ensures mark { result ≡ slice_index (marks_of slots.now) slot }
     ensures small { result ≤ 1 }
 {
-    match slots.get_index(slot) {
+    match slots.at(slot) {
         Some((_, row)) => mark_of(row),
         None => 0,
     }
 }
 
 // Sets the marks from the first to the last slot; those before and behind are right.
-fn mark_between<V>(
-    slots: &IndexMap<u64, Option<V>, NumberHash>,
-    live: &mut Marks,
-    first: usize,
-    last: usize,
-)
-    requires size { length live.old ≡ index_map_len slots.now }
-    requires within { last < index_map_len slots.now }
-    requires before { (k : ℕ) → k < first → HasMark slots.now.entries live.old k }
-    requires behind { (k : ℕ) → last < k → HasMark slots.now.entries live.old k }
-    ensures { live.new ≡ marks_of slots.now.entries }
+fn mark_between<V>(slots: &NumberTable<Option<V>>, live: &mut Marks, first: usize, last: usize)
+    requires size { length live.old ≡ length slots.now }
+    requires within { last < length slots.now }
+    requires before { (k : ℕ) → k < first → HasMark slots.now live.old k }
+    requires behind { (k : ℕ) → last < k → HasMark slots.now live.old k }
+    ensures { live.new ≡ marks_of slots.now }
 {
     let _slots = slots.len();
     for slot in first..last + 1 {

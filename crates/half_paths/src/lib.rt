@@ -8,7 +8,7 @@
 //! Cheong, van Kreveld and Overmars, Computational Geometry, chapter 2.
 //!
 //! A path is told by its halves in order, each seen along the path: the first one, and the rest.
-//! No call makes a list, and none but `add_strings` takes memory.
+//! No call makes a list, and none but `add_strings` can be refused for want of memory.
 #![tactic(auto)]
 
 mod ends;

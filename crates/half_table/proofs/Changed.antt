@@ -1,14 +1,15 @@
 -- A change of one half's links in the rows.
+use Rattle.std.specs.Map.{values_of}
+use Rattle.indexmap.specs.Layout.{set_value_at}
+use Rattle.number_table.specs.Rows.{AreDistinct, HasNumberAt}
+use Rattle.number_table.proofs.Found.{read-at}
+use Rattle.number_table.proofs.Changed.{numbers-set}
+use Rattle.number_table.proofs.CallerLemmas.{updates-set}
 use Rattle.std.proofs.Common.{◌≡◌, ℕ, Bool, true, false, cond, ◌&&◌, refl, sym, ap, ◌∙◌, subst, Option, Some, is_some, option_map, inl, inr, true≢false, nat_eq, if◌then◌else◌, slice_get}
 use Rattle.std.proofs.lemmas.Bool.Decides.{Decides-eqb}
-use Rattle.std.proofs.lemmas.Map.Entries.{lookup_from_place}
-use Rattle.std.proofs.lemmas.Option.{slice_get-map}
-use Rattle.std.specs.Cmp.{nat_eq_equiv}
 use Rattle.std.specs.Bool.{beq}
 use Rattle.std.specs.Map.{lookup}
 use Rattle.std.specs.Option.{option_map_or}
-use Rattle.indexmap.specs.IndexMap.{IndexMap, IsUnique, values, with_value_at}
-use Rattle.indexmap.proofs.CallerLemmas.{keys-with_value_at, updates-with_value_at}
 use Rattle.cad_rows.specs.declared.names.Face.{Face}
 use Rattle.cad_rows.specs.declared.names.Face.TheVariants.{Outside}
 use Rattle.half_table.specs.declared.half.Half.{Half}
@@ -60,17 +61,13 @@ abbrev pub Writes : HalfRows → HalfRows → Half → Links → Links → Type 
 Writes old new h l to = (links_of old h ≡ Some l) × ChangesLinks h to old new
 
 -- the links of a half are written where its string stands
-pub written-at : {S : Type 0} (rows : IndexMap ℕ Ends S) (h : Half) (e now put : Ends) (to : Links) (place : ℕ) → IsUnique nat_eq rows
-    → slice_get rows.entries place ≡ Some (h.string, e) → Some now ≡ slice_get (values rows) place → put ≡ with_links_at h.forward to now
-    → ChangesLinks h to rows.entries (with_value_at rows place put).entries
-written-at rows h e now put to place unique stands value is =
-    let found : slice_get (values rows) place ≡ Some e = slice_get-map (λ (x : ℕ × Ends). x.1) rows.entries place ∙ ap (option_map (λ (x : ℕ × Ends). x.1)) stands in
-    let both : Some now ≡ Some e = value ∙ found in
-    let same : now ≡ e = cc in
-    let updated = updates-with_value_at rows place put nat_eq_equiv unique h.string e stands in
-    written rows.entries _ h to e (lookup_from_place nat_eq_equiv rows.entries place h.string e unique stands)
-    (λ q. updated.0 q ∙ ap (λ (x : Ends). cond (nat_eq h.string q) (Some x) (lookup (nat_eq q) rows.entries)) (is ∙ ap (with_links_at h.forward to) same))
-    (keys-with_value_at rows place put)
+pub written-at : (rows : HalfRows) (h : Half) (now put : Ends) (to : Links) (place : ℕ) → AreDistinct rows
+    → HasNumberAt rows place h.string → slice_get (values_of rows) place ≡ Some now → put ≡ with_links_at h.forward to now
+    → ChangesLinks h to rows (set_value_at rows place put)
+written-at rows h now put to place unique has value is =
+    written rows _ h to now (sym (read-at rows place h.string unique has) ∙ value)
+    (λ q. updates-set rows place h.string has unique put q ∙ ap (λ (x : Ends). cond (nat_eq h.string q) (Some x) (lookup (nat_eq q) rows)) is)
+    (numbers-set rows place put)
 
 module _ {old new : HalfRows} {h : Half} {l to : Links} (w : Writes old new h l to) where
   -- what the change leaves

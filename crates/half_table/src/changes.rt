@@ -8,20 +8,20 @@ ghost use Rattle.half_table.specs.Surgery.{IsUnchanged, IsSpliced, SplicesBack, 
 
 use crate::half::{Half, is_same};
 use crate::links::{Ends, Links};
-use crate::rows::{Rows, next_half, set_face, set_next, set_prev};
+use crate::rows::{Rows, next_half, number_of, set_face, set_next, set_prev};
 use crate::tally::Tally;
 use cad_rows::{Face, Memory, PointNo, StringNo};
 
 /// The nexts of a and b change places, and the prevs of what followed them.
 pub(crate) fn exchange(rows: &mut Rows, a: &Half, b: &Half)
-    requires a_in { has rows.old.entries a.now ≡ true }
-    requires b_in { has rows.old.entries b.now ≡ true }
-    requires linked { IsLinked rows.old.entries }
-    ensures spliced { IsSpliced a.now b.now rows.old.entries rows.new.entries }
-    ensures cycles { SplicesCycles a.now b.now rows.old.entries rows.new.entries }
-    ensures linked { IsLinked rows.new.entries }
-    ensures back { SplicesBack a.now b.now rows.old.entries rows.new.entries }
-    ensures unchanged { a.now ≡ b.now → IsUnchanged rows.old.entries rows.new.entries }
+    requires a_in { has rows.old a.now ≡ true }
+    requires b_in { has rows.old b.now ≡ true }
+    requires linked { IsLinked rows.old }
+    ensures spliced { IsSpliced a.now b.now rows.old rows.new }
+    ensures cycles { SplicesCycles a.now b.now rows.old rows.new }
+    ensures linked { IsLinked rows.new }
+    ensures back { SplicesBack a.now b.now rows.old rows.new }
+    ensures unchanged { a.now ≡ b.now → IsUnchanged rows.old rows.new }
 {
     let after_a = next_half(rows, a);
     let after_b = set_next(rows, b, &after_a);
@@ -32,13 +32,13 @@ pub(crate) fn exchange(rows: &mut Rows, a: &Half, b: &Half)
 
 /// Every half of the cycle of `h` gets the face.
 pub(crate) fn relabel_cycle<T: Tally>(rows: &mut Rows, tally: &mut T, h: &Half, face: &Face)
-    requires h_in { has rows.old.entries h.now ≡ true }
-    requires linked { IsLinked rows.old.entries }
+    requires h_in { has rows.old h.now ≡ true }
+    requires linked { IsLinked rows.old }
     ensures relabels { Relabels
-        (cycle rows.old.entries h.now) face.now rows.old.entries rows.new.entries }
-    ensures linked { IsLinked rows.new.entries }
+        (cycle rows.old h.now) face.now rows.old rows.new }
+    ensures linked { IsLinked rows.new }
     ensures work { T.counted tally.new
-        ≡ ticked (length (cycle rows.old.entries h.now)) (T.counted tally.old) }
+        ≡ ticked (length (cycle rows.old h.now)) (T.counted tally.old) }
     ensures grows { T.counted tally.old ≤ T.counted tally.new }
 {
     let mut at = set_face(rows, h, face);
@@ -56,20 +56,20 @@ pub(crate) fn put_loose(
     from: &PointNo,
     to: &PointNo,
 ) -> Result<(), Memory>
-    requires fresh { has_halves rows.old.entries string.now ≡ false }
-    requires linked { IsLinked rows.old.entries }
+    requires fresh { has_halves rows.old string.now ≡ false }
+    requires linked { IsLinked rows.old }
     ensures adds { OnOk result
-        (AddsLoose string.now from.now to.now rows.old.entries rows.new.entries) }
-    ensures cycle { OnOk result (AddsCycle string.now rows.old.entries rows.new.entries) }
-    ensures entry { OnOk result (rows.new.entries
-        ≡ rows.old.entries ++ (string.now, loose_ends string.now from.now to.now) ∷ []) }
-    ensures linked { IsLinked rows.new.entries }
-    ensures err { OnErr result (rows.new.entries ≡ rows.old.entries) }
+        (AddsLoose string.now from.now to.now rows.old rows.new) }
+    ensures cycle { OnOk result (AddsCycle string.now rows.old rows.new) }
+    ensures entry { OnOk result (rows.new
+        ≡ rows.old ++ (string.now, loose_ends string.now from.now to.now) ∷ []) }
+    ensures linked { IsLinked rows.new }
+    ensures err { OnErr result (rows.new ≡ rows.old) }
 {
     let outside = Face::Outside;
     let forward = lone_links(string, from, &outside, false);
     let backward = lone_links(string, to, &outside, true);
-    rows.insert(*string, Ends { forward, backward })?;
+    rows.push(number_of(string), Ends { forward, backward })?;
     Ok(())
 }
 
@@ -93,14 +93,15 @@ fn lone_links(string: &StringNo, origin: &PointNo, face: &Face, forward: bool) -
 
 /// Takes out a string whose halves are each other's next.
 pub(crate) fn take_loose(rows: &mut Rows, string: &StringNo)
-    requires loose { IsLoose string.now rows.old.entries }
-    requires linked { IsLinked rows.old.entries }
-    ensures removes { RemovesLoose string.now rows.old.entries rows.new.entries }
-    ensures cycle { RemovesCycle string.now rows.old.entries rows.new.entries }
+    requires loose { IsLoose string.now rows.old }
+    requires linked { IsLinked rows.old }
+    ensures removes { RemovesLoose string.now rows.old rows.new }
+    ensures cycle { RemovesCycle string.now rows.old rows.new }
     ensures last { (before : HalfRows) (ends : StringEnds)
-        → rows.old.entries ≡ before ++ (string.now, ends) ∷ []
-        → rows.new.entries ≡ before }
-    ensures linked { IsLinked rows.new.entries }
+        → rows.old ≡ before ++ (string.now, ends) ∷ []
+        → rows.new ≡ before }
+    ensures linked { IsLinked rows.new }
 {
-    rows.swap_remove(string);
+    let place = rows.place_of(number_of(string)).unwrap();
+    rows.swap_remove(place);
 }

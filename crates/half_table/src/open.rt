@@ -33,7 +33,7 @@ impl<T: Tally> Model for OpenTable<T> {
 
     ghost Value = { Table };
 
-    ghost view = { λ t. record { rows = t.rows.entries; work = T.counted t.tally } };
+    ghost view = { λ t. record { rows = t.rows; work = T.counted t.tally } };
 }
 
 impl<T: Tally> OpenTable<T> {

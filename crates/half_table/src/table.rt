@@ -10,12 +10,12 @@ use crate::changes::{exchange, put_loose, relabel_cycle, take_loose};
 use crate::half::Half;
 use crate::links::Links;
 use crate::open::OpenTable;
-use crate::rows::{Rows, find_links};
+use crate::rows::{Rows, find_links, number_of};
 use crate::tally::Tally;
 use crate::walk::{Walk, walk_rows};
 use cad_rows::{Face, Memory, PointNo, StringNo};
-use indexmap::IndexMap;
 use number_hash::NumberHash;
+use number_table::NumberTable;
 use std::alloc::Global;
 use std::marker::Model;
 
@@ -42,9 +42,9 @@ impl<T: Tally> Model for HalfTable<T> {
 
     ghost Value = { Table };
 
-    ghost view = { λ t. record { rows = t.rows.entries; work = T.counted t.tally } };
+    ghost view = { λ t. record { rows = t.rows; work = T.counted t.tally } };
 
-    ghost invariant = { λ t. IsLinked t.rows.entries };
+    ghost invariant = { λ t. IsLinked t.rows };
 }
 
 impl<T: Tally> HalfTable<T> {
@@ -55,7 +55,7 @@ impl<T: Tally> HalfTable<T> {
         ensures work { result.work ≡ T.counted tally }
     {
         HalfTable {
-            rows: IndexMap::with_hasher(alloc, hash),
+            rows: NumberTable::new(alloc, hash),
             tally,
         }
     }
@@ -71,7 +71,7 @@ impl<T: Tally> HalfTable<T> {
         ensures work { IfOk result (λ table. table.work ≡ T.counted tally) }
     {
         Ok(HalfTable {
-            rows: IndexMap::with_capacity_and_hasher(alloc, strings, hash)?,
+            rows: NumberTable::with_room(alloc, hash, strings)?,
             tally,
         })
     }
@@ -90,7 +90,7 @@ impl<T: Tally> HalfTable<T> {
         ensures is { result ≡ has_halves self.now.rows string }
         ensures halves { (forward : Bool) → has self.now.rows (half_of string forward) ≡ result }
     {
-        self.rows.contains_key(&string)
+        self.rows.get(number_of(&string)).is_some()
     }
 
     /// The other half of the same string.

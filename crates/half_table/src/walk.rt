@@ -23,17 +23,17 @@ impl<'a> Model for Walk<'a> {
 
     ghost Value = { List HalfEdge };
 
-    ghost view = { λ w. halves_ahead w.rows.now.entries w.start w.at };
+    ghost view = { λ w. halves_ahead w.rows.now w.start w.at };
 
-    ghost invariant = { λ w. IsWalking w.rows.now.entries w.start w.at };
+    ghost invariant = { λ w. IsWalking w.rows.now w.start w.at };
 }
 
 /// The half after `at`, if the cycle goes on.
 fn half_after(rows: &Rows, start: &Half, at: &Half) -> Option<Half>
-    requires { IsWalking rows.now.entries start.now (Some at.now) }
-    ensures ahead { halves_ahead rows.now.entries start.now (Some at.now)
-        ≡ at.now ∷ halves_ahead rows.now.entries start.now result }
-    ensures walking { IsWalking rows.now.entries start.now result }
+    requires { IsWalking rows.now start.now (Some at.now) }
+    ensures ahead { halves_ahead rows.now start.now (Some at.now)
+        ≡ at.now ∷ halves_ahead rows.now start.now result }
+    ensures walking { IsWalking rows.now start.now result }
 {
     let after = next_half(rows, at);
     if is_same(&after, start) {
@@ -45,9 +45,9 @@ fn half_after(rows: &Rows, start: &Half, at: &Half) -> Option<Half>
 
 /// Walks the cycle of `h`.
 pub(crate) fn walk_rows<'a>(rows: &'a Rows, h: &Half) -> Walk<'a>
-    requires h_in { has rows.now.entries h.now ≡ true }
-    requires linked { IsLinked rows.now.entries }
-    ensures { result ≡ cycle rows.now.entries h.now }
+    requires h_in { has rows.now h.now ≡ true }
+    requires linked { IsLinked rows.now }
+    ensures { result ≡ cycle rows.now h.now }
 {
     Walk {
         rows,

@@ -2,18 +2,16 @@
 use Rattle.std.proofs.Common.{◌≡◌, ◌≢◌, ◌∙◌, sym, ap, subst, ℕ, [], Some, None, option_map, unwrap_or, slice_get, nat_eq, true, false, ◌⊎◌, inl, inr, Result, Ok, Err}
 use Rattle.std.specs.Prelude.{OnErr}
 use Rattle.std.specs.Global.{Vec}
-use Rattle.std.specs.List.{IsDistinct}
-use Rattle.std.specs.Map.{keys_of, values_of}
+use Rattle.std.specs.Map.{values_of}
 use Rattle.std.proofs.Math.Dec.{eqb}
-use Rattle.std.proofs.lemmas.Bool.{ne_eqb}
+use Rattle.std.proofs.lemmas.Bool.{ne_eqb, eq-eqb}
+use Rattle.std.proofs.Common.{refl}
+use Rattle.number_table.specs.Rows.{AreDistinct}
+use Rattle.number_table.proofs.Found.{read-at}
+use Rattle.number_table.proofs.CallerLemmas.{updates-set}
 use Rattle.std.proofs.lemmas.Bool.Decides.{eqb_tells}
-use Rattle.std.proofs.lemmas.Cmp.{nat_eq_equiv}
-use Rattle.std.proofs.lemmas.Map.Entries.{lookup_from_place}
-use Rattle.std.proofs.lemmas.Option.{slice_get-map}
-use Rattle.indexmap.specs.IndexMap.{IndexMap}
 use Rattle.indexmap.specs.Layout.{set_value_at}
-use Rattle.indexmap.proofs.CallerLemmas.{updates-with_value_at}
-use Rattle.key_lists.specs.Held.{Held, list_at, items_at, KeepsOthers, IsSame, NoneAbove}
+use Rattle.key_lists.specs.Held.{Held, list_at, items_at, KeepsOthers, IsSame, NoneAbove, IsUnderAt}
 
 module _ {X : Type 0} where
   pub record IsWritten (old new : Held X) (key : ℕ) (list other : Vec X) : Type 0 where
@@ -21,22 +19,15 @@ module _ {X : Type 0} where
     pub is : list_at new key ≡ Some other
     pub others : KeepsOthers key old new
 
-  -- what is read at a place is the list that stands there
-  read : (held : Held X) (place key : ℕ) (list found : Vec X) → slice_get held place ≡ Some (key, list)
-      → Some found ≡ slice_get (values_of held) place → Some found ≡ Some list
-  read held place key list found at value =
-      value ∙ slice_get-map (λ (e : ℕ × Vec X). e.1) held place ∙ ap (option_map (λ (e : ℕ × Vec X). e.1)) at
-
-  pub written : {S : Type 0} (m : IndexMap ℕ (Vec X) S) (place key : ℕ) (list found other : Vec X)
-      → slice_get m.entries place ≡ Some (key, list) → Some found ≡ slice_get (values_of m.entries) place
-      → IsDistinct nat_eq (keys_of m.entries)
-      → IsWritten m.entries (set_value_at m.entries place other) key found other
-  written m place key list found other at value unique =
-      let one = updates-with_value_at m place other nat_eq_equiv unique key list at in
+  pub written : (held : Held X) (place key : ℕ) (found other : Vec X) → IsUnderAt held place key
+      → slice_get (values_of held) place ≡ Some found → AreDistinct held → IsWritten held (set_value_at held place other) key found other
+  written held place key found other under value distinct =
+      let now = updates-set held place key under distinct other in
+      let same : nat_eq key key ≡ true = eq-eqb key key refl in
       record {
-        was = lookup_from_place nat_eq_equiv m.entries place key list unique at ∙ sym (read m.entries place key list found at value);
-        is = one.1;
-        others = λ q apart. one.2 q (ne_eqb key q apart);
+        was = sym (read-at held place key distinct under) ∙ value;
+        is = rw same at (now key);
+        others = λ q apart. rw (ne_eqb key q apart) at (now q);
       }
 
   -- with the same items the items under every key are as they were

@@ -1,7 +1,8 @@
 -- Lists under keys, and the room that each has.
-use Rattle.std.specs.Prelude.{◌≡◌, ℕ, ◌+◌, ◌<◌, ◌≤◌, vec_capacity, List, [], length, Option, nat_eq, option_map, unwrap_or, slice_get, Some, None}
+use Rattle.std.specs.Prelude.{◌≡◌, ℕ, ◌+◌, ◌<◌, ◌≤◌, vec_capacity, List, [], length, Option, nat_eq, option_map, unwrap_or, None}
 use Rattle.std.specs.Map.{lookup}
 use Rattle.std.specs.Global.{Vec}
+use Rattle.number_table.specs.Rows.{HasNumberAt}
 
 -- under each key that was ever given room a list
 abbrev pub Held : Type 0 → Type 0
@@ -38,4 +39,4 @@ module _ {X : Type 0} where
 
   -- the list at the place is that under the key
   abbrev pub IsUnderAt : Held X → ℕ → ℕ → Type 0
-  IsUnderAt held place key = (list : Vec X) × (slice_get held place ≡ Some (key, list))
+  IsUnderAt held place key = HasNumberAt held place key

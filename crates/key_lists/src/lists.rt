@@ -2,8 +2,8 @@
 ghost use Rattle.std.specs.Prelude.{◌≡◌, ◌≤◌, ◌<◌, ◌++◌, ◌∷◌, [], length, option_copied, IsOk, IfOk, OnOk, OnErr, slice_set, slice_get, Some, None, swap_remove, true, IfSome, IfNone};
 ghost use Rattle.key_lists.specs.Held.{items_at, list_at, capacity_at, HasRoomAt, KeepsOthers, IsSame, IsUnderAt};
 
-use indexmap::IndexMap;
 use number_hash::NumberHash;
+use number_table::NumberTable;
 use std::alloc::{AllocError, Global};
 use std::marker::Model;
 
@@ -11,10 +11,9 @@ use std::marker::Model;
 ///
 /// Only `reserve` and `push` take memory, and `reserve` changes no item. A key keeps its list with
 /// its room, also where no item is left, so a change that is taken back needs no memory either. Each
-/// call but those two takes a look into the table, and no time by the length of the list; none is
-/// taken where the key is above all that were given room.
+/// call but those two takes a look into the table, and no time by the length of the list.
 pub struct KeyLists<X: Copy> {
-    lists: IndexMap<u64, Vec<X>, NumberHash>,
+    lists: NumberTable<Vec<X>>,
     // No key above it was ever given room.
     greatest: u64,
 }
@@ -34,9 +33,9 @@ impl<X: Copy> Model for KeyLists<X> {
 
     ghost Value = { Held X };
 
-    ghost view = { λ a. a.lists.entries };
+    ghost view = { λ a. a.lists };
 
-    ghost invariant = { λ a. NoneAbove a.greatest a.lists.entries };
+    ghost invariant = { λ a. NoneAbove a.greatest a.lists };
 }
 
 impl<X: Copy> KeyLists<X> {
@@ -45,7 +44,7 @@ impl<X: Copy> KeyLists<X> {
         ensures { result ≡ [] }
     {
         KeyLists {
-            lists: IndexMap::with_hasher(alloc, hash),
+            lists: NumberTable::new(alloc, hash),
             greatest: 0,
         }
     }
@@ -56,42 +55,12 @@ impl<X: Copy> KeyLists<X> {
         ensures succeeds { keys ≡ 0 → IsOk result }
     {
         Ok(KeyLists {
-            lists: IndexMap::with_capacity_and_hasher(alloc, keys, hash)?,
+            lists: NumberTable::with_room(alloc, hash, keys)?,
             greatest: 0,
         })
     }
 
-    // Where a key stands if the keys from the second on came one after another, without a gap. The
-    // first may stand apart from them.
-    fn place_from_second(&self, key: u64) -> usize {
-        match self.lists.get_index(1) {
-            Some((second, _)) => key.wrapping_sub(*second).wrapping_add(1) as usize,
-            None => 0,
-        }
-    }
-
-    // Where it stands if they did up to the last, as the newest keys mostly do.
-    fn place_from_last(&self, key: u64) -> usize {
-        match self.lists.last() {
-            Some((last, _)) => {
-                let back = last.wrapping_sub(key) as usize;
-                self.lists.len().wrapping_sub(1).wrapping_sub(back)
-            }
-            None => 0,
-        }
-    }
-
-    // Whether the list at a place is that under a key.
-    fn is_at(&self, place: usize, key: u64) -> bool
-        ensures { result ≡ true → IsUnderAt self.now place key }
-    {
-        match self.lists.get_index(place) {
-            Some((other, _)) => *other == key,
-            None => false,
-        }
-    }
-
-    // The place of the list under a key. It is looked for first where it mostly is, from either end.
+    // The place of the list under a key.
     fn place_of(&self, key: u64) -> Option<usize>
         ensures there { IfSome result (λ place. IsUnderAt self.now place key) }
         ensures none { IfNone result (list_at self.now key ≡ None) }
@@ -99,32 +68,14 @@ impl<X: Copy> KeyLists<X> {
         if key > self.greatest {
             return None;
         }
-        let guess = self.place_from_second(key);
-        if self.is_at(guess, key) {
-            return Some(guess);
-        }
-        let guess = self.place_from_last(key);
-        if self.is_at(guess, key) {
-            return Some(guess);
-        }
-        let (place, _, _) = self.lists.get_full(&key)?;
-        Some(place)
+        self.lists.place_of(key)
     }
 
     // The list under a key. What reads mostly finds it at the first guess.
     fn find(&self, key: u64) -> Option<&Vec<X>>
         ensures { option_copied result ≡ list_at self.now key }
     {
-        if let Some((other, list)) = self.lists.get_index(self.place_from_second(key)) {
-            if *other == key {
-                return Some(list);
-            }
-        }
-        let place = self.place_of(key)?;
-        match self.lists.get_index(place) {
-            Some((_, list)) => Some(list),
-            None => None,
-        }
+        self.lists.get(key)
     }
 
     /// The items under a key.
@@ -147,7 +98,7 @@ impl<X: Copy> KeyLists<X> {
         ensures err { OnErr result (IsSame self.old self.new) }
         ensures err_room { OnErr result (capacity_at self.new key ≡ capacity_at self.old key) }
     {
-        let items = self.lists.get_index_mut(place).unwrap();
+        let items = self.lists.value_at(place);
         items.reserve(1)?;
         items.push_reserved(item);
         Ok(())
@@ -163,7 +114,7 @@ impl<X: Copy> KeyLists<X> {
         ensures had_room { HasRoomAt self.old key more → IsOk result }
         ensures err { OnErr result (capacity_at self.new key ≡ capacity_at self.old key) }
     {
-        let items = self.lists.get_index_mut(place).unwrap();
+        let items = self.lists.value_at(place);
         items.reserve(more)
     }
 
@@ -184,9 +135,9 @@ impl<X: Copy> KeyLists<X> {
         if let Some(place) = self.place_of(key) {
             return self.reserve_at(place, key, more);
         }
-        let mut list = Vec::new(*self.lists.allocator());
+        let mut list = Vec::new(self.lists.allocator());
         list.reserve(more)?;
-        self.lists.insert(key, list)?;
+        self.lists.push(key, list)?;
         self.greatest = self.greatest.max(key);
         Ok(())
     }
@@ -204,15 +155,11 @@ impl<X: Copy> KeyLists<X> {
         if let Some(place) = self.place_of(key) {
             return self.push_at(place, key, item);
         }
-        let mut list = Vec::new(*self.lists.allocator());
+        let mut list = Vec::new(self.lists.allocator());
         list.push(item)?;
-        match self.lists.insert(key, list) {
-            Ok(_) => {
-                self.greatest = self.greatest.max(key);
-                Ok(())
-            }
-            Err(full) => Err(AllocError::from(full)),
-        }
+        self.lists.push(key, list)?;
+        self.greatest = self.greatest.max(key);
+        Ok(())
     }
 
     /// Puts an item behind those under a key that has room for it. It takes no memory.
@@ -223,7 +170,7 @@ impl<X: Copy> KeyLists<X> {
         ensures others { KeepsOthers key self.old self.new }
     {
         let place = self.place_of(key).unwrap();
-        let items = self.lists.get_index_mut(place).unwrap();
+        let items = self.lists.value_at(place);
         items.push_reserved(item);
     }
 
@@ -238,7 +185,7 @@ impl<X: Copy> KeyLists<X> {
         ensures others { KeepsOthers key self.old self.new }
     {
         let found = self.place_of(key).unwrap();
-        let items = self.lists.get_index_mut(found).unwrap();
+        let items = self.lists.value_at(found);
         let _length = items.len();
         items.swap_remove(place)
     }
@@ -251,7 +198,7 @@ impl<X: Copy> KeyLists<X> {
         ensures others { KeepsOthers key self.old self.new }
     {
         let found = self.place_of(key).unwrap();
-        let items = self.lists.get_index_mut(found).unwrap();
+        let items = self.lists.value_at(found);
         items[place] = item;
     }
 }

@@ -15,7 +15,7 @@ loop-slot-init g c = record {
 pub loop-slot-preserved : goal.loop-slot-preserved
 loop-slot-preserved g c =
     let xs = c.loop-slot.live in
-    let ys = marks_of c.args.slots.now.entries in
+    let ys = marks_of c.args.slots.now in
     let i = c.loop-slot.slot in
     let y = c.mark_at-mark.result in
     let w = c.loop-slot.invariant in
@@ -29,7 +29,7 @@ loop-slot-preserved g c =
 pub returns : goal.returns
 returns g c =
     let xs = c.loop-slot.live in
-    let es = c.args.slots.now.entries in
+    let es = c.args.slots.now in
     let w = c.loop-slot.invariant in
     agree-all c.loop-slot.slot c.args.last xs (marks_of es) (w.size ∙ sym (length-marks es))
     (omega (arith, c.loop-slot-test.false)) w.before w.behind

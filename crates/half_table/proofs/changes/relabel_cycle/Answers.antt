@@ -7,7 +7,7 @@ use Rattle.half_table.proofs.changes.relabel_cycle.Goals as goal
 
 pub loop-at-init : goal.loop-at-init
 loop-at-init g c =
-    begun c.args.rows.now.entries c.set_face-at.new.rows.entries c.args.h.now c.set_face-at.result c.args.face.now _ _ c.requires.linked c.requires.h_in
+    begun c.args.rows.now c.set_face-at.new.rows c.args.h.now c.set_face-at.result c.args.face.now _ _ c.requires.linked c.requires.h_in
     c.set_face-at.ensures.changes c.tick.ensures c.set_face-at.ensures.next
 
 pub set_face-at-requires-in-loop-at : goal.set_face-at-requires-in-loop-at
@@ -16,12 +16,12 @@ set_face-at-requires-in-loop-at g c = c.loop-at.invariant.relabels.has c.loop-at
 pub loop-at-smaller : goal.loop-at-smaller
 loop-at-smaller g c =
     let other : is_half c.loop-at.at c.args.h.now ≡ false = sym c.is_same.ensures ∙ c.loop-at-test.true in
-    fewer _ _ _ _ _ _ _ c.loop-at.invariant c.set_face-at-in-loop-at.result c.set_face-at-in-loop-at.new.rows.entries other c.set_face-at-in-loop-at.ensures.changes c.set_face-at-in-loop-at.ensures.next
+    fewer _ _ _ _ _ _ _ c.loop-at.invariant c.set_face-at-in-loop-at.result c.set_face-at-in-loop-at.new.rows other c.set_face-at-in-loop-at.ensures.changes c.set_face-at-in-loop-at.ensures.next
 
 pub loop-at-preserved : goal.loop-at-preserved
 loop-at-preserved g c =
     let other : is_half c.loop-at.at c.args.h.now ≡ false = sym c.is_same.ensures ∙ c.loop-at-test.true in
-    further _ _ _ _ _ _ _ c.loop-at.invariant c.set_face-at-in-loop-at.new.rows.entries c.set_face-at-in-loop-at.result _ c.requires.linked other
+    further _ _ _ _ _ _ _ c.loop-at.invariant c.set_face-at-in-loop-at.new.rows c.set_face-at-in-loop-at.result _ c.requires.linked other
     c.set_face-at-in-loop-at.ensures.changes c.tick-in-loop-at.ensures c.set_face-at-in-loop-at.ensures.next
 
 pub returns-clause-relabels : goal.returns-clause-relabels
@@ -36,4 +36,4 @@ returns-clause-work g c = (ended _ _ _ _ _ _ _ c.loop-at.invariant (sym c.is_sam
 pub returns-clause-grows : goal.returns-clause-grows
 returns-clause-grows g c =
     let work = (ended _ _ _ _ _ _ _ c.loop-at.invariant (sym c.is_same.ensures ∙ c.loop-at-test.false)).1 in
-    subst (λ n. g.T.Tally.counted c.args.tally.now ≤ n) (sym work) (ticked-no-less (length (cycle c.args.rows.now.entries c.args.h.now)) (g.T.Tally.counted c.args.tally.now) (g.met.T.Tally.within c.args.tally.now)).0
+    subst (λ n. g.T.Tally.counted c.args.tally.now ≤ n) (sym work) (ticked-no-less (length (cycle c.args.rows.now c.args.h.now)) (g.T.Tally.counted c.args.tally.now) (g.met.T.Tally.within c.args.tally.now)).0

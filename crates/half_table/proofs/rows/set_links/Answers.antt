@@ -4,5 +4,5 @@ use Rattle.half_table.proofs.rows.set_links.Goals as goal
 
 pub returns : goal.returns
 returns c =
-    links-put c.args.rows.now.entries c.change_links.new.rows.entries c.args.h.now c.change_links.result c.args.prev.now c.args.next.now c.args.face.now
+    links-put c.args.rows.now c.change_links.new.rows c.args.h.now c.change_links.result c.args.prev.now c.args.next.now c.args.face.now
     (c.change_links.ensures.was, search rules)

@@ -15,7 +15,7 @@ going rows start at after n run is other =
     (ap (λ l. at ∷ l) (ap (orbit (next rows) n start) (sym is) ∙ m.0), m.1)
 
 pub returns-else-is_same-clause-ahead : goal.returns-else-is_same-clause-ahead
-returns-else-is_same-clause-ahead c = (going c.args.rows.now.entries c.args.start.now c.args.at.now c.next_half-after.result (length (halves c.args.rows.now.entries)) c.requires c.next_half-after.ensures (sym c.is_same.ensures ∙ c.if-is_same.false)).0
+returns-else-is_same-clause-ahead c = (going c.args.rows.now c.args.start.now c.args.at.now c.next_half-after.result (length (halves c.args.rows.now)) c.requires c.next_half-after.ensures (sym c.is_same.ensures ∙ c.if-is_same.false)).0
 
 pub returns-else-is_same-clause-walking : goal.returns-else-is_same-clause-walking
-returns-else-is_same-clause-walking c = (going c.args.rows.now.entries c.args.start.now c.args.at.now c.next_half-after.result (length (halves c.args.rows.now.entries)) c.requires c.next_half-after.ensures (sym c.is_same.ensures ∙ c.if-is_same.false)).1
+returns-else-is_same-clause-walking c = (going c.args.rows.now c.args.start.now c.args.at.now c.next_half-after.result (length (halves c.args.rows.now)) c.requires c.next_half-after.ensures (sym c.is_same.ensures ∙ c.if-is_same.false)).1

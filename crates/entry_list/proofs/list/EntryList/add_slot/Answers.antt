@@ -1,26 +1,22 @@
-use Rattle.std.proofs.Common.{◌≡◌, None, ◌∙◌, sym, nat_eq, [], ◌∷◌, ◌++◌, arith}
+use Rattle.std.proofs.Common.{◌≡◌, ◌∙◌, sym, [], ◌∷◌, ◌++◌, arith}
 use Rattle.std.proofs.lemmas.Bool.{ne_eqb}
-use Rattle.std.specs.Map.{lookup}
-use Rattle.indexmap.proofs.CallerLemmas.{insert_entry-new}
 use Rattle.entry_list.proofs.Rows.{marks-push, rows-push, length-push, rows-le}
-use Rattle.entry_list.proofs.Found.{not-there}
 use Rattle.entry_list.proofs.list.EntryList.add_slot.Goals.{In-Ok}
 use Rattle.entry_list.proofs.list.EntryList.add_slot.Goals as goal
 
 -- the number's slot comes last
-slots_are : (g : _) (c : goal.In-Ok g) → c.insert.new.self.entries ≡ c.self.inside.slots.entries ++ (c.args.number, c.args.row) ∷ []
+slots_are : (g : _) (c : goal.In-Ok g) → c.push-2.new.self ≡ c.self.inside.slots ++ (c.args.number, c.args.row) ∷ []
 slots_are g c =
-    let es = c.self.inside.slots.entries in
+    let es = c.self.inside.slots in
     let n = c.args.number in
-    let z : lookup (nat_eq n) es ≡ None = not-there (lookup (nat_eq n) es) (rw c.self.view_is c.requires) in
-    c.in-Ok.ensures.entries ∙ insert_entry-new nat_eq c.self.inside.slots n c.args.row z
+    c.in-Ok.ensures.rows
 
 pub overflow_add-self : goal.overflow_add-self
 overflow_add-self g c =
     omega (
       arith,
       c.self.invariant.0.1,
-      rows-le c.self.inside.slots.entries,
+      rows-le c.self.inside.slots,
       c.len-slots.ensures.len,
       c.len-slots.ensures.small,
       c.mark_of-mark.ensures.small,
@@ -28,7 +24,7 @@ overflow_add-self g c =
 
 pub invariant_of-self-in-Ok : goal.invariant_of-self-in-Ok
 invariant_of-self-in-Ok g c =
-    let es = c.self.inside.slots.entries in
+    let es = c.self.inside.slots in
     let n = c.args.number in
     let e = slots_are g (goal.at.invariant_of-self-in-Ok g c).In-Ok in (
       (
@@ -36,7 +32,7 @@ invariant_of-self-in-Ok g c =
             (sym (marks-push es n c.args.row)),
         rw (e, c.self.invariant.0.1, c.mark_of-mark.ensures.mark) (sym (length-push es n c.args.row)),
       ),
-      λ q more. c.in-Ok.ensures.updates.2 q (ne_eqb n q (λ same. absurd (omega (arith, same, more)))) ∙ c.self.invariant.1 q (omega (arith, more)),
+      λ q more. (rw (ne_eqb n q (λ same. absurd (omega (arith, same, more)))) at (c.in-Ok.ensures.updates q)) ∙ c.self.invariant.1 q (omega (arith, more)),
     )
 
 pub returns-in-Ok-clause-added : goal.returns-in-Ok-clause-added
@@ -46,4 +42,4 @@ returns-in-Ok-clause-added g c =
 pub returns-in-Ok-clause-rows : goal.returns-in-Ok-clause-rows
 returns-in-Ok-clause-rows g c =
     rw (slots_are g (goal.at.returns-in-Ok-clause-rows g c).In-Ok, ← c.self.view_is)
-    (rows-push c.self.inside.slots.entries c.args.number c.args.row)
+    (rows-push c.self.inside.slots c.args.number c.args.row)

@@ -6,7 +6,7 @@ use Rattle.entry_list.proofs.list.EntryList.has_empty_slot.Goals as goal
 
 pub returns-then-self-len : goal.returns-then-self-len
 returns-then-self-len g c =
-    let es = c.self.inside.slots.entries in
+    let es = c.self.inside.slots in
     let full : length (rows_of es) ≡ length es = sym c.self.invariant.0.1 ∙ c.if-self-len.true ∙ c.len.ensures.len in
     let none : lookup (nat_eq c.args.number) (rows_of es) ≡ None = rw c.self.view_is c.requires in
     let no : HasSlot c.args.self.now c.args.number → ⊥ = λ slot. no-empty c.args.number es full none (rw c.self.view_is slot) in

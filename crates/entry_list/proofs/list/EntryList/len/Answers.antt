@@ -3,4 +3,4 @@ use Rattle.entry_list.proofs.list.EntryList.len.Goals as goal
 
 pub returns-clause-distinct : goal.returns-clause-distinct
 returns-clause-distinct g c =
-    rw (← c.self.view_is) (rows-distinct c.self.inside.slots.entries c.len-slots.ensures.unique)
+    rw (← c.self.view_is) (rows-distinct c.self.inside.slots c.len-slots.ensures.distinct)

@@ -4,21 +4,21 @@ use Rattle.entry_list.proofs.Rows.{length-marks}
 use Rattle.entry_list.proofs.EmptySlots.{MovesEmpty, move-empty, empty-within}
 use Rattle.entry_list.proofs.list.EntryList.move_empty.Goals as goal
 
-pub move_index-requires-clause-from_in_bounds : goal.move_index-requires-clause-from_in_bounds
-move_index-requires-clause-from_in_bounds g c =
-    empty-within c.args.from c.args.number c.self.inside.slots.entries
+pub move_row-requires-clause-from_within : goal.move_row-requires-clause-from_within
+move_row-requires-clause-from_within g c =
+    empty-within c.args.from c.args.number c.self.inside.slots
     (rw c.self.view_is c.requires.own)
 
 pub mark_between-requires : goal.mark_between-requires
 mark_between-requires g c =
-    let es = c.self.inside.slots.entries in
+    let es = c.self.inside.slots in
     let from = c.args.from in
     let to = c.args.to in
     let n = c.args.number in
     let h : IsEmptySlot es from n = rw c.self.view_is c.requires.own in
     let inside : to < length es = rw c.self.view_is c.requires.to in
-    let k : MovesEmpty es c.move_index.new.self.entries from to n
-    = rw c.move_index.ensures.entries (move-empty from to n es h inside) in
+    let k : MovesEmpty es c.move_row.new.self from to n
+    = rw c.move_row.ensures.rows (move-empty from to n es h inside) in
     record {
       size = ap length c.self.invariant.0.0 ∙ (length-marks es ∙ sym k.long);
       within = omega (arith, empty-within from n es h, inside, k.long);
@@ -28,18 +28,18 @@ mark_between-requires g c =
 
 pub invariant_of-self : goal.invariant_of-self
 invariant_of-self g c =
-    let es = c.self.inside.slots.entries in
+    let es = c.self.inside.slots in
     let h : IsEmptySlot es c.args.from c.args.number = rw c.self.view_is c.requires.own in
-    let k : MovesEmpty es c.move_index.new.self.entries c.args.from c.args.to c.args.number
-    = rw c.move_index.ensures.entries (move-empty _ _ _ es h (rw c.self.view_is c.requires.to)) in
-    ((c.mark_between.ensures, rw k.rows c.self.invariant.0.1), λ n more. c.move_index.ensures.reordered.2 n ∙ c.self.invariant.1 n more)
+    let k : MovesEmpty es c.move_row.new.self c.args.from c.args.to c.args.number
+    = rw c.move_row.ensures.rows (move-empty _ _ _ es h (rw c.self.view_is c.requires.to)) in
+    ((c.mark_between.ensures, rw k.rows c.self.invariant.0.1), λ n more. c.move_row.ensures.same n ∙ c.self.invariant.1 n more)
 
 pub returns : goal.returns
 returns g c =
-    let es = c.self.inside.slots.entries in
+    let es = c.self.inside.slots in
     let h : IsEmptySlot es c.args.from c.args.number = rw c.self.view_is c.requires.own in
-    let k : MovesEmpty es c.move_index.new.self.entries c.args.from c.args.to c.args.number
-    = rw c.move_index.ensures.entries (move-empty _ _ _ es h (rw c.self.view_is c.requires.to)) in
+    let k : MovesEmpty es c.move_row.new.self c.args.from c.args.to c.args.number
+    = rw c.move_row.ensures.rows (move-empty _ _ _ es h (rw c.self.view_is c.requires.to)) in
     record {
       rows = rw (← c.self.view_is) k.rows;
       slots = search rules;

@@ -6,7 +6,7 @@ pub returns-clause-place : goal.returns-clause-place
 returns-clause-place g c =
     let i = c.in_ok-slot.slot in
     let n = c.args.number in
-    let r : IsRowSlot c.self.inside.slots.entries i n =
+    let r : IsRowSlot c.self.inside.slots i n =
     rw c.self.view_is c.in_ok-slot.ensures.found in
     rw (c.count_before.ensures.value, c.self.invariant.0.0, ← c.self.view_is)
-    (number-place n i c.self.inside.slots.entries r)
+    (number-place n i c.self.inside.slots r)

@@ -10,7 +10,7 @@ place_of-requires g c =
     omega (
       arith,
       ap (λ s. length (rows_of s)) c.self.view_is,
-      count-all c.self.inside.slots.entries c.self.inside.live c.self.invariant.0.0,
+      count-all c.self.inside.slots c.self.inside.live c.self.invariant.0.0,
     )
 
 pub returns-clause-before : goal.returns-clause-before
@@ -27,5 +27,5 @@ returns-then-place-eq0-clause-before g c =
 
 pub overflow_add-result : goal.overflow_add-result
 overflow_add-result g c =
-    let e = ap length c.self.invariant.0.0 ∙ length-marks c.self.inside.slots.entries in
+    let e = ap length c.self.invariant.0.0 ∙ length-marks c.self.inside.slots in
     omega (arith, e, c.place_of.ensures.within, c.len-slots.ensures.len, c.len-slots.ensures.small)

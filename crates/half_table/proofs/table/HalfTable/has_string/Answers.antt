@@ -6,5 +6,5 @@ use Rattle.half_table.proofs.table.HalfTable.has_string.Goals as goal
 
 pub returns-clause-halves : goal.returns-clause-halves
 returns-clause-halves g c =
-    let is : c.contains_key.result ≡ has_halves c.args.self.now.rows c.args.string = search rules in
+    let is : c.is_some.result ≡ has_halves c.args.self.now.rows c.args.string = search rules in
     λ forward. has-string c.args.self.now.rows (half_of c.args.string forward) ∙ sym is

@@ -1,0 +1,3 @@
+pub mod CallerLemmas
+pub mod Changed
+pub mod Found
