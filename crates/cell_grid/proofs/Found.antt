@@ -3,18 +3,20 @@ use Rattle.std.proofs.Common.{◌≡◌, ℕ, zero, suc, ◌-◌, ◌<◌, List,
 use Rattle.std.specs.Prelude.{if◌then◌else◌}
 use Rattle.std.specs.List.{Contains}
 use Rattle.std.specs.Map.{lookup}
-use Rattle.geo_exact.specs.Position.{OnTheMap}
+use Rattle.geo_exact.specs.Position.{Position, OnTheMap}
+use Rattle.geo_exact.specs.SignTest.{boxes_overlap}
 use Rattle.cell_grid.specs.declared.block.CellSize.{CellSize}
 use Rattle.cell_grid.specs.declared.entry.Entry.{Entry}
 use Rattle.cell_grid.specs.declared.held_list.HeldList.{HeldList}
-use Rattle.cell_grid.specs.declared.near.Query.{Query}
+use Rattle.cell_grid.specs.Bounds.{bounds_of, is_near}
 use Rattle.cell_grid.specs.declared.near.Scope.{Scope}
 use Rattle.cell_grid.specs.Cells.{IsCellOf, cell_count, cell_at, is_cell_of}
 use Rattle.cell_grid.specs.Held.{HeldEntries, entries_at, cell_list as list_of, cell_in_turn, list_in_turn}
 use Rattle.cell_grid.specs.Spread.{IsSpread, Stands}
-use Rattle.cell_grid.specs.Near.{is_near, IsScope, searched_count, searched_list, lists_from}
+use Rattle.cell_grid.specs.Near.{IsScope, searched_count, searched_list, lists_from}
 use Rattle.cell_grid.proofs.Placed.{one_cell}
 use Rattle.cell_grid.proofs.Blocks.{cell-found, cell-told}
+use Rattle.cell_grid.proofs.Bounded.{is_near-is}
 use Rattle.cell_grid.proofs.Nearness.{joined-has, joined-from}
 
 -- ---- The near ones of a list
@@ -90,7 +92,11 @@ at_key (p ∷ es) cell l is = by (nat_eq cell p.0) refl (at_key es cell l)
         let f = rest (sym on ∙ is) in
         record { k = suc f.k; within = omega (arith, f.within); is = f.is }
 
-module _ (lists : HeldEntries) (q : Query) (s : Scope) where
+module _ (lists : HeldEntries) (from to : Position) (s : Scope) where
+  -- what the search gives from its beginning on
+  abbrev given : List Entry
+  given = filter (is_near (bounds_of from to)) (lists_from lists s 0)
+
   list-stands : (k : ℕ) (e : Entry) → Contains (searched_list lists s k) e → Stands lists e
   list-stands k e h = by s.all h
     where
@@ -104,12 +110,12 @@ module _ (lists : HeldEntries) (q : Query) (s : Scope) where
       by true t = in_turn (is_cell_of s.block (cell_in_turn lists k)) t
       by false t = (cell_at s.block k, t)
 
-  pub given-stands : (e : Entry) → Contains (filter (is_near q) (lists_from lists s 0)) e
-      → Stands lists e × (is_near q e ≡ true)
+  pub given-stands : (e : Entry) → Contains given e
+      → Stands lists e × (boxes_overlap from to e.from e.to ≡ true)
   given-stands e h =
-      let f = near-from (is_near q) (lists_from lists s 0) e h in
+      let f = near-from (is_near (bounds_of from to)) (lists_from lists s 0) e h in
       let j = joined-from (searched_list lists s) e 0 (searched_count lists s - 0) f.0 in
-      (list-stands j.0 e j.1, f.1)
+      (list-stands j.0 e j.1, sym (is_near-is from to e) ∙ f.1)
 
   -- the place of a cell with an entry, in turn
   turn-of : (cell : ℕ) (e : Entry) → Contains (entries_at lists cell) e → HasKey lists cell
@@ -119,16 +125,16 @@ module _ (lists : HeldEntries) (q : Query) (s : Scope) where
       by None is = let none = rw is at h in absurd (omega (arith, none.1))
       by (Some l) is = at_key lists cell l is
 
-  module _ (size : CellSize) (spread : IsSpread size lists) (is : IsScope size q s)
-      (on_from : OnTheMap q.from) (on_to : OnTheMap q.to) where
-    list-of : (e : Entry) → Stands lists e → is_near q e ≡ true
+  module _ (size : CellSize) (spread : IsSpread size lists) (is : IsScope size from to s)
+      (on_from : OnTheMap from) (on_to : OnTheMap to) where
+    list-of : (e : Entry) → Stands lists e → boxes_overlap from to e.from e.to ≡ true
         → (k : ℕ) × (k < searched_count lists s) × Contains (searched_list lists s k) e
     list-of e stands near = found s.all
       where
         one : (cell : ℕ) × IsCellOf s.block cell × Contains (entries_at lists cell) e
         one =
             let sound = spread.sound e stands in
-            let c = one_cell size q.from q.to e.from e.to on_from on_to sound.from
+            let c = one_cell size from to e.from e.to on_from on_to sound.from
             sound.to near in (
               c.0,
               subst (λ b. IsCellOf b c.0) (sym is.block) c.1,
@@ -147,10 +153,10 @@ module _ (lists : HeldEntries) (q : Query) (s : Scope) where
             let f = cell-found s.block is.is_block one.0 one.1 in
             (f.0, f.1, subst (λ c. Contains (entries_at lists c) e) (sym f.2) one.2)
 
-    pub given-all : (e : Entry) → Stands lists e → is_near q e ≡ true
-        → Contains (filter (is_near q) (lists_from lists s 0)) e
+    pub given-all : (e : Entry) → Stands lists e → boxes_overlap from to e.from e.to ≡ true
+        → Contains given e
     given-all e stands near =
         let l = list-of e stands near in
-        near-has (is_near q) (lists_from lists s 0) e
+        near-has (is_near (bounds_of from to)) (lists_from lists s 0) e
         (joined-has (searched_list lists s) e l.0 0 (searched_count lists s - 0)
-        (omega arith) (omega (arith, l.1)) l.2) near
+        (omega arith) (omega (arith, l.1)) l.2) (is_near-is from to e ∙ near)

@@ -1,6 +1,7 @@
 -- Entries that the test takes for the same are.
-use Rattle.std.proofs.Common.{◌≡◌, ℕ, zero, suc, ◌+◌, ◌≤◌, List, [], ◌∷◌, Bool, true, false, cond, refl, sym, subst, arith, ℤ, eqb-true, eq-eqb}
+use Rattle.std.proofs.Common.{◌≡◌, ◌∙◌, ℕ, zero, suc, ◌+◌, ◌<◌, ◌≤◌, List, [], ◌∷◌, length, get_or, Bool, true, false, true≢false, cond, refl, sym, subst, arith, ℤ, eqb-true, eq-eqb}
 use Rattle.std.proofs.lemmas.Bool.Decides.{Decides-int_eq}
+use Rattle.std.proofs.lemmas.List.{get_or_default}
 use Rattle.std.proofs.lemmas.List.Sums.{sum_by-cons}
 use Rattle.std.specs.Prelude.{count_by}
 use Rattle.std.specs.Ordering.{int_eq}
@@ -38,6 +39,19 @@ is_itself a = rw (
   int_refl a.to.x,
   int_refl a.to.y,
 ) refl
+
+-- an element of a list that the test takes for an entry is it, and no other element is
+pub same_at : (xs : List Entry) (k : ℕ) (e x : Entry) → k < length xs → x ≡ get_or xs k x
+    → is_same_entry x e ≡ true → get_or xs k e ≡ e
+same_at xs k e x within is same =
+    get_or_default xs k e x within ∙ sym is ∙ same_entry x e same
+
+pub other_at : (xs : List Entry) (k : ℕ) (e x : Entry) → k < length xs → x ≡ get_or xs k x
+    → is_same_entry x e ≡ false → ¬ (get_or xs k e ≡ e)
+other_at xs k e x within is other here =
+    let same : x ≡ e = is ∙ get_or_default xs k x e within ∙ here in
+    true≢false (sym (subst (λ (y : Entry). is_same_entry y e ≡ true) (sym same) (is_itself e))
+    ∙ other)
 
 -- ---- Membership and counts
 

@@ -4,6 +4,7 @@ pub mod Held
 pub mod Spread
 pub mod Kept
 pub mod Together
+pub mod Bounds
 pub mod Near
 pub mod Ahead
 pub mod Grid

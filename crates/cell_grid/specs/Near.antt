@@ -1,20 +1,15 @@
 -- The entries near a segment.
-use Rattle.std.specs.Prelude.{◌≡◌, ℕ, zero, suc, ◌+◌, ◌-◌, Bool, List, [], ◌∷◌, ◌++◌, length, filter, if◌then◌else◌, drop, slice_index_or}
-use Rattle.geo_exact.specs.SignTest.{boxes_overlap}
+use Rattle.std.specs.Prelude.{◌≡◌, ℕ, zero, suc, ◌+◌, ◌-◌, List, [], ◌++◌, length, if◌then◌else◌}
+use Rattle.geo_exact.specs.Position.{Position}
 use Rattle.cell_grid.specs.declared.block.CellSize.{CellSize}
 use Rattle.cell_grid.specs.declared.entry.Entry.{Entry}
-use Rattle.cell_grid.specs.declared.near.Query.{Query}
 use Rattle.cell_grid.specs.declared.near.Scope.{Scope}
 use Rattle.cell_grid.specs.Cells.{IsBlock, block_of, cell_count, cell_at, is_cell_of}
 use Rattle.cell_grid.specs.Held.{HeldEntries, entries_at, cell_in_turn, list_in_turn}
 
--- the boxes of the segment that is asked about and of an entry have a location in common
-abbrev pub is_near : Query → Entry → Bool
-is_near q e = boxes_overlap q.from q.to e.from e.to
-
 -- the cells that are looked at are those that the segment's box touches
-pub record IsScope (size : CellSize) (q : Query) (s : Scope) : Type 0 where
-  pub block : s.block ≡ block_of size q.from q.to
+pub record IsScope (size : CellSize) (from to : Position) (s : Scope) : Type 0 where
+  pub block : s.block ≡ block_of size from to
   pub is_block : IsBlock s.block
 
 -- how many lists are looked at: one for each cell, or all that there are
@@ -36,12 +31,3 @@ lists_in_turn list k (suc n) = list k ++ lists_in_turn list (k + 1) n
 -- the lists from a place on
 abbrev pub lists_from : HeldEntries → Scope → ℕ → List Entry
 lists_from lists s k = lists_in_turn (searched_list lists s) k (searched_count lists s - k)
-
--- of the lists from one on, the first near entry stands in the k-th, at this place
-abbrev pub FoundAt : HeldEntries → Query → Scope → ℕ → ℕ → ℕ → Type 0
-FoundAt lists q s from k place =
-    (d : Entry)
-    → filter (is_near q) (lists_from lists s from)
-    ≡ slice_index_or (searched_list lists s k) place
-    d ∷ (filter (is_near q) (drop (place + 1) (searched_list lists s k)) ++ filter
-    (is_near q) (lists_from lists s (k + 1)))

@@ -20,6 +20,18 @@ pub(crate) struct CellSize {
     pub height_bits: u32,
 }
 
+impl CellSize {
+    /// Cells so wide and so high.
+    pub(crate) fn of(width_bits: u32, height_bits: u32) -> CellSize
+        ensures { result ≡ record { width_bits = width_bits; height_bits = height_bits } }
+    {
+        CellSize {
+            width_bits,
+            height_bits,
+        }
+    }
+}
+
 /// The power of two that a side in millimetres is rounded down to.
 pub(crate) fn bits_of(side: u64) -> u32
     requires { IsSide side }

@@ -47,11 +47,7 @@ impl Entries {
         ensures points { self.new.points ≡ self.old.points }
         ensures err { OnErr result (self.new ≡ self.old) }
     {
-        self.strings.push(Entry {
-            number: no.get(),
-            from: a,
-            to: b,
-        })?;
+        self.strings.push(Entry::of_string(no, a, b))?;
         Ok(())
     }
 
@@ -62,11 +58,7 @@ impl Entries {
         ensures strings { self.new.strings ≡ self.old.strings }
         ensures err { OnErr result (self.new ≡ self.old) }
     {
-        self.points.push(Entry {
-            number: no.get(),
-            from: a,
-            to: a,
-        })?;
+        self.points.push(Entry::of_point(no, a))?;
         Ok(())
     }
 }

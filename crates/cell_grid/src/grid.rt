@@ -34,8 +34,8 @@ use std::marker::Model;
 ///
 /// Only `new` and the puts take memory: some 40 bytes for each cell that an entry stands in. A cell
 /// keeps the room that it was given. A call takes time by the cells of the box and the entries that
-/// stand there; a list remembers where an entry was taken out of it, so that those that were put in
-/// one after another are taken out without a search each.
+/// stand there; a long list remembers where an entry was taken out of it, so that those that were put
+/// in one after another are taken out without a search each.
 pub struct CellGrid {
     strings: Segments,
     points: Segments,
@@ -96,11 +96,7 @@ impl CellGrid {
         ensures points { HoldsSame self.old.points self.new.points }
         ensures err { OnErr result (HoldsSame self.old.strings self.new.strings) }
     {
-        self.strings.put(Entry {
-            number: no.get(),
-            from: a,
-            to: b,
-        })
+        self.strings.put(Entry::of_string(no, a, b))
     }
 
     /// Takes a string out from these positions of its ends. It takes no memory.
@@ -109,11 +105,7 @@ impl CellGrid {
         ensures taken { HoldsOneLess self.old.strings (entry_of no a b) self.new.strings }
         ensures points { HoldsSame self.old.points self.new.points }
     {
-        self.strings.take(Entry {
-            number: no.get(),
-            from: a,
-            to: b,
-        });
+        self.strings.take(Entry::of_string(no, a, b));
     }
 
     /// Puts a point in at a position; it may be held at others as well. Where memory runs out the
@@ -124,11 +116,7 @@ impl CellGrid {
         ensures strings { HoldsSame self.old.strings self.new.strings }
         ensures err { OnErr result (HoldsSame self.old.points self.new.points) }
     {
-        self.points.put(Entry {
-            number: no.get(),
-            from: a,
-            to: a,
-        })
+        self.points.put(Entry::of_point(no, a))
     }
 
     /// Takes a point out from a position. It takes no memory.
@@ -137,11 +125,7 @@ impl CellGrid {
         ensures taken { HoldsOneLess self.old.points (entry_of no a a) self.new.points }
         ensures strings { HoldsSame self.old.strings self.new.strings }
     {
-        self.points.take(Entry {
-            number: no.get(),
-            from: a,
-            to: a,
-        });
+        self.points.take(Entry::of_point(no, a));
     }
 
     /// Puts strings and points in, none of which is held: all of them, or none where memory runs

@@ -6,6 +6,10 @@ use crate::entry::{Entry, is_same};
 use cad_rows::Memory;
 use std::alloc::Global;
 
+/// Up to so many entries are looked through from the front: a step of that costs less than one of
+/// the search both ways.
+const LONGEST_SHORT: usize = 64;
+
 /// Entries in a list, and the place where one was taken out last: what is taken out one after
 /// another mostly stood side by side.
 #[derive(Drop)]
@@ -24,9 +28,23 @@ fn is_at(list: &[Entry], place: usize, entry: &Entry) -> bool
     place < list.len() && is_same(&list[place], entry)
 }
 
+/// The place of an entry in a list that has it. It is looked for from the front.
+fn place_from_front(list: &[Entry], entry: &Entry) -> usize
+    requires { Contains list.now entry.now }
+    ensures within { result < length list.now }
+    ensures value { slice_index_or list.now result entry.now ≡ entry.now }
+{
+    for (place, held) in list.iter().enumerate() {
+        if is_same(held, entry) {
+            return place;
+        }
+    }
+    0
+}
+
 /// The place of an entry in a list that has it. It is looked for from a place on, both ways at
 /// once, so that what stands near that place is found soon.
-fn place_in(list: &[Entry], entry: &Entry, from: usize) -> usize
+fn place_around(list: &[Entry], entry: &Entry, from: usize) -> usize
     requires { Contains list.now entry.now }
     ensures within { result < length list.now }
     ensures value { slice_index_or list.now result entry.now ≡ entry.now }
@@ -42,6 +60,22 @@ fn place_in(list: &[Entry], entry: &Entry, from: usize) -> usize
         }
     }
     0
+}
+
+/// The place of an entry in a list that has it. It may well be this one; a short list is looked
+/// through from the front, and a long one around the place.
+fn place_in(list: &[Entry], entry: &Entry, likely: usize) -> usize
+    requires { Contains list.now entry.now }
+    ensures within { result < length list.now }
+    ensures value { slice_index_or list.now result entry.now ≡ entry.now }
+{
+    if is_at(list, likely, entry) {
+        likely
+    } else if list.len() <= LONGEST_SHORT {
+        place_from_front(list, entry)
+    } else {
+        place_around(list, entry, likely)
+    }
 }
 
 impl HeldList {

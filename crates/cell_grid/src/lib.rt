@@ -9,6 +9,7 @@
 #![tactic(auto)]
 
 mod block;
+mod bounds;
 mod entries;
 mod entry;
 mod grid;

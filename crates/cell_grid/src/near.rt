@@ -2,27 +2,22 @@
 ghost use Rattle.std.specs.List.{Contains};
 ghost use Rattle.geo_exact.specs.SignTest.{boxes_overlap};
 ghost use Rattle.geo_exact.specs.Position.{OnTheMap};
-ghost use Rattle.std.specs.Prelude.{◌≡◌, IsTrue, ◌<◌, ◌≤◌, ◌+◌, ◌^◌, ◌∷◌, [], length, filter, drop, slice_index_or, IfSome, IfNone};
-ghost use Rattle.std.specs.Iterator.{YieldsFirst, item_count};
+ghost use Rattle.std.specs.Prelude.{◌≡◌, IsTrue, ◌<◌, ◌≤◌, ◌∷◌, ◌++◌, [], filter, IfSome, IfNone};
+ghost use Rattle.std.specs.Iterator.{YieldsFirstRef, item_count};
 ghost use Rattle.cell_grid.specs.declared.entry.Entry.{Entry as Segment};
+ghost use Rattle.cell_grid.specs.Bounds.{is_near as is_near_of};
 ghost use Rattle.cell_grid.specs.Cells.{IsCellSize, IsBlock};
 ghost use Rattle.cell_grid.specs.Spread.{IsSpread, Stands};
-ghost use Rattle.cell_grid.specs.Near.{is_near as is_near_of, IsScope, searched_count as searched_count_of, searched_list as searched_list_of, lists_from, FoundAt};
+ghost use Rattle.cell_grid.specs.Near.{IsScope, searched_count as searched_count_of, searched_list as searched_list_of, lists_from};
 ghost use Rattle.cell_grid.specs.Kept.{kept, AreSpread, IsHeld};
 
 use crate::block::{Block, block_of};
+use crate::bounds::{Bounds, bounds_of, is_near};
 use crate::entry::Entry;
 use crate::layer::Layer;
 use crate::segments::Segments;
-use geo_exact::{Pt, have_boxes_in_common};
+use geo_exact::Pt;
 use std::marker::Model;
-
-/// A segment that is asked about.
-#[derive(Clone, Copy, Debug)]
-pub(crate) struct Query {
-    pub from: Pt,
-    pub to: Pt,
-}
 
 /// The cells of a layer that the box of the segment touches. `all`: the layer has fewer lists than
 /// these, and its lists are gone through in turn.
@@ -33,21 +28,13 @@ pub(crate) struct Scope {
 }
 
 /// The cells that are looked at for a segment.
-fn scope_of(layer: &Layer, query: &Query) -> Scope
+fn scope_of(layer: &Layer, from: Pt, to: Pt) -> Scope
     requires { IsCellSize layer.now.size }
-    ensures { IsScope layer.now.size query.now result }
+    ensures { IsScope layer.now.size from to result }
 {
-    let block = block_of(layer.size, query.from, query.to);
+    let block = block_of(layer.size, from, to);
     let all = block.cell_count() > layer.lists.cell_count() as u64;
     Scope { block, all }
-}
-
-/// Whether the boxes of an entry and of the segment have a location in common. Others can't meet
-/// it, and are passed over.
-fn is_near(query: &Query, entry: &Entry) -> bool
-    ensures { result ≡ is_near_of query.now entry.now }
-{
-    have_boxes_in_common(query.from, query.to, entry.from, entry.to)
 }
 
 /// How many lists there are to look at.
@@ -76,39 +63,56 @@ fn searched_list<'a>(layer: &'a Layer, scope: &Scope, place: usize) -> &'a [Entr
     }
 }
 
-/// The place of the first entry of a list that is near.
-fn first_near(list: &[Entry], query: &Query) -> Option<usize>
-    ensures within { IfSome result (λ i. i < length list.now) }
-    ensures some { IfSome result
-        (λ i. (d : Segment) → filter (is_near_of query.now) list.now
-        ≡ slice_index_or list.now i d ∷ filter (is_near_of query.now) (drop (i + 1) list.now)) }
-    ensures none { IfNone result (filter (is_near_of query.now) list.now ≡ []) }
+/// The first entry of a list that is near, and those that come after it.
+fn first_near<'a>(list: &'a [Entry], bounds: &Bounds) -> Option<(&'a Entry, &'a [Entry])>
+    ensures some { IfSome result (λ r. filter (is_near_of bounds.now) list.now
+        ≡ r.0.now ∷ filter (is_near_of bounds.now) r.1.now) }
+    ensures none { IfNone result (filter (is_near_of bounds.now) list.now ≡ []) }
 {
     for (place, entry) in list.iter().enumerate() {
-        if is_near(query, entry) {
-            return Some(place);
+        if is_near(bounds, entry) {
+            return Some((entry, &list[place + 1..]));
         }
     }
     None
 }
 
-/// The place of the first list from a place on that has an entry near, and the place of that entry
-/// in it.
-fn find_from(layer: &Layer, query: &Query, scope: &Scope, from: usize) -> Option<(usize, usize)>
+/// An entry that was found near, what comes after it in its list, and the place of the next list.
+struct Found<'a> {
+    entry: &'a Entry,
+    rest: &'a [Entry],
+    next: usize,
+}
+
+/// The first entry near in the lists from one place on to the last, which is at the place before
+/// `end`. It stands apart from `next`, which stays short that way where the list at hand has one
+/// more.
+#[inline(never)]
+fn find_from<'a>(
+    layer: &'a Layer,
+    bounds: &Bounds,
+    scope: &Scope,
+    from: usize,
+    end: usize,
+) -> Option<Found<'a>>
     requires block { IsBlock scope.now.block }
-    requires there { from ≤ searched_count_of layer.now.lists scope.now }
-    ensures within { IfSome result (λ p. p.0 < searched_count_of layer.now.lists scope.now) }
-    ensures inside { IfSome result
-        (λ p. p.1 < length (searched_list_of layer.now.lists scope.now p.0)) }
-    ensures fits { IfSome result (λ p. p.0 + 1 < 2 ^ 64) }
+    requires there { from ≤ end }
+    requires end { end ≡ searched_count_of layer.now.lists scope.now }
+    ensures within { IfSome result (λ f. f.next ≤ end) }
     ensures some { IfSome result
-        (λ p. FoundAt layer.now.lists query.now scope.now from p.0 p.1) }
+        (λ f. filter (is_near_of bounds.now) (lists_from layer.now.lists scope.now from)
+        ≡ f.entry.now ∷ (filter (is_near_of bounds.now) f.rest.now
+        ++ filter (is_near_of bounds.now) (lists_from layer.now.lists scope.now f.next))) }
     ensures none { IfNone result
-        (filter (is_near_of query.now) (lists_from layer.now.lists scope.now from) ≡ []) }
+        (filter (is_near_of bounds.now) (lists_from layer.now.lists scope.now from) ≡ []) }
 {
-    for step in from..searched_count(layer, scope) {
-        if let Some(place) = first_near(searched_list(layer, scope, step), query) {
-            return Some((step, place));
+    for step in from..end {
+        if let Some((entry, rest)) = first_near(searched_list(layer, scope, step), bounds) {
+            return Some(Found {
+                entry,
+                rest,
+                next: step + 1,
+            });
         }
     }
     None
@@ -119,11 +123,12 @@ fn find_from(layer: &Layer, query: &Query, scope: &Scope, from: usize) -> Option
 #[derive(Drop)]
 pub(crate) struct NearInLayer<'a> {
     layer: &'a Layer,
-    query: Query,
+    bounds: Bounds,
     scope: Scope,
-    // What is left of the list at hand, and the place of the next one.
+    // What is left of the list at hand, the place of the next one, and how many there are.
     list: &'a [Entry],
     next: usize,
+    end: usize,
 }
 
 impl<'a> Model for NearInLayer<'a> {
@@ -150,40 +155,39 @@ impl<'a> NearInLayer<'a> {
         ensures all { (e : Segment) → Stands layer.now.lists e
             → IsTrue (boxes_overlap from to e.from e.to) → Contains result e }
     {
-        let query = Query { from, to };
-        let scope = scope_of(layer, &query);
+        let scope = scope_of(layer, from, to);
         NearInLayer {
             layer,
-            query,
+            bounds: bounds_of(from, to),
             scope,
             list: &[],
             next: 0,
+            end: searched_count(layer, &scope),
         }
     }
 }
 
-impl Iterator for NearInLayer<'_> {
-    type Item = Entry;
+impl<'a> Iterator for NearInLayer<'a> {
+    type Item = &'a Entry;
 
-    ghost next_gives = { YieldsFirst (λ w. w) };
+    ghost next_gives = { YieldsFirstRef (λ w. w) };
 
     ghost remaining = { item_count (λ w. w) };
 
-    fn next(&mut self) -> Option<Entry> {
-        if let Some(place) = first_near(self.list, &self.query) {
-            let entry = self.list[place];
-            self.list = &self.list[place + 1..];
+    fn next(&mut self) -> Option<&'a Entry> {
+        if let Some((entry, rest)) = first_near(self.list, &self.bounds) {
+            self.list = rest;
             return Some(entry);
         }
-        let Some((step, place)) = find_from(self.layer, &self.query, &self.scope, self.next) else {
-            self.list = &[];
-            self.next = searched_count(self.layer, &self.scope);
+        self.list = &[];
+        let found = find_from(self.layer, &self.bounds, &self.scope, self.next, self.end);
+        let Some(Found { entry, rest, next }) = found else {
+            self.next = self.end;
             return None;
         };
-        let list = searched_list(self.layer, &self.scope, step);
-        self.list = &list[place + 1..];
-        self.next = step + 1;
-        Some(list[place])
+        self.list = rest;
+        self.next = next;
+        Some(entry)
     }
 }
 
@@ -195,7 +199,7 @@ pub(crate) struct NearEntries<'a> {
     squares: NearInLayer<'a>,
     lanes_east: NearInLayer<'a>,
     lanes_north: NearInLayer<'a>,
-    query: Query,
+    bounds: Bounds,
     // What is left of the long ones.
     long: &'a [Entry],
 }
@@ -203,12 +207,12 @@ pub(crate) struct NearEntries<'a> {
 impl<'a> Model for NearEntries<'a> {
     ghost use Rattle.std.specs.Prelude.{List, ◌++◌, filter};
     ghost use Rattle.cell_grid.specs.declared.entry.Entry.{Entry as Segment};
-    ghost use Rattle.cell_grid.specs.Near.{is_near};
+    ghost use Rattle.cell_grid.specs.Bounds.{is_near};
 
     ghost Value = { List Segment };
 
     ghost view = { λ w. w.small_squares ++ (w.squares ++ (w.lanes_east ++ (w.lanes_north
-        ++ filter (is_near w.query) w.long.now))) };
+        ++ filter (is_near w.bounds) w.long.now))) };
 }
 
 impl<'a> NearEntries<'a> {
@@ -227,20 +231,20 @@ impl<'a> NearEntries<'a> {
             squares: NearInLayer::of(&segments.squares, from, to),
             lanes_east: NearInLayer::of(&segments.lanes_east, from, to),
             lanes_north: NearInLayer::of(&segments.lanes_north, from, to),
-            query: Query { from, to },
+            bounds: bounds_of(from, to),
             long: segments.long.entries.as_slice(),
         }
     }
 }
 
-impl Iterator for NearEntries<'_> {
-    type Item = Entry;
+impl<'a> Iterator for NearEntries<'a> {
+    type Item = &'a Entry;
 
-    ghost next_gives = { YieldsFirst (λ w. w) };
+    ghost next_gives = { YieldsFirstRef (λ w. w) };
 
     ghost remaining = { item_count (λ w. w) };
 
-    fn next(&mut self) -> Option<Entry> {
+    fn next(&mut self) -> Option<&'a Entry> {
         if let Some(entry) = self.small_squares.next() {
             return Some(entry);
         }
@@ -253,12 +257,11 @@ impl Iterator for NearEntries<'_> {
         if let Some(entry) = self.lanes_north.next() {
             return Some(entry);
         }
-        let Some(place) = first_near(self.long, &self.query) else {
+        let Some((entry, rest)) = first_near(self.long, &self.bounds) else {
             self.long = &[];
             return None;
         };
-        let entry = self.long[place];
-        self.long = &self.long[place + 1..];
+        self.long = rest;
         Some(entry)
     }
 }

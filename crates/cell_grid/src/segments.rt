@@ -51,27 +51,11 @@ impl Segments {
         ensures spread { AreSpread result }
         ensures empty { HoldsNone (kept result) }
     {
-        let small_squares = CellSize {
-            width_bits: small_bits,
-            height_bits: small_bits,
-        };
-        let squares = CellSize {
-            width_bits: bits,
-            height_bits: bits,
-        };
-        let lanes_east = CellSize {
-            width_bits: LANE_BITS,
-            height_bits: bits,
-        };
-        let lanes_north = CellSize {
-            width_bits: bits,
-            height_bits: LANE_BITS,
-        };
         Segments {
-            small_squares: Layer::new(alloc, hash, small_squares),
-            squares: Layer::new(alloc, hash, squares),
-            lanes_east: Layer::new(alloc, hash, lanes_east),
-            lanes_north: Layer::new(alloc, hash, lanes_north),
+            small_squares: Layer::new(alloc, hash, CellSize::of(small_bits, small_bits)),
+            squares: Layer::new(alloc, hash, CellSize::of(bits, bits)),
+            lanes_east: Layer::new(alloc, hash, CellSize::of(LANE_BITS, bits)),
+            lanes_north: Layer::new(alloc, hash, CellSize::of(bits, LANE_BITS)),
             long: HeldList::new(alloc),
         }
     }

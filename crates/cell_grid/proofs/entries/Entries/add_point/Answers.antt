@@ -1,4 +1,4 @@
-use Rattle.std.proofs.Common.{rules, ◌≡◌, refl}
+use Rattle.std.proofs.Common.{◌≡◌, refl}
 use Rattle.cell_grid.specs.Spread.{IsSoundEntry}
 use Rattle.cell_grid.proofs.Together.{each-push}
 use Rattle.cell_grid.proofs.entries.Entries.add_point.Goals as goal
@@ -13,7 +13,8 @@ invariant_of-self c = record {
 pub invariant_of-self-2 : goal.invariant_of-self-2
 invariant_of-self-2 c = record {
   points = rw c.in_ok-push.ensures.items
-      (each-push IsSoundEntry _ _ c.self.invariant.points (search rules));
+      (each-push IsSoundEntry _ _ c.self.invariant.points c.of_point.ensures.sound);
   strings = c.self.invariant.strings;
-  spots = rw c.in_ok-push.ensures.items (each-push (λ e. e.from ≡ e.to) _ _ c.self.invariant.spots refl);
+  spots = rw c.in_ok-push.ensures.items (each-push (λ e. e.from ≡ e.to) _ _ c.self.invariant.spots
+      (rw c.of_point.ensures.value refl));
 }

@@ -6,11 +6,11 @@ use Rattle.cell_grid.proofs.grid.CellGrid.put_point.Goals as goal
 
 pub put-requires-clause-other : goal.put-requires-clause-other
 put-requires-clause-other c =
-    rw c.get.ensures.value (subst (λ (g : Grid). ¬ HoldsPoint g c.args.no c.args.a)
+    rw c.of_point.ensures.value (subst (λ (g : Grid). ¬ HoldsPoint g c.args.no c.args.a)
     (sym c.self.view_is) c.requires)
 
 pub returns-clause-put : goal.returns-clause-put
-returns-clause-put c = rw (← c.self.view_is, ← c.get.ensures.value) c.put.ensures.put
+returns-clause-put c = rw (← c.self.view_is, ← c.of_point.ensures.value) c.put.ensures.put
 
 pub returns-clause-strings : goal.returns-clause-strings
 returns-clause-strings c = rw (← c.self.view_is) (λ e. ((λ h. h), (λ h. h)))
@@ -25,5 +25,5 @@ invariant_of-self c =
       strings = i.strings;
       points = c.put.ensures.spread;
       spots = spots_put (IsHeld (kept c.self.inside.points)) (IsHeld (kept c.put.new.self)) i.spots
-          _ refl c.put.result c.put.ensures.put c.put.ensures.err;
+          _ (rw c.of_point.ensures.value refl) c.put.result c.put.ensures.put c.put.ensures.err;
     }

@@ -3,7 +3,7 @@ use Rattle.cell_grid.proofs.Grids.{spots_take}
 use Rattle.cell_grid.proofs.grid.CellGrid.take_point.Goals as goal
 
 pub returns-clause-taken : goal.returns-clause-taken
-returns-clause-taken c = rw (← c.self.view_is, ← c.get.ensures.value) c.take.ensures.taken
+returns-clause-taken c = rw (← c.self.view_is, ← c.of_point.ensures.value) c.take.ensures.taken
 
 pub returns-clause-strings : goal.returns-clause-strings
 returns-clause-strings c = rw (← c.self.view_is) (λ e. ((λ h. h), (λ h. h)))

@@ -8,113 +8,38 @@ use Rattle.cell_grid.specs.Entries.{is_same_entry}
 use Rattle.cell_grid.specs.Spread.{IsSoundEntry}
 use Rattle.cell_grid.specs.Kept.{kept, level_of}
 use Rattle.cell_grid.proofs.Spreads.{count_pushed}
-use Rattle.cell_grid.proofs.Levels.{IsPutAt, but-small_squares, but-squares, but-lanes_east, but-lanes_north, but-long, put-more, put-same, put-levels, on_ok, on_err, either, long-more}
+use Rattle.cell_grid.proofs.Levels.{IsPutAt, but-long, put-more, put-same, put-levels, on_ok, on_err, either, long-more}
 use Rattle.cell_grid.proofs.Together.{each-push}
+use Rattle.cell_grid.proofs.Layered.{put-in-layer}
 use Rattle.cell_grid.proofs.segments.Segments.put.Goals as goal
 
 pub returns-in-SmallSquares : goal.returns-in-SmallSquares
 returns-in-SmallSquares c =
-    let old = c.args.self.now in
-    let was = c.requires.spread in
     let told = c.put.ensures in
-    let new : Segments = record { small_squares = c.put.new.self; squares = old.squares; lanes_east = old.lanes_east; lanes_north = old.lanes_north; long = old.long } in
-    let put : IsPutAt c.put.result (kept old) SmallSquares c.args.entry (kept new) = record {
-      elsewhere = but-small_squares (kept old) c.put.new.self.lists;
-      more = told.put;
-      same = told.err;
-    } in
-    record {
-      spread = record {
-        small_squares = told.spread;
-        squares = was.squares;
-        lanes_east = was.lanes_east;
-        lanes_north = was.lanes_north;
-        long_once = was.long_once;
-        long_sound = was.long_sound;
-        at_level = rw told.size (put-levels c.put.result (kept old) (kept new) SmallSquares c.args.entry put
-            (level_of old) was.at_level (sym c.in-SmallSquares.is ∙ c.level_of.ensures));
-      };
-      put = put-more c.put.result (kept old) (kept new) SmallSquares c.args.entry put;
-      err = put-same c.put.result (kept old) (kept new) SmallSquares c.args.entry put;
-    }
+    let all = put-in-layer c.args.self.now c.requires.spread SmallSquares c.put.new.self c.args.entry
+    (sym c.in-SmallSquares.is ∙ c.level_of.ensures) told.size told.spread c.put.result told.put told.err in
+    record { spread = all.0; put = all.1; err = all.2 }
 
 pub returns-in-Squares : goal.returns-in-Squares
 returns-in-Squares c =
-    let old = c.args.self.now in
-    let was = c.requires.spread in
     let told = c.put-in-Squares.ensures in
-    let new : Segments = record { small_squares = old.small_squares; squares = c.put-in-Squares.new.self; lanes_east = old.lanes_east; lanes_north = old.lanes_north; long = old.long } in
-    let put : IsPutAt c.put-in-Squares.result (kept old) Squares c.args.entry (kept new) = record {
-      elsewhere = but-squares (kept old) c.put-in-Squares.new.self.lists;
-      more = told.put;
-      same = told.err;
-    } in
-    record {
-      spread = record {
-        small_squares = was.small_squares;
-        squares = told.spread;
-        lanes_east = was.lanes_east;
-        lanes_north = was.lanes_north;
-        long_once = was.long_once;
-        long_sound = was.long_sound;
-        at_level = rw told.size (put-levels c.put-in-Squares.result (kept old) (kept new) Squares c.args.entry put
-            (level_of old) was.at_level (sym c.in-Squares.is ∙ c.level_of.ensures));
-      };
-      put = put-more c.put-in-Squares.result (kept old) (kept new) Squares c.args.entry put;
-      err = put-same c.put-in-Squares.result (kept old) (kept new) Squares c.args.entry put;
-    }
+    let all = put-in-layer c.args.self.now c.requires.spread Squares c.put-in-Squares.new.self c.args.entry
+    (sym c.in-Squares.is ∙ c.level_of.ensures) told.size told.spread c.put-in-Squares.result told.put told.err in
+    record { spread = all.0; put = all.1; err = all.2 }
 
 pub returns-in-LanesEast : goal.returns-in-LanesEast
 returns-in-LanesEast c =
-    let old = c.args.self.now in
-    let was = c.requires.spread in
     let told = c.put-in-LanesEast.ensures in
-    let new : Segments = record { small_squares = old.small_squares; squares = old.squares; lanes_east = c.put-in-LanesEast.new.self; lanes_north = old.lanes_north; long = old.long } in
-    let put : IsPutAt c.put-in-LanesEast.result (kept old) LanesEast c.args.entry (kept new) = record {
-      elsewhere = but-lanes_east (kept old) c.put-in-LanesEast.new.self.lists;
-      more = told.put;
-      same = told.err;
-    } in
-    record {
-      spread = record {
-        small_squares = was.small_squares;
-        squares = was.squares;
-        lanes_east = told.spread;
-        lanes_north = was.lanes_north;
-        long_once = was.long_once;
-        long_sound = was.long_sound;
-        at_level = rw told.size (put-levels c.put-in-LanesEast.result (kept old) (kept new) LanesEast c.args.entry put
-            (level_of old) was.at_level (sym c.in-LanesEast.is ∙ c.level_of.ensures));
-      };
-      put = put-more c.put-in-LanesEast.result (kept old) (kept new) LanesEast c.args.entry put;
-      err = put-same c.put-in-LanesEast.result (kept old) (kept new) LanesEast c.args.entry put;
-    }
+    let all = put-in-layer c.args.self.now c.requires.spread LanesEast c.put-in-LanesEast.new.self c.args.entry
+    (sym c.in-LanesEast.is ∙ c.level_of.ensures) told.size told.spread c.put-in-LanesEast.result told.put told.err in
+    record { spread = all.0; put = all.1; err = all.2 }
 
 pub returns-in-LanesNorth : goal.returns-in-LanesNorth
 returns-in-LanesNorth c =
-    let old = c.args.self.now in
-    let was = c.requires.spread in
     let told = c.put-in-LanesNorth.ensures in
-    let new : Segments = record { small_squares = old.small_squares; squares = old.squares; lanes_east = old.lanes_east; lanes_north = c.put-in-LanesNorth.new.self; long = old.long } in
-    let put : IsPutAt c.put-in-LanesNorth.result (kept old) LanesNorth c.args.entry (kept new) = record {
-      elsewhere = but-lanes_north (kept old) c.put-in-LanesNorth.new.self.lists;
-      more = told.put;
-      same = told.err;
-    } in
-    record {
-      spread = record {
-        small_squares = was.small_squares;
-        squares = was.squares;
-        lanes_east = was.lanes_east;
-        lanes_north = told.spread;
-        long_once = was.long_once;
-        long_sound = was.long_sound;
-        at_level = rw told.size (put-levels c.put-in-LanesNorth.result (kept old) (kept new) LanesNorth c.args.entry put
-            (level_of old) was.at_level (sym c.in-LanesNorth.is ∙ c.level_of.ensures));
-      };
-      put = put-more c.put-in-LanesNorth.result (kept old) (kept new) LanesNorth c.args.entry put;
-      err = put-same c.put-in-LanesNorth.result (kept old) (kept new) LanesNorth c.args.entry put;
-    }
+    let all = put-in-layer c.args.self.now c.requires.spread LanesNorth c.put-in-LanesNorth.new.self c.args.entry
+    (sym c.in-LanesNorth.is ∙ c.level_of.ensures) told.size told.spread c.put-in-LanesNorth.result told.put told.err in
+    record { spread = all.0; put = all.1; err = all.2 }
 
 pub returns-in-Long : goal.returns-in-Long
 returns-in-Long c =

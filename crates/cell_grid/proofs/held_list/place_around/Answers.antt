@@ -1,6 +1,6 @@
 use Rattle.std.proofs.Common.{◌≡◌, ℕ, ◌+◌, get_or, subst, arith, inl, inr}
 use Rattle.std.proofs.lemmas.Bool.{cases_eq}
-use Rattle.cell_grid.proofs.held_list.place_in.Goals as goal
+use Rattle.cell_grid.proofs.held_list.place_around.Goals as goal
 
 pub loop-distance-preserved : goal.loop-distance-preserved
 loop-distance-preserved c k within below above here =

@@ -1,5 +1,5 @@
 use Rattle.std.proofs.Common.{◌≡◌, ℕ, ◌+◌, ◌<◌, get_or, length}
-use Rattle.cell_grid.proofs.held_list.place_in.Given as goal
+use Rattle.cell_grid.proofs.held_list.place_around.Given as goal
 
 -- it is none of those that stand nearer to the start
 abbrev pub invariant-loop-distance : goal.invariant-loop-distance
