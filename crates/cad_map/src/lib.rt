@@ -26,7 +26,7 @@ pub use laws::{faces_balance, one_list, one_outcome, one_shared_chain, parcels_a
 pub use look::{far_end, is_end, is_face};
 pub use outlines::outline;
 pub use plain::PlainMap;
-pub use rings::{has_face, position, ring_count, ring_sum, sum_round};
+pub use rings::{has_face, has_ring, position, ring_count, ring_sum, sum_round};
 pub use row_tables::RowTables;
 pub use shared_chain::{
     SharedChain, find_chain_of_sides, find_shared_chain, has_shared_chain, is_shared, shared_count,

@@ -1,5 +1,5 @@
 //! The rings of a face of any map, each walked along its sides.
-ghost use Rattle.std.specs.Prelude.{◌≡◌, ◌<◌, ◌≤◌, ◌*◌, length};
+ghost use Rattle.std.specs.Prelude.{◌≡◌, ◌↔◌, ◌<◌, ◌≤◌, ◌*◌, length, IsTrue};
 ghost use Rattle.cad_rows.specs.Limits.{string_limit};
 ghost use Rattle.cad_map.specs.Boundaries.{canonical_order};
 ghost use Rattle.cad_map.specs.Map.{rings_at, position_of, has_face as has_face_of, sum_of_ring};
@@ -31,6 +31,15 @@ pub fn has_face<M: MapView>(map: &M, face: &Face) -> bool
     }
 }
 
+/// Whether a face has a ring at a place, and so more rings than that many.
+pub fn has_ring<M: MapView>(map: &M, face: &Face, place: usize) -> bool
+    requires { HasWholeRings (M.map map.now) }
+    ensures there { IsTrue result ↔ (place < length (rings_at face.now (M.rings map.now))) }
+    ensures canonical_order { canonical_order (M.rings map.now) ≡ (M.map map.now).boundaries }
+{
+    map.ring_side(*face, place).is_some()
+}
+
 /// How many rings a face has: they stand at the places before it.
 pub fn ring_count<M: MapView>(map: &M, face: &Face) -> usize
     requires { HasWholeRings (M.map map.now) }
@@ -51,11 +60,25 @@ pub fn ring_sum<M: MapView, F: SideMeasure>(map: &M, face: &Face, place: usize, 
     ensures { result ≡ sum_of_ring (F.measure measure.now) (M.map map.now)
         (ring_at (M.rings map.now) face.now place) }
 {
+    let walk = Walk::of_ring(map, face, place);
+    let (mut last, _) = walk.first_side();
+    let mut lies = position(map, last);
     let mut sum = 0;
-    for (a, b) in Walk::of_ring(map, face, place) {
-        sum += measure.of(position(map, a), position(map, b));
+    for (a, b) in walk {
+        let from = position_beside(map, a, last, lies);
+        last = b;
+        lies = position(map, b);
+        sum += measure.of(from, lies);
     }
     sum
+}
+
+// The position of a point, which mostly is the one that is known to lie at `lies`.
+fn position_beside<M: MapView>(map: &M, no: PointNo, known: PointNo, lies: Pt) -> Pt
+    requires { lies ≡ position_of (M.map map.now) known }
+    ensures { result ≡ position_of (M.map map.now) no }
+{
+    if no == known { lies } else { position(map, no) }
 }
 
 /// The measures of a ring's sides, added up, its points being where the map has them. Takes no

@@ -9,7 +9,7 @@ ghost use Rattle.cad_valid.specs.Shapes.{shape_of};
 
 use crate::rings::{anchor_of, is_hole, is_in_ring, is_outline};
 use crate::shapes::{self, Enclosing};
-use cad_map::{MapView, position, ring_count};
+use cad_map::{MapView, has_ring, position, ring_count};
 use cad_rows::{Face, PointNo};
 use geo_exact::Pt;
 
@@ -35,7 +35,7 @@ pub(crate) fn has_sound_holes<M: MapView>(map: &M, face: &Face) -> bool
     requires { HasWholeRings (M.map map.now) }
     ensures { result ≡ has_sound_holes_of (M.map map.now) (rings_of (M.map map.now) face.now) }
 {
-    if ring_count(map, face) < 2 {
+    if !has_ring(map, face, 1) {
         return true;
     }
     are_holes_inside(map, face) && are_holes_apart(map, face)

@@ -19,7 +19,7 @@ use crate::near::moves::leaves_face;
 use crate::near::{Joined, Moved};
 use crate::outlines::has_outlines;
 use crate::shapes::PlacedRing;
-use cad_map::{MapView, Walk, has_face, ring_count};
+use cad_map::{MapView, Walk, has_face, has_ring, ring_count};
 use cad_rows::{Face, Memory};
 use cell_grid::CellGrid;
 use std::alloc::Global;
@@ -84,36 +84,30 @@ fn rules_of_face_if_there<M: MapView>(
     ensures holes { IsTrue result.holes
         ↔ OfFace (M.map map.now) (HasSoundHoles (M.map map.now)) face.now }
 {
-    if has_many_rings(map, face)
-        && (leaves_face(map, grid, face, moved) || joins_face(map, grid, face, joined))
-    {
+    let many = has_ring(map, face, FEW_RINGS);
+    if many && (leaves_face(map, grid, face, moved) || joins_face(map, grid, face, joined)) {
         return FaceRules {
             outlines: true,
             holes: true,
         };
     }
-    let rules = rules_of_face(alloc, map, face);
+    let rules = rules_of_face(alloc, map, face, many);
     FaceRules {
         outlines: rules.outlines || !has_face(map, face),
         holes: rules.holes || !has_face(map, face),
     }
 }
 
-/// Whether a face has more than [`FEW_RINGS`].
-fn has_many_rings<M: MapView>(map: &M, face: &Face) -> bool {
-    map.ring_side(*face, FEW_RINGS).is_some()
-}
-
 /// What the rings of a face tell.
 ///
-/// More than [`FEW_RINGS`] are walked once and laid out in memory, so that of holes only those are
-/// compared whose boxes overlap. Where there are no more, and where memory runs out, they are walked
-/// again for each question: that takes none, and a time that grows with the square of their number.
-fn rules_of_face<M: MapView>(alloc: Global, map: &M, face: &Face) -> FaceRules
+/// Many are walked once and laid out in memory, so that of holes only those are compared whose boxes
+/// overlap. Where there are few, and where memory runs out, they are walked again for each question:
+/// that takes none, and a time that grows with the square of their number.
+fn rules_of_face<M: MapView>(alloc: Global, map: &M, face: &Face, many: bool) -> FaceRules
     requires { HasWholeRings (M.map map.now) }
     ensures { result ≡ rules_of (M.map map.now) face.now }
 {
-    if !has_many_rings(map, face) {
+    if !many {
         return rules_by_walks(map, face);
     }
     match rules_by_shapes(alloc, map, face) {
