@@ -5,21 +5,37 @@ use Rattle.std.proofs.lemmas.List.{take-append-drop}
 use Rattle.std.proofs.lemmas.Bool.{cases_eq}
 use Rattle.std.specs.List.{Contains}
 use Rattle.cell_grid.specs.declared.entry.Entry.{Entry}
-use Rattle.cell_grid.specs.Near.{lists_in_turn}
+use Rattle.cell_grid.specs.declared.bounds.Bounds.{Bounds}
+use Rattle.cell_grid.specs.Bounds.{is_near}
+use Rattle.cell_grid.specs.Near.{lists_in_turn, IsFirstNear}
 
 one_kept : (p : Entry → Bool) (x : Entry) (xs : List Entry) → p x ≡ true
     → filter p (x ∷ xs) ≡ x ∷ filter p xs
 one_kept p x xs here = rw here refl
 
-pub first_at : (p : Entry → Bool) (xs : List Entry) (i : ℕ) (d : Entry) → i < length xs
-    → filter p (take i xs) ≡ [] → p (get_or xs i d) ≡ true
-    → filter p xs ≡ get_or xs i d ∷ filter p (drop (i + 1) xs)
-first_at p xs i d within none here =
-    ap (filter p) (sym (take-append-drop i xs))
-    ∙ filter-append p (take i xs) (drop i xs)
-    ∙ (λ j. none j ++ filter p (drop-cons xs i d within j))
-    ∙ one_kept p (get_or xs i d) (drop (suc i) xs) here
-    ∙ ap (λ (n : ℕ). get_or xs i d ∷ filter p (drop n xs)) (sym (add-one i))
+-- the entry at a place of a list that is near, where nothing before it is
+pub first-near_at : (w : Bounds) (xs : List Entry) (i : ℕ) (e : Entry) {rest : List Entry}
+    → i < length xs → e ≡ get_or xs i e → rest ≡ drop (i + 1) xs
+    → filter (is_near w) (take i xs) ≡ [] → is_near w e ≡ true → IsFirstNear w xs e rest
+first-near_at w xs i e within at after none here = record {
+  before = take i xs;
+  is =
+      sym (take-append-drop i xs)
+      ∙ ap (λ (l : List Entry). take i xs ++ l) (drop-cons xs i e within)
+      ∙ ap (λ (n : ℕ). take i xs ++ (get_or xs i e ∷ drop n xs)) (sym (add-one i))
+      ∙ (λ j. take i xs ++ (sym at j ∷ sym after j));
+  none_before = none;
+  near = here;
+}
+
+-- it is the first of the near ones, and the others are in the rest
+pub first-near_kept : {w : Bounds} {xs rest : List Entry} {e : Entry} → IsFirstNear w xs e rest
+    → filter (is_near w) xs ≡ e ∷ filter (is_near w) rest
+first-near_kept {w} {xs} {rest} {e} f =
+    ap (filter (is_near w)) f.is
+    ∙ filter-append (is_near w) f.before (e ∷ rest)
+    ∙ ap (λ (l : List Entry). l ++ filter (is_near w) (e ∷ rest)) f.none_before
+    ∙ one_kept (is_near w) e rest f.near
 
 pub joined-first : (list : ℕ → List Entry) (k n : ℕ) → k < n
     → lists_in_turn list k (n - k) ≡ list k ++ lists_in_turn list (k + 1) (n - (k + 1))

@@ -1,9 +1,11 @@
 -- The entries near a segment.
-use Rattle.std.specs.Prelude.{◌≡◌, ℕ, zero, suc, ◌+◌, ◌-◌, List, [], ◌++◌, length, if◌then◌else◌}
+use Rattle.std.specs.Prelude.{◌≡◌, IsTrue, ℕ, zero, suc, ◌+◌, ◌-◌, ◌<◌, ◌≤◌, List, [], ◌∷◌, ◌++◌, length, filter, if◌then◌else◌}
 use Rattle.geo_exact.specs.Position.{Position}
 use Rattle.cell_grid.specs.declared.block.CellSize.{CellSize}
+use Rattle.cell_grid.specs.declared.bounds.Bounds.{Bounds}
 use Rattle.cell_grid.specs.declared.entry.Entry.{Entry}
 use Rattle.cell_grid.specs.declared.near.Scope.{Scope}
+use Rattle.cell_grid.specs.Bounds.{is_near}
 use Rattle.cell_grid.specs.Cells.{IsBlock, block_of, cell_count, cell_at, is_cell_of}
 use Rattle.cell_grid.specs.Held.{HeldEntries, entries_at, cell_in_turn, list_in_turn}
 
@@ -31,3 +33,18 @@ lists_in_turn list k (suc n) = list k ++ lists_in_turn list (k + 1) n
 -- the lists from a place on
 abbrev pub lists_from : HeldEntries → Scope → ℕ → List Entry
 lists_from lists s k = lists_in_turn (searched_list lists s) k (searched_count lists s - k)
+
+-- the list is some entries that aren't near, one that is, and the rest
+pub record IsFirstNear (w : Bounds) (list : List Entry) (entry : Entry) (rest : List Entry) : Type 0 where
+  pub before : List Entry
+  pub is : list ≡ before ++ (entry ∷ rest)
+  pub none_before : filter (is_near w) before ≡ []
+  pub near : IsTrue (is_near w entry)
+
+-- the first near entry of the lists from a place on: it stands in the list before `next`, the rest is
+-- what comes after it there, and nothing near stands in the lists before that one
+pub record IsFirstFrom (lists : HeldEntries) (s : Scope) (w : Bounds) (from : ℕ) (entry : Entry)
+    (rest : List Entry) (next : ℕ) : Type 0 where
+  pub past : from < next
+  pub stands : IsFirstNear w (searched_list lists s (next - 1)) entry rest
+  pub none_before : (k : ℕ) → from ≤ k → k < next - 1 → filter (is_near w) (searched_list lists s k) ≡ []

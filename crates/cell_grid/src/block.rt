@@ -1,5 +1,5 @@
 //! Blocks of cells, and the cells that the box of a segment touches.
-ghost use Rattle.std.specs.Prelude.{◌≡◌, ◌<◌, ◌≤◌, ◌+◌, ◌-◌, ◌*◌, min, max};
+ghost use Rattle.std.specs.Prelude.{◌≡◌, ◌<◌, ◌≤◌, ◌+◌, ◌-◌, ◌*◌};
 ghost use Rattle.geo_exact.specs.Position.{InRange};
 ghost use Rattle.cell_grid.specs.Cells.{place_along as place_along_of, IsSide, AreSideBits, IsCellSize, IsBlock, cells_in_row, block_of as block_of_box, width as width_of, cell_count as cell_count_of, cell_at as cell_at_of, is_cell_of};
 
@@ -62,22 +62,6 @@ fn place_along(bits: u32, coordinate: i64) -> u64
     (coordinate + SHIFT).unsigned_abs() >> bits
 }
 
-/// The lesser of two numbers.
-fn lesser(a: u64, b: u64) -> u64
-    ensures first { result ≤ a }
-    ensures second { result ≤ b }
-    ensures value { result ≡ min a b }
-{
-    if a < b { a } else { b }
-}
-
-/// The greater of two numbers.
-fn greater(a: u64, b: u64) -> u64
-    ensures { result ≡ max a b }
-{
-    if a < b { b } else { a }
-}
-
 /// The cells of a size that the box of a segment touches.
 pub(crate) fn block_of(size: CellSize, a: Pt, b: Pt) -> Block
     requires { IsCellSize size }
@@ -89,10 +73,10 @@ pub(crate) fn block_of(size: CellSize, a: Pt, b: Pt) -> Block
     let a_row = place_along(size.height_bits, a.y);
     let b_row = place_along(size.height_bits, b.y);
     Block {
-        left: lesser(a_column, b_column),
-        right: greater(a_column, b_column),
-        bottom: lesser(a_row, b_row),
-        top: greater(a_row, b_row),
+        left: a_column.min(b_column),
+        right: a_column.max(b_column),
+        bottom: a_row.min(b_row),
+        top: a_row.max(b_row),
     }
 }
 

@@ -1,6 +1,5 @@
 //! The bounds of a box, and the entries near it.
 ghost use Rattle.std.specs.Prelude.{◌≡◌};
-ghost use Rattle.std.specs.Int.{int_min, int_max};
 ghost use Rattle.cell_grid.specs.Bounds.{bounds_of as bounds_of_box, reaches, is_near as is_near_of};
 
 use crate::entry::Entry;
@@ -20,25 +19,11 @@ pub(crate) fn bounds_of(a: Pt, b: Pt) -> Bounds
     ensures { result ≡ bounds_of_box a b }
 {
     Bounds {
-        west: lesser(a.x, b.x),
-        east: greater(a.x, b.x),
-        south: lesser(a.y, b.y),
-        north: greater(a.y, b.y),
+        west: a.x.min(b.x),
+        east: a.x.max(b.x),
+        south: a.y.min(b.y),
+        north: a.y.max(b.y),
     }
-}
-
-/// The lesser of two coordinates.
-fn lesser(a: i64, b: i64) -> i64
-    ensures { result ≡ int_min a b }
-{
-    if b < a { b } else { a }
-}
-
-/// The greater of two coordinates.
-fn greater(a: i64, b: i64) -> i64
-    ensures { result ≡ int_max a b }
-{
-    if a < b { b } else { a }
 }
 
 /// Whether an entry has an x in common with the box of these bounds.

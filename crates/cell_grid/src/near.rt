@@ -5,10 +5,10 @@ ghost use Rattle.geo_exact.specs.Position.{OnTheMap};
 ghost use Rattle.std.specs.Prelude.{◌≡◌, IsTrue, ◌<◌, ◌≤◌, ◌∷◌, ◌++◌, [], filter, IfSome, IfNone};
 ghost use Rattle.std.specs.Iterator.{YieldsFirstRef, item_count};
 ghost use Rattle.cell_grid.specs.declared.entry.Entry.{Entry as Segment};
-ghost use Rattle.cell_grid.specs.Bounds.{is_near as is_near_of};
+ghost use Rattle.cell_grid.specs.Bounds.{bounds_of as bounds_of_box, is_near as is_near_of};
 ghost use Rattle.cell_grid.specs.Cells.{IsCellSize, IsBlock};
 ghost use Rattle.cell_grid.specs.Spread.{IsSpread, Stands};
-ghost use Rattle.cell_grid.specs.Near.{IsScope, searched_count as searched_count_of, searched_list as searched_list_of, lists_from};
+ghost use Rattle.cell_grid.specs.Near.{IsScope, searched_count as searched_count_of, searched_list as searched_list_of, lists_from, IsFirstNear, IsFirstFrom};
 ghost use Rattle.cell_grid.specs.Kept.{kept, AreSpread, IsHeld};
 
 use crate::block::{Block, block_of};
@@ -65,6 +65,7 @@ fn searched_list<'a>(layer: &'a Layer, scope: &Scope, place: usize) -> &'a [Entr
 
 /// The first entry of a list that is near, and those that come after it.
 fn first_near<'a>(list: &'a [Entry], bounds: &Bounds) -> Option<(&'a Entry, &'a [Entry])>
+    ensures stands { IfSome result (λ r. IsFirstNear bounds.now list.now r.0.now r.1.now) }
     ensures some { IfSome result (λ r. filter (is_near_of bounds.now) list.now
         ≡ r.0.now ∷ filter (is_near_of bounds.now) r.1.now) }
     ensures none { IfNone result (filter (is_near_of bounds.now) list.now ≡ []) }
@@ -98,6 +99,8 @@ fn find_from<'a>(
     requires block { IsBlock scope.now.block }
     requires there { from ≤ end }
     requires end { end ≡ searched_count_of layer.now.lists scope.now }
+    ensures stands { IfSome result (λ f. IsFirstFrom layer.now.lists scope.now bounds.now from
+        f.entry.now f.rest.now f.next) }
     ensures within { IfSome result (λ f. f.next ≤ end) }
     ensures some { IfSome result
         (λ f. filter (is_near_of bounds.now) (lists_from layer.now.lists scope.now from)
@@ -145,11 +148,12 @@ impl<'a> Model for NearInLayer<'a> {
 }
 
 impl<'a> NearInLayer<'a> {
-    /// The search at its beginning. It takes no memory.
-    fn of(layer: &'a Layer, from: Pt, to: Pt) -> NearInLayer<'a>
+    /// The search at its beginning, for a segment with these bounds. It takes no memory.
+    fn of(layer: &'a Layer, from: Pt, to: Pt, bounds: Bounds) -> NearInLayer<'a>
         requires spread { IsSpread layer.now.size layer.now.lists }
         requires on_from { OnTheMap from }
         requires on_to { OnTheMap to }
+        requires bounds { bounds ≡ bounds_of_box from to }
         ensures held { (e : Segment) → Contains result e
             → Stands layer.now.lists e × IsTrue (boxes_overlap from to e.from e.to) }
         ensures all { (e : Segment) → Stands layer.now.lists e
@@ -158,7 +162,7 @@ impl<'a> NearInLayer<'a> {
         let scope = scope_of(layer, from, to);
         NearInLayer {
             layer,
-            bounds: bounds_of(from, to),
+            bounds,
             scope,
             list: &[],
             next: 0,
@@ -226,12 +230,13 @@ impl<'a> NearEntries<'a> {
         ensures all { (e : Segment) → IsHeld (kept segments.now) e
             → IsTrue (boxes_overlap from to e.from e.to) → Contains result e }
     {
+        let bounds = bounds_of(from, to);
         NearEntries {
-            small_squares: NearInLayer::of(&segments.small_squares, from, to),
-            squares: NearInLayer::of(&segments.squares, from, to),
-            lanes_east: NearInLayer::of(&segments.lanes_east, from, to),
-            lanes_north: NearInLayer::of(&segments.lanes_north, from, to),
-            bounds: bounds_of(from, to),
+            small_squares: NearInLayer::of(&segments.small_squares, from, to, bounds),
+            squares: NearInLayer::of(&segments.squares, from, to, bounds),
+            lanes_east: NearInLayer::of(&segments.lanes_east, from, to, bounds),
+            lanes_north: NearInLayer::of(&segments.lanes_north, from, to, bounds),
+            bounds,
             long: segments.long.entries.as_slice(),
         }
     }

@@ -25,7 +25,7 @@ returns-clause-held c =
     subst (λ (long : List Entry). (e : Entry)
     → Contains (c.of.result ++ (c.of-2.result ++ (c.of-3.result ++ (c.of-4.result ++ long)))) e
     → IsHeld k e × IsTrue (near e))
-    (given-long c.args.segments.now.long.entries.items c.args.from c.args.to c.bounds_of.ensures
+    (given-long c.args.segments.now.long.entries.items c.args.from c.args.to c.bounds_of-bounds.ensures
     c.as_slice.ensures.value)
     (given-held k near c.of.result c.of-2.result c.of-3.result c.of-4.result c.of.ensures.held
     c.of-2.ensures.held c.of-3.ensures.held c.of-4.ensures.held)
@@ -36,7 +36,7 @@ returns-clause-all c =
     let near = λ (e : Entry). boxes_overlap c.args.from c.args.to e.from e.to in
     subst (λ (long : List Entry). (e : Entry) → IsHeld k e → IsTrue (near e)
     → Contains (c.of.result ++ (c.of-2.result ++ (c.of-3.result ++ (c.of-4.result ++ long)))) e)
-    (given-long c.args.segments.now.long.entries.items c.args.from c.args.to c.bounds_of.ensures
+    (given-long c.args.segments.now.long.entries.items c.args.from c.args.to c.bounds_of-bounds.ensures
     c.as_slice.ensures.value)
     (given-all k near c.of.result c.of-2.result c.of-3.result c.of-4.result c.of.ensures.all
     c.of-2.ensures.all c.of-3.ensures.all c.of-4.ensures.all)

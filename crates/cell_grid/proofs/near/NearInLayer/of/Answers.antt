@@ -11,10 +11,10 @@ invariant_of-result c = record {
 
 pub returns-clause-held : goal.returns-clause-held
 returns-clause-held c =
-    rw c.bounds_of.ensures (given-stands c.args.layer.now.lists c.args.from c.args.to c.scope_of-scope.result)
+    rw c.requires.bounds (given-stands c.args.layer.now.lists c.args.from c.args.to c.scope_of-scope.result)
 
 pub returns-clause-all : goal.returns-clause-all
 returns-clause-all c =
-    rw c.bounds_of.ensures (given-all c.args.layer.now.lists c.args.from c.args.to c.scope_of-scope.result
+    rw c.requires.bounds (given-all c.args.layer.now.lists c.args.from c.args.to c.scope_of-scope.result
     c.args.layer.now.size c.requires.spread c.scope_of-scope.ensures
     c.requires.on_from c.requires.on_to)
