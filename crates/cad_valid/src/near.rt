@@ -1,5 +1,5 @@
 //! The first rule that a map breaks, looked for near an edit.
-ghost use Rattle.std.specs.Prelude.{◌↔◌, IsTrue, IfSome, IfNone};
+ghost use Rattle.std.specs.Prelude.{◌≡◌, ◌↔◌, [], IsTrue, IfSome, IfNone};
 ghost use Rattle.cad_rows.specs.declared.refusals.Rule.TheVariants.{V3, V4, V6, V7, V8};
 ghost use Rattle.cad_map.specs.Valid.{HasSoundRows, HasTwoEnds};
 ghost use Rattle.cad_map.specs.Valid.{CanBeTested, Keeps, KeepsAll, FirstBroken};
@@ -28,7 +28,7 @@ use crate::near::corners::{are_empty_at, are_empty_at_ends};
 use crate::near::faces::{FaceRules, rules_of_faces};
 use crate::near::many::are_many_uncrossed;
 use crate::near::points::are_alone;
-use crate::near::seen::{Seen, seen_of};
+use crate::near::seen::{Seen, gather};
 use crate::near::sight::{sees_points_clear, sees_strings_clear};
 use crate::near::strings::{are_uncrossed, lie_at_ends};
 use cad_map::MapView;
@@ -135,11 +135,12 @@ pub fn first_broken_near<M: MapView>(
     ensures broken { IfSome result (FirstBroken (M.map map.now)) }
     ensures kept { IfNone result (KeepsAll (M.map map.now)) }
 {
-    let seen = seen_alone(map, grid, touched);
-    if !has_distinct_positions(map, grid, touched, seen.as_ref()) {
+    let mut gathered = Seen::none();
+    let seen = seen_alone(map, grid, touched, &mut gathered);
+    if !has_distinct_positions(map, grid, touched, seen) {
         return Some(Rule::V3);
     }
-    if !has_no_crossing(alloc, map, grid, touched, seen.as_ref()) {
+    if !has_no_crossing(alloc, map, grid, touched, seen) {
         return Some(Rule::V4);
     }
     if !has_empty_corners(alloc, map, touched) {
@@ -156,14 +157,20 @@ pub fn first_broken_near<M: MapView>(
 }
 
 /// What an edit touched, where that is little and near together, and all points near it are seen to be
-/// clear of it.
-fn seen_alone<M: MapView>(map: &M, grid: &CellGrid, touched: &Touched) -> Option<Seen>
+/// clear of it. It is gathered in `seen`, where nothing was gathered yet.
+fn seen_alone<'a, M: MapView>(
+    map: &M,
+    grid: &CellGrid,
+    touched: &Touched,
+    seen: &'a mut Seen,
+) -> Option<&'a Seen>
     requires sound { HasSoundRows (M.map map.now) }
     requires held { HoldsMap grid.now (M.map map.now) }
-    ensures { IfSome result (IsSeenAlone (M.map map.now) (touched_of touched.now)) }
+    requires no_strings { seen.old.strings.items ≡ [] }
+    requires no_points { seen.old.points.items ≡ [] }
+    ensures { IfSome result (λ v. IsSeenAlone (M.map map.now) (touched_of touched.now) v.now) }
 {
-    let seen = seen_of(map, touched)?;
-    if sees_points_clear(map, grid, &seen) {
+    if gather(map, touched, seen) && sees_points_clear(map, grid, seen) {
         Some(seen)
     } else {
         None

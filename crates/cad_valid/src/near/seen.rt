@@ -1,5 +1,5 @@
 //! What an edit touched, as it lies on the map, where that is little and near together.
-ghost use Rattle.std.specs.Prelude.{◌≡◌, ◌<◌, ◌≤ℤ◌, length, IfSome, IfNone};
+ghost use Rattle.std.specs.Prelude.{◌≡◌, ◌<◌, ◌≤ℤ◌, [], length, false, IsTrue};
 ghost use Rattle.std.specs.List.{AllByRecursion, Contains};
 ghost use Rattle.geo_exact.specs.Position.{Position, InRange};
 ghost use Rattle.cad_map.specs.Valid.{HasSoundRows};
@@ -73,43 +73,61 @@ pub(crate) fn lying_point(point: &PointRow) -> Lying
     }
 }
 
-/// Those of these strings that the map has, and `None` where they are more than eight.
-fn strings_seen<M: MapView>(map: &M, strings: &[StringNo]) -> Option<ArrayVec<Lying, 8>>
-    requires { HasSoundRows (M.map map.now) }
-    ensures some { IfSome result (λ seen. AllByRecursion
-        (OfString (M.map map.now) (λ s. Contains seen.items (lying_string_of (M.map map.now) s)))
-        strings.now) }
-    ensures none { IfNone result (8 < length strings.now) }
+impl Seen {
+    /// Nothing, before anything is gathered.
+    pub(crate) fn none() -> Seen
+        ensures strings { result.strings.items ≡ [] }
+        ensures points { result.points.items ≡ [] }
+    {
+        let origin = Pt { x: 0, y: 0 };
+        Seen {
+            strings: ArrayVec::new(),
+            points: ArrayVec::new(),
+            reach: Reach {
+                low: origin,
+                high: origin,
+            },
+        }
+    }
+}
+
+/// Gathers those of these strings that the map has. `false` where they are more than eight.
+fn gather_strings<M: MapView>(map: &M, strings: &[StringNo], seen: &mut ArrayVec<Lying, 8>) -> bool
+    requires sound { HasSoundRows (M.map map.now) }
+    requires none { seen.old.items ≡ [] }
+    ensures all { IsTrue result → AllByRecursion
+        (OfString (M.map map.now) (λ s. Contains seen.new.items (lying_string_of (M.map map.now) s)))
+        strings.now }
+    ensures many { result ≡ false → 8 < length strings.now }
 {
-    let mut seen = ArrayVec::new();
     for place in 0..strings.len() {
         if let Some(row) = map.string(strings[place]) {
             if seen.is_full() {
-                return None;
+                return false;
             }
             seen.push(lying_string(map, row));
         }
     }
-    Some(seen)
+    true
 }
 
-/// Those of these points that the map has, and `None` where they are more than sixteen.
-fn points_seen<M: MapView>(map: &M, points: &[PointNo]) -> Option<ArrayVec<Lying, 16>>
-    requires { HasSoundRows (M.map map.now) }
-    ensures some { IfSome result (λ seen. AllByRecursion
-        (OfPoint (M.map map.now) (λ p. Contains seen.items (lying_point_of p))) points.now) }
-    ensures none { IfNone result (16 < length points.now) }
+/// Gathers those of these points that the map has. `false` where they are more than sixteen.
+fn gather_points<M: MapView>(map: &M, points: &[PointNo], seen: &mut ArrayVec<Lying, 16>) -> bool
+    requires sound { HasSoundRows (M.map map.now) }
+    requires none { seen.old.items ≡ [] }
+    ensures all { IsTrue result → AllByRecursion
+        (OfPoint (M.map map.now) (λ p. Contains seen.new.items (lying_point_of p))) points.now }
+    ensures many { result ≡ false → 16 < length points.now }
 {
-    let mut seen = ArrayVec::new();
     for place in 0..points.len() {
         if let Some(row) = map.point(points[place]) {
             if seen.is_full() {
-                return None;
+                return false;
             }
             seen.push(lying_point(row));
         }
     }
-    Some(seen)
+    true
 }
 
 /// The lesser of two coordinates.
@@ -168,25 +186,28 @@ pub(crate) fn is_small(reach: &Reach) -> bool {
     reach.high.x - reach.low.x <= MOST_REACH && reach.high.y - reach.low.y <= MOST_REACH
 }
 
-/// What an edit touched, where that is little and near together.
-pub(crate) fn seen_of<M: MapView>(map: &M, touched: &Touched) -> Option<Seen>
-    requires { HasSoundRows (M.map map.now) }
-    ensures { IfSome result (IsSeen (M.map map.now) (touched_of touched.now)) }
+/// Gathers what an edit touched, where that is little and near together. It is gathered in place,
+/// since what is gathered is large to be handed on.
+pub(crate) fn gather<M: MapView>(map: &M, touched: &Touched, seen: &mut Seen) -> bool
+    requires sound { HasSoundRows (M.map map.now) }
+    requires no_strings { seen.old.strings.items ≡ [] }
+    requires no_points { seen.old.points.items ≡ [] }
+    ensures { IsTrue result → IsSeen (M.map map.now) (touched_of touched.now) seen.new }
 {
-    let strings = strings_seen(map, touched.strings.as_slice())?;
-    let points = points_seen(map, touched.points.as_slice())?;
-    let first = points.as_slice().first()?.a;
-    let at_first = Reach {
-        low: first,
-        high: first,
-    };
-    let reach = grown_by(grown_by(at_first, strings.as_slice()), points.as_slice());
-    if !is_small(&reach) {
-        return None;
+    if !gather_strings(map, touched.strings.as_slice(), &mut seen.strings) {
+        return false;
     }
-    Some(Seen {
-        strings,
-        points,
-        reach,
-    })
+    if !gather_points(map, touched.points.as_slice(), &mut seen.points) {
+        return false;
+    }
+    let Some(first) = seen.points.as_slice().first() else {
+        return false;
+    };
+    let at_first = Reach {
+        low: first.a,
+        high: first.a,
+    };
+    let with_strings = grown_by(at_first, seen.strings.as_slice());
+    seen.reach = grown_by(with_strings, seen.points.as_slice());
+    is_small(&seen.reach)
 }

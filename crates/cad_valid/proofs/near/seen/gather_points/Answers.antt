@@ -6,8 +6,8 @@ use Rattle.cad_valid.specs.declared.near.seen.Lying.{Lying}
 use Rattle.cad_valid.specs.Near.{OfPoint}
 use Rattle.cad_valid.specs.Seen.{lying_point}
 use Rattle.cad_valid.proofs.SeenNear.{point-gathered, no_point-gathered}
-use Rattle.cad_valid.proofs.near.seen.points_seen.Goals as goal
-use Rattle.cad_valid.proofs.near.seen.points_seen.Goals.{in-Some+else-is_full, in_default}
+use Rattle.cad_valid.proofs.near.seen.gather_points.Goals as goal
+use Rattle.cad_valid.proofs.near.seen.gather_points.Goals.{in-Some+else-is_full, in_default}
 
 pub loop-place-preserved : goal.loop-place-preserved
 loop-place-preserved g c =
@@ -22,12 +22,12 @@ loop-place-preserved g c =
       | in-Some+else-is_full w ↦ record {
         all = subst (λ (l : List Lying). AllByRecursion (OfPoint m (λ p. Contains l (lying_point p))) (take (k + 1) numbers))
             (sym (ap (λ v. v.items) w.seen-is ∙ w.push.ensures.items ∙ ap (λ (f : Lying). before ++ f ∷ []) w.lying_point.ensures))
-            (point-gathered m c.requires lying_point before numbers k n w.in-Some.row.now at (sym w.in-Some.ensures) kept.all);
+            (point-gathered m c.requires.sound lying_point before numbers k n w.in-Some.row.now at (sym w.in-Some.ensures) kept.all);
         few = subst (λ v. length v.items ≤ k + 1) (sym w.seen-is) (omega (arith, w.push.ensures.len, kept.few));
       }
       | in_default w ↦ record {
         all = subst (λ (l : List Lying). AllByRecursion (OfPoint m (λ p. Contains l (lying_point p))) (take (k + 1) numbers))
-            (sym (ap (λ v. v.items) w.seen-is)) (no_point-gathered m c.requires lying_point before numbers k n at (sym w.in_default.ensures) kept.all);
+            (sym (ap (λ v. v.items) w.seen-is)) (no_point-gathered m c.requires.sound lying_point before numbers k n at (sym w.in_default.ensures) kept.all);
         few = subst (λ v. length v.items ≤ k + 1) (sym w.seen-is) (omega (arith, kept.few));
       }
     ]

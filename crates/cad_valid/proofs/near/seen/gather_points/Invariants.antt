@@ -2,7 +2,7 @@ use Rattle.std.proofs.Common.{◌≤◌, length, take}
 use Rattle.std.specs.List.{AllByRecursion, Contains}
 use Rattle.cad_valid.specs.Near.{OfPoint}
 use Rattle.cad_valid.specs.Seen.{lying_point}
-use Rattle.cad_valid.proofs.near.seen.points_seen.Given as goal
+use Rattle.cad_valid.proofs.near.seen.gather_points.Given as goal
 
 -- the points so far that the map has were gathered
 abbrev pub invariant-loop-place : goal.invariant-loop-place

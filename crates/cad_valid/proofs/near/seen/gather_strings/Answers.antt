@@ -6,8 +6,8 @@ use Rattle.cad_valid.specs.declared.near.seen.Lying.{Lying}
 use Rattle.cad_valid.specs.Near.{OfString}
 use Rattle.cad_valid.specs.Seen.{lying_string}
 use Rattle.cad_valid.proofs.SeenNear.{string-gathered, no_string-gathered}
-use Rattle.cad_valid.proofs.near.seen.strings_seen.Goals as goal
-use Rattle.cad_valid.proofs.near.seen.strings_seen.Goals.{in-Some+else-is_full, in_default}
+use Rattle.cad_valid.proofs.near.seen.gather_strings.Goals as goal
+use Rattle.cad_valid.proofs.near.seen.gather_strings.Goals.{in-Some+else-is_full, in_default}
 
 pub loop-place-preserved : goal.loop-place-preserved
 loop-place-preserved g c =
@@ -22,12 +22,12 @@ loop-place-preserved g c =
       | in-Some+else-is_full w ↦ record {
         all = subst (λ (l : List Lying). AllByRecursion (OfString m (λ s. Contains l (lying_string m s))) (take (k + 1) numbers))
             (sym (ap (λ v. v.items) w.seen-is ∙ w.push.ensures.items ∙ ap (λ (f : Lying). before ++ f ∷ []) w.lying_string.ensures))
-            (string-gathered m c.requires (lying_string m) before numbers k n w.in-Some.row.now at (sym w.in-Some.ensures) kept.all);
+            (string-gathered m c.requires.sound (lying_string m) before numbers k n w.in-Some.row.now at (sym w.in-Some.ensures) kept.all);
         few = subst (λ v. length v.items ≤ k + 1) (sym w.seen-is) (omega (arith, w.push.ensures.len, kept.few));
       }
       | in_default w ↦ record {
         all = subst (λ (l : List Lying). AllByRecursion (OfString m (λ s. Contains l (lying_string m s))) (take (k + 1) numbers))
-            (sym (ap (λ v. v.items) w.seen-is)) (no_string-gathered m c.requires (lying_string m) before numbers k n at (sym w.in_default.ensures) kept.all);
+            (sym (ap (λ v. v.items) w.seen-is)) (no_string-gathered m c.requires.sound (lying_string m) before numbers k n at (sym w.in_default.ensures) kept.all);
         few = subst (λ v. length v.items ≤ k + 1) (sym w.seen-is) (omega (arith, kept.few));
       }
     ]

@@ -2,7 +2,7 @@ use Rattle.std.proofs.Common.{◌≤◌, length, take}
 use Rattle.std.specs.List.{AllByRecursion, Contains}
 use Rattle.cad_valid.specs.Near.{OfString}
 use Rattle.cad_valid.specs.Seen.{lying_string}
-use Rattle.cad_valid.proofs.near.seen.strings_seen.Given as goal
+use Rattle.cad_valid.proofs.near.seen.gather_strings.Given as goal
 
 -- the strings so far that the map has were gathered
 abbrev pub invariant-loop-place : goal.invariant-loop-place
