@@ -2,7 +2,7 @@ use Rattle.std.proofs.Common.{◌≡◌, ◌≢◌, ℕ, zero, suc, ◌+◌, ◌
 use Rattle.std.proofs.lemmas.List.{get_or_past, length-set, length-take-le}
 use Rattle.std.proofs.lemmas.Grind.{get_or-set_at}
 use Rattle.std.proofs.lemmas.Bool.{cases_order, cases_lt, cases_eq}
-use Rattle.entry_list.specs.Totals.{total_before, AreMarks, IsTallied}
+use Rattle.entry_list.specs.Totals.{total_before, AreMarks, AreBlockSums, IsTallied}
 
 pub total-zero : (xs : List ℕ) → total_before 0 xs ≡ 0
 unfolding total_before
@@ -84,46 +84,58 @@ total-push-lt (suc zero) y [] h = omega arith
 total-push-lt (suc (suc k)) y [] h = omega arith
 total-push-lt (suc k) y (x ∷ xs) h = omega (arith, total-push-lt k y xs (omega arith))
 
--- the sums before a block are the marks before it
-blocks-suc : (j : ℕ) (marks sums : List ℕ) → IsTallied marks sums
-    → total_before (j * 512) marks ≡ total_before j sums
-blocks-suc zero marks sums h = omega (arith, total-zero marks, total-zero sums)
-blocks-suc (suc j) marks sums h =
-    let e : suc j * 512 ≡ j * 512 + 512 = omega arith in
-    rw e (omega (arith, h.each j, total-suc j sums, blocks-suc j marks sums h))
+-- the sums before a block are the numbers before it
+pub blocks : (j : ℕ) (xs sums : List ℕ) → AreBlockSums xs sums
+    → total_before (j * 64) xs ≡ total_before j sums
+blocks zero xs sums h = omega (arith, total-zero xs, total-zero sums)
+blocks (suc j) xs sums h =
+    let e : suc j * 64 ≡ j * 64 + 64 = omega arith in
+    rw e (omega (arith, h.each j, total-suc j sums, blocks j xs sums h))
 
-pub blocks : (j : ℕ) (marks sums : List ℕ) → IsTallied marks sums
-    → total_before (j * 512) marks ≡ total_before j sums
-blocks = blocks-suc
-
-pub empty_tallied : IsTallied [] []
+empty_sums : AreBlockSums [] []
 unfolding total_before
-empty_tallied = record {
+empty_sums = record {
   each =
       λ j. omega (
         arith,
-        total-all (j * 512) [] (omega arith),
-        total-all (j * 512 + 512) [] (omega arith),
+        total-all (j * 64) [] (omega arith),
+        total-all (j * 64 + 64) [] (omega arith),
       );
   room = omega arith;
-  ones = λ k. omega arith;
 }
 
--- the lemmas that the functions cite
-pub mark-le-sum : (i : ℕ) (marks sums : List ℕ) → IsTallied marks sums
-    → get_or marks i 0 ≤ get_or sums (i / 512) 0
-mark-le-sum i marks sums h =
+-- a number is at most the sum of its block
+part-le-sum : (i : ℕ) (xs sums : List ℕ) → AreBlockSums xs sums
+    → get_or xs i 0 ≤ get_or sums (i / 64) 0
+part-le-sum i xs sums h =
     omega (
       arith,
-      h.each (i / 512),
-      total-more i marks,
-      total-le (i / 512 * 512) i marks (omega arith),
-      total-le (i + 1) (i / 512 * 512 + 512) marks (omega arith),
+      h.each (i / 64),
+      total-more i xs,
+      total-le (i / 64 * 64) i xs (omega arith),
+      total-le (i + 1) (i / 64 * 64 + 64) xs (omega arith),
     )
 
-pub sum-small : (j : ℕ) (marks sums : List ℕ) → IsTallied marks sums → get_or sums j 0 ≤ 512
-sum-small j marks sums h =
-    omega (arith, h.each j, total-le-ones (j * 512) (j * 512 + 512) marks h.ones (omega arith))
+-- a sum of 64 marks, and a total of 64 such sums
+pub sum-small : (j : ℕ) (marks sums totals : List ℕ) → IsTallied marks sums totals
+    → get_or sums j 0 ≤ 64
+sum-small j marks sums totals h =
+    omega (
+      arith,
+      h.sums_right.each j,
+      total-le-ones (j * 64) (j * 64 + 64) marks h.ones (omega arith),
+    )
+
+pub whole-small : (j : ℕ) (marks sums totals : List ℕ) → IsTallied marks sums totals
+    → get_or totals j 0 ≤ 4096
+whole-small j marks sums totals h =
+    omega (
+      arith,
+      h.totals_right.each j,
+      blocks (j * 64) marks sums h.sums_right,
+      blocks (j * 64 + 64) marks sums h.sums_right,
+      total-le-ones (j * 64 * 64) ((j * 64 + 64) * 64) marks h.ones (omega arith),
+    )
 
 pub total-small : (i : ℕ) (marks : List ℕ) → AreMarks marks → total_before i marks ≤ i
 total-small i marks a = omega (arith, total-le-ones 0 i marks a (omega arith), total-zero marks)
@@ -136,103 +148,103 @@ ones-set i y k marks a u (inr past) e =
 ones-set i y k marks a u (inl lt) (inl e) = rw (get_or-set_at marks i k y 0 e (omega arith)) u
 ones-set i y k marks a u (inl lt) (inr ne) = rw (get_or-set_other marks i k y 0 ne) (a k)
 
-set-each : (i y n j : ℕ) (marks sums : List ℕ) → IsTallied marks sums → i < length marks
-    → n + get_or marks i 0 ≡ get_or sums (i / 512) 0 + y
-    → (j ≡ i / 512) ⊎ ((j < i / 512) ⊎ (i / 512 < j))
-    → total_before (j * 512) (set marks i y) + get_or (set sums (i / 512) n) j 0
-    ≡ total_before (j * 512 + 512) (set marks i y)
-set-each i y n j marks sums h l e (inl same) =
-    let lt : i / 512 < length sums = omega (arith, h.room) in
-    let a : get_or (set sums (i / 512) n) j 0 ≡ n = get_or-set_at sums (i / 512) j n 0 same lt in
-    let s : get_or sums (i / 512) 0 ≡ get_or sums j 0 = ap (λ k. get_or sums k 0) (sym same) in
+-- a number is set: the sum of its block changes by as much, and the others stay
+set-each : (i y n j : ℕ) (xs sums : List ℕ) → AreBlockSums xs sums → i < length xs
+    → n + get_or xs i 0 ≡ get_or sums (i / 64) 0 + y
+    → (j ≡ i / 64) ⊎ ((j < i / 64) ⊎ (i / 64 < j))
+    → total_before (j * 64) (set xs i y) + get_or (set sums (i / 64) n) j 0
+    ≡ total_before (j * 64 + 64) (set xs i y)
+set-each i y n j xs sums h l e (inl same) =
+    let lt : i / 64 < length sums = omega (arith, h.room) in
+    let a : get_or (set sums (i / 64) n) j 0 ≡ n = get_or-set_at sums (i / 64) j n 0 same lt in
+    let s : get_or sums (i / 64) 0 ≡ get_or sums j 0 = ap (λ k. get_or sums k 0) (sym same) in
     omega (
       arith,
       a,
       s,
       e,
       h.each j,
-      total-set-le (j * 512) i y marks (omega arith),
-      total-set-lt (j * 512 + 512) i y marks (omega arith) l,
+      total-set-le (j * 64) i y xs (omega arith),
+      total-set-lt (j * 64 + 64) i y xs (omega arith) l,
     )
-set-each i y n j marks sums h l e (inr (inl lt)) =
+set-each i y n j xs sums h l e (inr (inl lt)) =
     omega (
       arith,
-      get_or-set_other sums (i / 512) j n 0 (omega arith),
+      get_or-set_other sums (i / 64) j n 0 (omega arith),
       h.each j,
-      total-set-le (j * 512) i y marks (omega arith),
-      total-set-le (j * 512 + 512) i y marks (omega arith),
+      total-set-le (j * 64) i y xs (omega arith),
+      total-set-le (j * 64 + 64) i y xs (omega arith),
     )
-set-each i y n j marks sums h l e (inr (inr gt)) =
+set-each i y n j xs sums h l e (inr (inr gt)) =
     omega (
       arith,
-      get_or-set_other sums (i / 512) j n 0 (omega arith),
+      get_or-set_other sums (i / 64) j n 0 (omega arith),
       h.each j,
-      total-set-lt (j * 512) i y marks (omega arith) l,
-      total-set-lt (j * 512 + 512) i y marks (omega arith) l,
+      total-set-lt (j * 64) i y xs (omega arith) l,
+      total-set-lt (j * 64 + 64) i y xs (omega arith) l,
     )
 
-pub set_tallied : (i y n : ℕ) (marks sums : List ℕ) → IsTallied marks sums → i < length marks
-    → y ≤ 1 → n + get_or marks i 0 ≡ get_or sums (i / 512) 0 + y
-    → IsTallied (set marks i y) (set sums (i / 512) n)
-set_tallied i y n marks sums h l u e = record {
-  each = λ j. set-each i y n j marks sums h l e (cases_order j (i / 512));
-  room = omega (arith, h.room, length-set marks i y, length-set sums (i / 512) n);
-  ones = λ k. ones-set i y k marks h.ones u (cases_lt k (length marks)) (cases_eq k i);
+set_sums : (i y n : ℕ) (xs sums : List ℕ) → AreBlockSums xs sums → i < length xs
+    → n + get_or xs i 0 ≡ get_or sums (i / 64) 0 + y
+    → AreBlockSums (set xs i y) (set sums (i / 64) n)
+set_sums i y n xs sums h l e = record {
+  each = λ j. set-each i y n j xs sums h l e (cases_order j (i / 64));
+  room = omega (arith, h.room, length-set xs i y, length-set sums (i / 64) n);
 }
 
+-- a further sum of 0
 push-zero : (xs : List ℕ) (k : ℕ) → get_or (xs ++ 0 ∷ []) k 0 ≡ get_or xs k 0
 push-zero [] zero = refl
 push-zero [] (suc k) = refl
 push-zero (x ∷ xs) zero = refl
 push-zero (x ∷ xs) (suc k) = push-zero xs k
 
-pub room_tallied : (marks sums : List ℕ) → IsTallied marks sums → IsTallied marks (sums ++ 0 ∷ [])
-room_tallied marks sums h = record {
+room_sums : (xs sums : List ℕ) → AreBlockSums xs sums → AreBlockSums xs (sums ++ 0 ∷ [])
+room_sums xs sums h = record {
   each = λ j. rw (push-zero sums j) (h.each j);
   room = omega (arith, h.room, length-append sums (0 ∷ []));
-  ones = h.ones;
 }
 
 -- the sum of another block stays, where both its ends have as much more before them
-push-other : (y j more : ℕ) (marks sums : List ℕ) → IsTallied marks sums → j ≢ length marks / 512
-    → total_before (j * 512) (marks ++ y ∷ []) ≡ total_before (j * 512) marks + more
-    → total_before (j * 512 + 512) (marks ++ y ∷ []) ≡ total_before (j * 512 + 512) marks + more
-    → total_before (j * 512) (marks ++ y ∷ [])
-    + get_or (set sums (length marks / 512) (get_or sums (length marks / 512) 0 + y)) j 0
-    ≡ total_before (j * 512 + 512) (marks ++ y ∷ [])
-push-other y j more marks sums h ne first last =
-    let n : ℕ = get_or sums (length marks / 512) 0 + y in
-    let a : get_or (set sums (length marks / 512) n) j 0 ≡ get_or sums j 0 =
-    get_or-set_other sums (length marks / 512) j n 0 ne in
+push-other : (y j more : ℕ) (xs sums : List ℕ) → AreBlockSums xs sums → j ≢ length xs / 64
+    → total_before (j * 64) (xs ++ y ∷ []) ≡ total_before (j * 64) xs + more
+    → total_before (j * 64 + 64) (xs ++ y ∷ []) ≡ total_before (j * 64 + 64) xs + more
+    → total_before (j * 64) (xs ++ y ∷ [])
+    + get_or (set sums (length xs / 64) (get_or sums (length xs / 64) 0 + y)) j 0
+    ≡ total_before (j * 64 + 64) (xs ++ y ∷ [])
+push-other y j more xs sums h ne first last =
+    let n : ℕ = get_or sums (length xs / 64) 0 + y in
+    let a : get_or (set sums (length xs / 64) n) j 0 ≡ get_or sums j 0 =
+    get_or-set_other sums (length xs / 64) j n 0 ne in
     omega (arith, a, h.each j, first, last)
 
-push-each : (y j : ℕ) (marks sums : List ℕ) → IsTallied marks sums
-    → length marks / 512 < length sums
-    → (j ≡ length marks / 512) ⊎ ((j < length marks / 512) ⊎ (length marks / 512 < j))
-    → total_before (j * 512) (marks ++ y ∷ [])
-    + get_or (set sums (length marks / 512) (get_or sums (length marks / 512) 0 + y)) j 0
-    ≡ total_before (j * 512 + 512) (marks ++ y ∷ [])
-push-each y j marks sums h l (inl same) =
-    let n : ℕ = get_or sums (length marks / 512) 0 + y in
-    let a : get_or (set sums (length marks / 512) n) j 0 ≡ n =
-    get_or-set_at sums (length marks / 512) j n 0 same l in
-    let s : get_or sums (length marks / 512) 0 ≡ get_or sums j 0 =
+push-each : (y j : ℕ) (xs sums : List ℕ) → AreBlockSums xs sums
+    → length xs / 64 < length sums
+    → (j ≡ length xs / 64) ⊎ ((j < length xs / 64) ⊎ (length xs / 64 < j))
+    → total_before (j * 64) (xs ++ y ∷ [])
+    + get_or (set sums (length xs / 64) (get_or sums (length xs / 64) 0 + y)) j 0
+    ≡ total_before (j * 64 + 64) (xs ++ y ∷ [])
+push-each y j xs sums h l (inl same) =
+    let n : ℕ = get_or sums (length xs / 64) 0 + y in
+    let a : get_or (set sums (length xs / 64) n) j 0 ≡ n =
+    get_or-set_at sums (length xs / 64) j n 0 same l in
+    let s : get_or sums (length xs / 64) 0 ≡ get_or sums j 0 =
     ap (λ k. get_or sums k 0) (sym same) in
     omega (
       arith,
       a,
       s,
       h.each j,
-      total-push-le (j * 512) y marks (omega arith),
-      total-push-lt (j * 512 + 512) y marks (omega arith),
+      total-push-le (j * 64) y xs (omega arith),
+      total-push-lt (j * 64 + 64) y xs (omega arith),
     )
-push-each y j marks sums h l (inr (inl lt)) =
-    push-other y j 0 marks sums h (omega arith)
-    (omega (arith, total-push-le (j * 512) y marks (omega arith)))
-    (omega (arith, total-push-le (j * 512 + 512) y marks (omega arith)))
-push-each y j marks sums h l (inr (inr gt)) =
-    push-other y j y marks sums h (omega arith) (total-push-lt (j * 512) y marks (omega arith))
-    (total-push-lt (j * 512 + 512) y marks (omega arith))
+push-each y j xs sums h l (inr (inl lt)) =
+    push-other y j 0 xs sums h (omega arith)
+    (omega (arith, total-push-le (j * 64) y xs (omega arith)))
+    (omega (arith, total-push-le (j * 64 + 64) y xs (omega arith)))
+push-each y j xs sums h l (inr (inr gt)) =
+    push-other y j y xs sums h (omega arith) (total-push-lt (j * 64) y xs (omega arith))
+    (total-push-lt (j * 64 + 64) y xs (omega arith))
 
 ones-push : (y : ℕ) (marks : List ℕ) → y ≤ 1 → AreMarks marks → AreMarks (marks ++ y ∷ [])
 ones-push y [] u a zero = u
@@ -240,20 +252,19 @@ ones-push y [] u a (suc k) = omega arith
 ones-push y (x ∷ xs) u a zero = a 0
 ones-push y (x ∷ xs) u a (suc k) = ones-push y xs u (λ n. a (suc n)) k
 
-pub push_tallied : (y : ℕ) (marks sums : List ℕ) → IsTallied marks sums
-    → length marks / 512 < length sums → y ≤ 1
-    → IsTallied (marks ++ y ∷ [])
-    (set sums (length marks / 512) (get_or sums (length marks / 512) 0 + y))
-push_tallied y marks sums h l u = record {
-  each = λ j. push-each y j marks sums h l (cases_order j (length marks / 512));
+push_sums : (y : ℕ) (xs sums : List ℕ) → AreBlockSums xs sums
+    → length xs / 64 < length sums
+    → AreBlockSums (xs ++ y ∷ [])
+    (set sums (length xs / 64) (get_or sums (length xs / 64) 0 + y))
+push_sums y xs sums h l = record {
+  each = λ j. push-each y j xs sums h l (cases_order j (length xs / 64));
   room =
       omega (
         arith,
         h.room,
-        length-append marks (y ∷ []),
-        length-set sums (length marks / 512) (get_or sums (length marks / 512) 0 + y),
+        length-append xs (y ∷ []),
+        length-set sums (length xs / 64) (get_or sums (length xs / 64) 0 + y),
       );
-  ones = ones-push y marks u h.ones;
 }
 
 within-by : (p c : ℕ) (marks : List ℕ) → total_before p marks ≤ c
@@ -267,12 +278,24 @@ pub mark_within : (p c : ℕ) (marks : List ℕ) → total_before p marks ≤ c
     → c < total_before (length marks) marks → p < length marks
 mark_within p c marks le lt = within-by p c marks le lt (cases_lt p (length marks))
 
-pub block_within : (b c : ℕ) (marks sums : List ℕ) → IsTallied marks sums
-    → total_before b sums ≤ c → c < total_before (length marks) marks → b < length sums
-block_within b c marks sums h le lt =
-    let e : total_before (b * 512) marks ≡ total_before b sums = blocks b marks sums h in
-    let w : b * 512 < length marks = mark_within (b * 512) c marks (omega (arith, e, le)) lt in
-    omega (arith, w, h.room)
+all-blocks : (xs sums : List ℕ) → AreBlockSums xs sums
+    → total_before (length xs) xs ≡ total_before (length sums) sums
+all-blocks xs sums h =
+    omega (
+      arith,
+      blocks (length sums) xs sums h,
+      total-all (length sums * 64) xs h.room,
+    )
+
+-- so it is with all sums, and with all totals
+pub all-sums : (marks sums totals : List ℕ) → IsTallied marks sums totals
+    → total_before (length marks) marks ≡ total_before (length sums) sums
+all-sums marks sums totals h = all-blocks marks sums h.sums_right
+
+pub all-totals : (marks sums totals : List ℕ) → IsTallied marks sums totals
+    → total_before (length marks) marks ≡ total_before (length totals) totals
+all-totals marks sums totals h =
+    omega (arith, all-blocks marks sums h.sums_right, all-blocks sums totals h.totals_right)
 
 total-nil : (k : ℕ) → total_before k [] ≡ 0
 unfolding total_before
@@ -295,64 +318,159 @@ ones-take (suc n) k [] a = omega arith
 ones-take (suc n) zero (x ∷ xs) a = a 0
 ones-take (suc n) (suc k) (x ∷ xs) a = ones-take n k xs (λ m. a (suc m))
 
-pop-each : (l j : ℕ) (marks sums : List ℕ) → IsTallied marks sums → length marks ≡ l + 1
-    → (j ≡ l / 512) ⊎ ((j < l / 512) ⊎ (l / 512 < j))
-    → total_before (j * 512) (take l marks)
-    + get_or (set sums (l / 512) (get_or sums (l / 512) 0 - get_or marks l 0)) j 0
-    ≡ total_before (j * 512 + 512) (take l marks)
-pop-each l j marks sums h e (inl same) =
-    let n : ℕ = get_or sums (l / 512) 0 - get_or marks l 0 in
-    let lt : l / 512 < length sums = omega (arith, h.room) in
-    let a : get_or (set sums (l / 512) n) j 0 ≡ n = get_or-set_at sums (l / 512) j n 0 same lt in
-    let s : get_or sums (l / 512) 0 ≡ get_or sums j 0 = ap (λ k. get_or sums k 0) (sym same) in
-    let f : min (j * 512) l ≡ j * 512 = omega arith in
-    let g : min (j * 512 + 512) l ≡ l = omega arith in
-    rw (total-take (j * 512) l marks, total-take (j * 512 + 512) l marks, f, g)
+-- the last number is taken away
+pop-each : (l j : ℕ) (xs sums : List ℕ) → AreBlockSums xs sums → length xs ≡ l + 1
+    → (j ≡ l / 64) ⊎ ((j < l / 64) ⊎ (l / 64 < j))
+    → total_before (j * 64) (take l xs)
+    + get_or (set sums (l / 64) (get_or sums (l / 64) 0 - get_or xs l 0)) j 0
+    ≡ total_before (j * 64 + 64) (take l xs)
+pop-each l j xs sums h e (inl same) =
+    let n : ℕ = get_or sums (l / 64) 0 - get_or xs l 0 in
+    let lt : l / 64 < length sums = omega (arith, h.room) in
+    let a : get_or (set sums (l / 64) n) j 0 ≡ n = get_or-set_at sums (l / 64) j n 0 same lt in
+    let s : get_or sums (l / 64) 0 ≡ get_or sums j 0 = ap (λ k. get_or sums k 0) (sym same) in
+    let f : min (j * 64) l ≡ j * 64 = omega arith in
+    let g : min (j * 64 + 64) l ≡ l = omega arith in
+    rw (total-take (j * 64) l xs, total-take (j * 64 + 64) l xs, f, g)
     (omega (
       arith,
       a,
       s,
-      mark-le-sum l marks sums h,
+      part-le-sum l xs sums h,
       h.each j,
-      total-more l marks,
-      total-all (l + 1) marks (omega arith),
-      total-all (j * 512 + 512) marks (omega arith),
+      total-more l xs,
+      total-all (l + 1) xs (omega arith),
+      total-all (j * 64 + 64) xs (omega arith),
     ))
-pop-each l j marks sums h e (inr (inl lt)) =
-    let ne : j ≢ l / 512 = omega arith in
-    let n : ℕ = get_or sums (l / 512) 0 - get_or marks l 0 in
-    let a : get_or (set sums (l / 512) n) j 0 ≡ get_or sums j 0 =
-    get_or-set_other sums (l / 512) j n 0 ne in
-    let f : min (j * 512) l ≡ j * 512 = omega arith in
-    let g : min (j * 512 + 512) l ≡ j * 512 + 512 = omega arith in
-    rw (total-take (j * 512) l marks, total-take (j * 512 + 512) l marks, f, g)
+pop-each l j xs sums h e (inr (inl lt)) =
+    let ne : j ≢ l / 64 = omega arith in
+    let n : ℕ = get_or sums (l / 64) 0 - get_or xs l 0 in
+    let a : get_or (set sums (l / 64) n) j 0 ≡ get_or sums j 0 =
+    get_or-set_other sums (l / 64) j n 0 ne in
+    let f : min (j * 64) l ≡ j * 64 = omega arith in
+    let g : min (j * 64 + 64) l ≡ j * 64 + 64 = omega arith in
+    rw (total-take (j * 64) l xs, total-take (j * 64 + 64) l xs, f, g)
     (omega (arith, a, h.each j))
-pop-each l j marks sums h e (inr (inr gt)) =
-    let ne : j ≢ l / 512 = omega arith in
-    let n : ℕ = get_or sums (l / 512) 0 - get_or marks l 0 in
-    let a : get_or (set sums (l / 512) n) j 0 ≡ get_or sums j 0 =
-    get_or-set_other sums (l / 512) j n 0 ne in
-    let f : min (j * 512) l ≡ l = omega arith in
-    let g : min (j * 512 + 512) l ≡ l = omega arith in
-    rw (total-take (j * 512) l marks, total-take (j * 512 + 512) l marks, f, g)
+pop-each l j xs sums h e (inr (inr gt)) =
+    let ne : j ≢ l / 64 = omega arith in
+    let n : ℕ = get_or sums (l / 64) 0 - get_or xs l 0 in
+    let a : get_or (set sums (l / 64) n) j 0 ≡ get_or sums j 0 =
+    get_or-set_other sums (l / 64) j n 0 ne in
+    let f : min (j * 64) l ≡ l = omega arith in
+    let g : min (j * 64 + 64) l ≡ l = omega arith in
+    rw (total-take (j * 64) l xs, total-take (j * 64 + 64) l xs, f, g)
     (omega (
       arith,
       a,
       h.each j,
-      total-all (j * 512) marks (omega arith),
-      total-all (j * 512 + 512) marks (omega arith),
+      total-all (j * 64) xs (omega arith),
+      total-all (j * 64 + 64) xs (omega arith),
     ))
 
-pub pop_tallied : (l : ℕ) (marks sums : List ℕ) → IsTallied marks sums → length marks ≡ l + 1
-    → IsTallied (take l marks) (set sums (l / 512) (get_or sums (l / 512) 0 - get_or marks l 0))
-pop_tallied l marks sums h e = record {
-  each = λ j. pop-each l j marks sums h e (cases_order j (l / 512));
+pop_sums : (l : ℕ) (xs sums : List ℕ) → AreBlockSums xs sums → length xs ≡ l + 1
+    → AreBlockSums (take l xs) (set sums (l / 64) (get_or sums (l / 64) 0 - get_or xs l 0))
+pop_sums l xs sums h e = record {
+  each = λ j. pop-each l j xs sums h e (cases_order j (l / 64));
   room =
       omega (
         arith,
         h.room,
-        length-take-le l marks (omega arith),
-        length-set sums (l / 512) (get_or sums (l / 512) 0 - get_or marks l 0),
+        length-take-le l xs (omega arith),
+        length-set sums (l / 64) (get_or sums (l / 64) 0 - get_or xs l 0),
       );
+}
+
+total-push-zero : (k : ℕ) (xs : List ℕ) → total_before k (xs ++ 0 ∷ []) ≡ total_before k xs
+unfolding total_before
+total-push-zero zero xs = refl
+total-push-zero (suc zero) [] = refl
+total-push-zero (suc (suc k)) [] = refl
+total-push-zero (suc k) (x ∷ xs) = ap (λ n. x + n) (total-push-zero k xs)
+
+-- a further 0 among the numbers, where its block has a sum
+zero_sums : (xs sums : List ℕ) → AreBlockSums xs sums → length xs / 64 < length sums
+    → AreBlockSums (xs ++ 0 ∷ []) sums
+zero_sums xs sums h l = record {
+  each = λ j. rw (total-push-zero (j * 64) xs, total-push-zero (j * 64 + 64) xs) (h.each j);
+  room = omega (arith, h.room, length-append xs (0 ∷ []));
+}
+
+-- what the functions cite, of both levels at once
+pub mark-le-sum : (i : ℕ) (marks sums totals : List ℕ) → IsTallied marks sums totals
+    → get_or marks i 0 ≤ get_or sums (i / 64) 0
+mark-le-sum i marks sums totals h = part-le-sum i marks sums h.sums_right
+
+pub mark-le-whole : (i : ℕ) (marks sums totals : List ℕ) → IsTallied marks sums totals
+    → get_or marks i 0 ≤ get_or totals (i / 64 / 64) 0
+mark-le-whole i marks sums totals h =
+    omega (
+      arith,
+      part-le-sum i marks sums h.sums_right,
+      part-le-sum (i / 64) sums totals h.totals_right,
+    )
+
+pub empty_tallied : IsTallied [] [] []
+empty_tallied = record {
+  ones = λ k. omega arith;
+  sums_right = empty_sums;
+  totals_right = empty_sums;
+}
+
+pub set_tallied : (i y n p : ℕ) (marks sums totals : List ℕ) → IsTallied marks sums totals
+    → i < length marks → y ≤ 1 → n + get_or marks i 0 ≡ get_or sums (i / 64) 0 + y
+    → p + get_or marks i 0 ≡ get_or totals (i / 64 / 64) 0 + y
+    → IsTallied (set marks i y) (set sums (i / 64) n) (set totals (i / 64 / 64) p)
+set_tallied i y n p marks sums totals h l u e f = record {
+  ones = λ k. ones-set i y k marks h.ones u (cases_lt k (length marks)) (cases_eq k i);
+  sums_right = set_sums i y n marks sums h.sums_right l e;
+  totals_right =
+      set_sums (i / 64) n p sums totals h.totals_right (omega (arith, l, h.sums_right.room))
+      (omega (arith, e, f));
+}
+
+pub push_tallied : (y : ℕ) (marks sums totals : List ℕ) → IsTallied marks sums totals
+    → length marks / 64 < length sums → y ≤ 1
+    → IsTallied (marks ++ y ∷ [])
+    (set sums (length marks / 64) (get_or sums (length marks / 64) 0 + y))
+    (set totals (length marks / 64 / 64) (get_or totals (length marks / 64 / 64) 0 + y))
+push_tallied y marks sums totals h l u = record {
+  ones = ones-push y marks u h.ones;
+  sums_right = push_sums y marks sums h.sums_right l;
+  totals_right =
+      set_sums (length marks / 64) (get_or sums (length marks / 64) 0 + y)
+      (get_or totals (length marks / 64 / 64) 0 + y) sums totals h.totals_right l (omega arith);
+}
+
+pub pop_tallied : (l : ℕ) (marks sums totals : List ℕ) → IsTallied marks sums totals
+    → length marks ≡ l + 1
+    → IsTallied (take l marks) (set sums (l / 64) (get_or sums (l / 64) 0 - get_or marks l 0))
+    (set totals (l / 64 / 64) (get_or totals (l / 64 / 64) 0 - get_or marks l 0))
+pop_tallied l marks sums totals h e = record {
   ones = λ k. ones-take l k marks h.ones;
+  sums_right = pop_sums l marks sums h.sums_right e;
+  totals_right =
+      set_sums (l / 64) (get_or sums (l / 64) 0 - get_or marks l 0)
+      (get_or totals (l / 64 / 64) 0 - get_or marks l 0) sums totals h.totals_right
+      (omega (arith, e, h.sums_right.room))
+      (omega (
+        arith,
+        mark-le-sum l marks sums totals h,
+        mark-le-whole l marks sums totals h,
+      ));
+}
+
+pub more_totals : (marks sums totals : List ℕ) → IsTallied marks sums totals
+    → IsTallied marks sums (totals ++ 0 ∷ [])
+more_totals marks sums totals h = record {
+  ones = h.ones;
+  sums_right = h.sums_right;
+  totals_right = room_sums sums totals h.totals_right;
+}
+
+pub more_sums : (marks sums totals : List ℕ) → IsTallied marks sums totals
+    → length sums / 64 < length totals → IsTallied marks (sums ++ 0 ∷ []) totals
+more_sums marks sums totals h l = record {
+  ones = h.ones;
+  sums_right = room_sums marks sums h.sums_right;
+  totals_right = zero_sums sums totals h.totals_right l;
 }

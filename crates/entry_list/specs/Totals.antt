@@ -11,9 +11,14 @@ total_before (suc n) (x ∷ xs) = x + total_before n xs
 abbrev pub AreMarks : List ℕ → Type 0
 AreMarks xs = (k : ℕ) → slice_index xs k ≤ 1
 
--- each number of sums is the total of 512 marks, and the blocks reach over all marks
-pub record IsTallied (marks sums : List ℕ) : Type 0 where
+-- each number of sums is the total of 64 numbers of xs, and the sums reach over all of xs
+pub record AreBlockSums (xs sums : List ℕ) : Type 0 where
   pub each : (j : ℕ)
-      → total_before (j * 512) marks + slice_index sums j ≡ total_before (j * 512 + 512) marks
-  pub room : length marks ≤ length sums * 512
+      → total_before (j * 64) xs + slice_index sums j ≡ total_before (j * 64 + 64) xs
+  pub room : length xs ≤ length sums * 64
+
+-- a sum stands for each 64 marks, and a total for each 64 of these sums
+pub record IsTallied (marks sums totals : List ℕ) : Type 0 where
   pub ones : AreMarks marks
+  pub sums_right : AreBlockSums marks sums
+  pub totals_right : AreBlockSums sums totals

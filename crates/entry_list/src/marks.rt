@@ -1,18 +1,19 @@
 //! Marks of slots, counted in blocks.
-ghost use Rattle.std.specs.Prelude.{◌≡◌, ◌-◌, ◌<◌, ◌≤◌, ◌++◌, ◌∷◌, [], length, take};
+ghost use Rattle.std.specs.Prelude.{◌≡◌, ◌+◌, ◌-◌, ◌<◌, ◌≤◌, ◌++◌, ◌∷◌, [], length, take};
 ghost use Rattle.std.specs.Prelude.{slice_index, slice_set, OnOk, OnErr};
 ghost use Rattle.entry_list.specs.Totals.{total_before};
 
 use std::alloc::{AllocError, Global};
 use std::marker::Model;
 
-const BLOCK: usize = 512;
+const BLOCK: usize = 64;
 
-/// The marks, with a sum for each block of 512.
+/// The marks, with a sum for each block of 64, and a total for each 64 of these.
 #[derive(Drop)]
 pub(crate) struct Marks {
     marks: Vec<u8>,
-    sums: Vec<usize>,
+    sums: Vec<u8>,
+    totals: Vec<u16>,
 }
 
 impl Model for Marks {
@@ -23,7 +24,7 @@ impl Model for Marks {
 
     ghost view = { λ a. a.marks.items };
 
-    ghost invariant = { λ a. IsTallied a.marks.items a.sums.items };
+    ghost invariant = { λ a. IsTallied a.marks.items a.sums.items a.totals.items };
 }
 
 impl Marks {
@@ -34,6 +35,7 @@ impl Marks {
         Marks {
             marks: Vec::new(alloc),
             sums: Vec::new(alloc),
+            totals: Vec::new(alloc),
         }
     }
 
@@ -51,15 +53,14 @@ impl Marks {
         ensures small { result ≤ place }
     {
         let block = place / BLOCK;
+        let whole = block / BLOCK;
         let mut count = 0usize;
-        for j in 0..block {
-            count += self.sums[j];
+        for j in 0..whole {
+            count += self.totals[j] as usize;
         }
-        let mut rest = 0u16;
-        for i in block * BLOCK..place {
-            rest += u16::from(self.marks[i]);
-        }
-        count + rest as usize
+        let sums = sum_between(&self.sums, whole * BLOCK, block);
+        let marks = sum_between(&self.marks, block * BLOCK, place);
+        count + sums as usize + marks as usize
     }
 
     /// Sets the mark at the place.
@@ -69,7 +70,11 @@ impl Marks {
         ensures { self.new ≡ slice_set self.old place mark }
     {
         let block = place / BLOCK;
-        let sum = self.sums[block] - self.marks[place] as usize + mark as usize;
+        let whole = block / BLOCK;
+        let old = self.marks[place];
+        let sum = self.sums[block] - old + mark;
+        let total = self.totals[whole] - u16::from(old) + u16::from(mark);
+        self.totals[whole] = total;
         self.sums[block] = sum;
         self.marks[place] = mark;
     }
@@ -81,12 +86,18 @@ impl Marks {
         ensures err { OnErr result (self.new ≡ self.old) }
     {
         let block = self.marks.len() / BLOCK;
+        let whole = block / BLOCK;
+        if whole == self.totals.len() {
+            self.totals.push(0)?;
+        }
         if block == self.sums.len() {
             self.sums.push(0)?;
         }
-        let sum = self.sums[block] + mark as usize;
+        let sum = self.sums[block] + mark;
+        let total = self.totals[whole] + u16::from(mark);
         self.marks.push(mark)?;
         self.sums[block] = sum;
+        self.totals[whole] = total;
         Ok(())
     }
 
@@ -97,7 +108,11 @@ impl Marks {
     {
         let last = self.marks.len() - 1;
         let block = last / BLOCK;
-        let sum = self.sums[block] - self.marks[last] as usize;
+        let whole = block / BLOCK;
+        let mark = self.marks[last];
+        let sum = self.sums[block] - mark;
+        let total = self.totals[whole] - u16::from(mark);
+        self.totals[whole] = total;
         self.sums[block] = sum;
         let _ = self.marks.pop();
     }
@@ -110,16 +125,44 @@ impl Marks {
         ensures before { total_before result self.now ≡ count }
     {
         let mut left = count;
-        let mut block = 0;
-        while left >= self.sums[block] {
-            left -= self.sums[block];
-            block += 1;
+        let mut whole = 0;
+        while left >= self.totals[whole] as usize {
+            left -= self.totals[whole] as usize;
+            whole += 1;
         }
-        let mut place = block * BLOCK;
-        while left >= self.marks[place] as usize {
-            left -= self.marks[place] as usize;
-            place += 1;
-        }
+        let (block, left) = place_past(&self.sums, whole * BLOCK, left);
+        let (place, _) = place_past(&self.marks, block * BLOCK, left);
         place
     }
+}
+
+/// The sum of the items between two places, at most 64 of them.
+fn sum_between(items: &[u8], from: usize, to: usize) -> u16
+    requires order { from ≤ to }
+    requires within { to ≤ length items.now }
+    requires few { to ≤ from + 64 }
+    ensures { total_before from items.now + result ≡ total_before to items.now }
+{
+    let mut sum = 0u16;
+    for i in from..to {
+        sum += u16::from(items[i]);
+    }
+    sum
+}
+
+/// The place whose item takes the sum of the items from `from` on past `sum`, and what is left
+/// of `sum` before it.
+fn place_past(items: &[u8], from: usize, sum: usize) -> (usize, usize)
+    requires { total_before from items.now + sum < total_before (length items.now) items.now }
+    ensures within { result.0 < length items.now }
+    ensures past { result.1 < slice_index items.now result.0 }
+    ensures left { total_before result.0 items.now + result.1 ≡ total_before from items.now + sum }
+{
+    let mut left = sum;
+    let mut place = from;
+    while left >= items[place] as usize {
+        left -= items[place] as usize;
+        place += 1;
+    }
+    (place, left)
 }

@@ -1,33 +1,54 @@
 use Rattle.std.proofs.Common.{◌≡◌, ◌+◌, ◌*◌, ◌/◌, ℕ, List, get_or, length, arith, sym, ap}
 use Rattle.std.proofs.lemmas.List.{get_or_read}
 use Rattle.entry_list.specs.Totals.{total_before, IsTallied}
-use Rattle.entry_list.proofs.Totals.{total-zero, total-more, blocks, sum-small, total-small, total-le-ones}
-use Rattle.entry_list.proofs.marks.Marks.count_before.Goals.{After-index, After-index-in-loop-i}
+use Rattle.entry_list.proofs.Totals.{total-zero, total-more, blocks, whole-small, total-small}
+use Rattle.entry_list.proofs.marks.Marks.count_before.Goals.{After-index, After-sum_between-marks}
 use Rattle.entry_list.proofs.marks.Marks.count_before.Goals as goal
 
--- the sum that was read, and the mark
-sum_read : (c : goal.After-index) → c.index.result.now ≡ get_or c.self.inside.sums.items c.loop-j.j 0
-sum_read c =
-    get_or_read c.self.inside.sums.items c.loop-j.j c.index.result.now
-    (omega (arith, c.self.invariant.room, ap length c.self.view_is)) c.index.ensures 0
+-- the total that was read
+total_read : (c : goal.After-index)
+    → c.index.result.now ≡ get_or c.self.inside.totals.items c.loop-j.j 0
+total_read c =
+    get_or_read c.self.inside.totals.items c.loop-j.j c.index.result.now
+    (omega (
+      arith,
+      c.loop-j-test.true,
+      c.requires,
+      c.self.invariant.sums_right.room,
+      c.self.invariant.totals_right.room,
+      ap length c.self.view_is,
+    )) c.index.ensures 0
 
-mark_read : (c : goal.After-index-in-loop-i) → c.index-in-loop-i.result.now ≡ get_or c.self.inside.marks.items c.loop-i.i 0
-mark_read c =
-    get_or_read c.self.inside.marks.items c.loop-i.i c.index-in-loop-i.result.now
-    (omega (arith, ap length c.self.view_is)) c.index-in-loop-i.ensures 0
-
--- the blocks before the place's own and the marks of its own before it are all before it
-both : (m s : List ℕ) (place i j count rest : ℕ) → IsTallied m s → j ≡ place / 512 → i ≡ place → count ≡ total_before j s
-    → total_before (place / 512 * 512) m + rest ≡ total_before i m → count + rest ≡ total_before place m
-both m s place i j count rest tallied at_block at_place sum marks =
+-- the totals, the sums behind them and the marks behind these are of all marks before the place
+all_before : (m s t d e : List ℕ) (place j count sums marks : ℕ) → IsTallied m s t → d ≡ s → e ≡ m
+    → j ≡ place / 64 / 64 → count ≡ total_before j t
+    → total_before (place / 64 / 64 * 64) d + sums ≡ total_before (place / 64) d
+    → total_before (place / 64 * 64) e + marks ≡ total_before place e
+    → count + sums + marks ≡ total_before place m
+all_before m s t d e place j count sums marks tallied ds em at_whole counted summed marked =
     omega (
       arith,
-      sum,
-      marks,
-      ap (λ (k : ℕ). total_before k s) at_block,
-      ap (λ (k : ℕ). total_before k m) at_place,
-      blocks (place / 512) m s tallied,
+      counted,
+      summed,
+      marked,
+      ap (λ (k : ℕ). total_before k t) at_whole,
+      ap (λ (x : List ℕ). total_before (place / 64 / 64 * 64) x) ds,
+      ap (λ (x : List ℕ). total_before (place / 64) x) ds,
+      ap (λ (x : List ℕ). total_before (place / 64 * 64) x) em,
+      ap (λ (x : List ℕ). total_before place x) em,
+      blocks (place / 64 / 64) s t tallied.totals_right,
+      blocks (place / 64) m s tallied.sums_right,
     )
+
+counted_all : (c : goal.After-sum_between-marks)
+    → c.loop-j.count + c.sum_between-sums.result + c.sum_between-marks.result
+    ≡ total_before c.args.place c.self.inside.marks.items
+counted_all c =
+    all_before c.self.inside.marks.items c.self.inside.sums.items c.self.inside.totals.items
+    c.deref.result.now c.deref-2.result.now c.args.place c.loop-j.j c.loop-j.count
+    c.sum_between-sums.result c.sum_between-marks.result c.self.invariant c.deref.ensures.value
+    c.deref-2.ensures.value (omega arith) c.loop-j.invariant c.sum_between-sums.ensures
+    c.sum_between-marks.ensures
 
 pub loop-j-init : goal.loop-j-init
 loop-j-init c = sym (total-zero _)
@@ -36,51 +57,53 @@ pub overflow_add-count : goal.overflow_add-count
 overflow_add-count c =
     let m = c.self.inside.marks.items in
     let s = c.self.inside.sums.items in
+    let t = c.self.inside.totals.items in
     omega (
       arith,
-      sum_read (goal.at.overflow_add-count c).After-index,
-      sum-small c.loop-j.j m s c.self.invariant,
-      blocks c.loop-j.j m s c.self.invariant,
-      total-small (c.loop-j.j * 512) m c.self.invariant.ones,
+      total_read (goal.at.overflow_add-count c).After-index,
+      c.loop-j.invariant,
+      whole-small c.loop-j.j m s t c.self.invariant,
+      blocks c.loop-j.j s t c.self.invariant.totals_right,
+      blocks (c.loop-j.j * 64) m s c.self.invariant.sums_right,
+      total-small (c.loop-j.j * 64 * 64) m c.self.invariant.ones,
     )
 
 pub loop-j-preserved : goal.loop-j-preserved
 loop-j-preserved c =
-    omega (arith, sum_read (goal.at.loop-j-preserved c).After-index, total-more c.loop-j.j c.self.inside.sums.items)
-
-pub overflow_add-rest : goal.overflow_add-rest
-overflow_add-rest c =
     omega (
       arith,
-      mark_read (goal.at.overflow_add-rest c).After-index-in-loop-i,
-      c.from-rest.ensures,
-      c.self.invariant.ones c.loop-i.i,
-      total-le-ones (c.args.place / 512 * 512) c.loop-i.i c.self.inside.marks.items c.self.invariant.ones c.loop-i.auto.i,
-    )
-
-pub loop-i-preserved : goal.loop-i-preserved
-loop-i-preserved c =
-    omega (
-      arith,
-      mark_read (goal.at.loop-i-preserved c).After-index-in-loop-i,
-      c.from-rest.ensures,
-      total-more c.loop-i.i c.self.inside.marks.items,
+      total_read (goal.at.loop-j-preserved c).After-index,
+      total-more c.loop-j.j c.self.inside.totals.items,
     )
 
 pub overflow_add-result : goal.overflow_add-result
 overflow_add-result c =
-    let m = c.self.inside.marks.items in
-    let all = both m _ c.args.place c.loop-i.i c.loop-j.j _ _ c.self.invariant (omega arith) (omega arith) c.loop-j.invariant c.loop-i.invariant in
-    omega (arith, all, total-small c.args.place m c.self.invariant.ones)
+    omega (
+      arith,
+      counted_all (goal.at.overflow_add-result c).After-sum_between-marks,
+      total-small c.args.place c.self.inside.marks.items c.self.invariant.ones,
+    )
+
+pub overflow_add-result-2 : goal.overflow_add-result-2
+overflow_add-result-2 c =
+    omega (
+      arith,
+      counted_all (goal.at.overflow_add-result-2 c).After-sum_between-marks,
+      total-small c.args.place c.self.inside.marks.items c.self.invariant.ones,
+    )
 
 pub returns-clause-value : goal.returns-clause-value
 returns-clause-value c =
-    let m = c.self.inside.marks.items in
-    let all = both m _ c.args.place c.loop-i.i c.loop-j.j _ _ c.self.invariant (omega arith) (omega arith) c.loop-j.invariant c.loop-i.invariant in
-    omega (arith, all, ap (total_before c.args.place) c.self.view_is)
+    omega (
+      arith,
+      counted_all (goal.at.returns-clause-value c).After-sum_between-marks,
+      ap (total_before c.args.place) c.self.view_is,
+    )
 
 pub returns-clause-small : goal.returns-clause-small
 returns-clause-small c =
-    let m = c.self.inside.marks.items in
-    let all = both m _ c.args.place c.loop-i.i c.loop-j.j _ _ c.self.invariant (omega arith) (omega arith) c.loop-j.invariant c.loop-i.invariant in
-    omega (arith, all, total-small c.args.place m c.self.invariant.ones)
+    omega (
+      arith,
+      counted_all (goal.at.returns-clause-small c).After-sum_between-marks,
+      total-small c.args.place c.self.inside.marks.items c.self.invariant.ones,
+    )

@@ -1,138 +1,169 @@
 use Rattle.std.proofs.Common.{get_or, ◌≡◌, ◌<◌, ◌+◌, ◌*◌, ℕ, length, arith, sym, ap, subst, List}
 use Rattle.std.proofs.lemmas.List.{get_or_read}
-use Rattle.entry_list.specs.Totals.{total_before, IsTallied}
-use Rattle.entry_list.proofs.Totals.{total-zero, total-more, blocks, block_within, mark_within}
-use Rattle.entry_list.proofs.marks.Marks.place_of.Goals.{At-loop-left, At-loop-left-2, After-index-in-loop-left-2}
+use Rattle.entry_list.specs.Totals.{total_before, AreMarks, IsTallied}
+use Rattle.entry_list.proofs.Totals.{total-zero, total-more, blocks, all-sums, all-totals, mark_within}
+use Rattle.entry_list.proofs.marks.Marks.place_of.Goals.{At-loop-left, After-index}
+use Rattle.entry_list.proofs.marks.Marks.place_of.Goals.{After-place_past-block}
 use Rattle.entry_list.proofs.marks.Marks.place_of.Goals as goal
 
--- where fewer marks stand before this place than all, it is a place
-reached : (m n : List ℕ) (place count left : ℕ) → m ≡ n → count < total_before (length n) n
-    → left + total_before place m ≡ count → place < length m
-reached m n place count left e all here =
-    let some = subst (λ (x : List ℕ). count < total_before (length x) x) (sym e) all in
-    mark_within place count m (omega (arith, here)) some
+-- fewer marks are asked for than there are
+enough : (m n : List ℕ) (count : ℕ) → m ≡ n → count < total_before (length n) n
+    → count < total_before (length m) m
+enough m n count e all = subst (λ (x : List ℕ). count < total_before (length x) x) (sym e) all
 
--- so it is with blocks
-reached_block : (m n sums : List ℕ) (block count left : ℕ) → IsTallied m sums → m ≡ n
-    → count < total_before (length n) n → left + total_before block sums ≡ count → block < length sums
-reached_block m n sums block count left tallied e all here =
-    let some = subst (λ (x : List ℕ). count < total_before (length x) x) (sym e) all in
-    block_within block count m sums tallied (omega (arith, here)) some
+-- so the total that is looked at is one
+total_there : (m s t : List ℕ) (whole count left : ℕ) → IsTallied m s t
+    → count < total_before (length m) m → left + total_before whole t ≡ count → whole < length t
+total_there m s t whole count left h some here =
+    mark_within whole count t (omega (arith, here)) (omega (arith, some, all-totals m s t h))
 
--- the block that is looked at is one
-block_there : (c : goal.At-loop-left) → c.loop-left.block < length c.self.inside.sums.items
-block_there c = reached_block _ _ _ _ _ c.loop-left.left c.self.invariant c.self.view_is c.requires c.loop-left.invariant
+whole_there : (c : goal.At-loop-left) → c.loop-left.whole < length c.self.inside.totals.items
+whole_there c =
+    total_there c.self.inside.marks.items c.self.inside.sums.items c.self.inside.totals.items
+    c.loop-left.whole c.args.count c.loop-left.left c.self.invariant
+    (enough _ _ _ c.self.view_is c.requires) c.loop-left.invariant
 
--- the place that is looked at is one
-place_there : (c : goal.At-loop-left-2) → c.loop-left-2.place < length c.self.inside.marks.items
-place_there c = reached _ _ _ _ c.loop-left-2.left c.self.view_is c.requires c.loop-left-2.invariant
+-- so it is with the sums
+sums_left : (m s t d : List ℕ) (whole count left : ℕ) → IsTallied m s t → d ≡ s
+    → count < total_before (length m) m → left + total_before whole t ≡ count
+    → total_before (whole * 64) d + left < total_before (length d) d
+sums_left m s t d whole count left h e some here =
+    rw e (omega (arith, some, here, blocks whole s t h.totals_right, all-sums m s t h))
 
--- and what was read of its mark
-mark_read : (c : goal.After-index-in-loop-left-2) → c.loop-left-2.place < length c.self.inside.marks.items
-    → c.index-in-loop-left-2.result.now ≡ get_or c.self.inside.marks.items c.loop-left-2.place 0
-mark_read c there = get_or_read c.self.inside.marks.items c.loop-left-2.place _ there c.index-in-loop-left-2.ensures 0
+-- what is left at a block is of its marks
+block_left : (m s t d : List ℕ) (whole block count left rest : ℕ) → IsTallied m s t → d ≡ s
+    → left + total_before whole t ≡ count
+    → total_before block d + rest ≡ total_before (whole * 64) d + left
+    → total_before (block * 64) m + rest ≡ count
+block_left m s t d whole block count left rest h e here there =
+    omega (
+      arith,
+      here,
+      there,
+      ap (λ (x : List ℕ). total_before block x) e,
+      ap (λ (x : List ℕ). total_before (whole * 64) x) e,
+      blocks whole s t h.totals_right,
+      blocks block m s h.sums_right,
+    )
+
+left_at : (c : goal.After-place_past-block)
+    → total_before (c.place_past-block.result.0 * 64) c.self.inside.marks.items
+    + c.place_past-block.result.1
+    ≡ c.args.count
+left_at c =
+    block_left c.self.inside.marks.items c.self.inside.sums.items c.self.inside.totals.items
+    c.deref.result.now c.loop-left.whole c.place_past-block.result.0 c.args.count c.loop-left.left
+    c.place_past-block.result.1 c.self.invariant c.deref.ensures.value c.loop-left.invariant
+    c.place_past-block.ensures.left
+
+-- and the marks before the place that was found are as many as asked for
+found : (m d : List ℕ) (place block rest over count : ℕ) → AreMarks m → d ≡ m
+    → over < get_or d place 0
+    → total_before place d + over ≡ total_before (block * 64) d + rest
+    → total_before (block * 64) m + rest ≡ count → total_before place m ≡ count
+found m d place block rest over count ones e past there here =
+    omega (
+      arith,
+      past,
+      there,
+      here,
+      ones place,
+      ap (λ (x : List ℕ). get_or x place 0) e,
+      ap (λ (x : List ℕ). total_before place x) e,
+      ap (λ (x : List ℕ). total_before (block * 64) x) e,
+    )
+
+total_read : (c : goal.After-index) → c.loop-left.whole < length c.self.inside.totals.items
+    → c.index.result.now ≡ get_or c.self.inside.totals.items c.loop-left.whole 0
+total_read c there =
+    get_or_read c.self.inside.totals.items c.loop-left.whole _ there c.index.ensures 0
 
 pub loop-left-init : goal.loop-left-init
-loop-left-init c = omega (arith, total-zero c.self.inside.sums.items)
+loop-left-init c = omega (arith, total-zero c.self.inside.totals.items)
 
 pub index-requires : goal.index-requires
-index-requires c =
-    omega (arith, block_there (goal.at.index-requires c).At-loop-left)
+index-requires c = omega (arith, whole_there (goal.at.index-requires c).At-loop-left)
 
 pub index-requires-in-loop-left : goal.index-requires-in-loop-left
 index-requires-in-loop-left c =
-    omega (arith, block_there (goal.at.index-requires-in-loop-left c).At-loop-left)
+    omega (arith, whole_there (goal.at.index-requires-in-loop-left c).At-loop-left)
 
 pub overflow_sub-left : goal.overflow_sub-left
 overflow_sub-left c =
-    let s = c.self.inside.sums.items in
-    let w = block_there (goal.at.overflow_sub-left c).At-loop-left in
-    let p = get_or_read s c.loop-left.block c.index.result.now w c.index.ensures 0 in
-    let q =
-    get_or_read s c.loop-left.block _ w c.index-in-loop-left.ensures 0 in
-    omega (arith, p, q)
+    let t = c.self.inside.totals.items in
+    let at = goal.at.overflow_sub-left c in
+    let w = whole_there at.At-loop-left in
+    let p = total_read at.After-index w in
+    let q = get_or_read t c.loop-left.whole _ w c.index-in-loop-left.ensures 0 in
+    omega (arith, p, q, c.loop-left-test.true)
 
-pub overflow_add-block : goal.overflow_add-block
-overflow_add-block c =
-    omega (arith, block_there (goal.at.overflow_add-block c).At-loop-left, c.self.inside.sums.small)
+pub overflow_add-whole : goal.overflow_add-whole
+overflow_add-whole c =
+    omega (
+      arith,
+      whole_there (goal.at.overflow_add-whole c).At-loop-left,
+      c.self.inside.totals.small,
+    )
 
 pub loop-left-smaller : goal.loop-left-smaller
-loop-left-smaller c =
-    omega (arith, block_there (goal.at.loop-left-smaller c).At-loop-left)
+loop-left-smaller c = omega (arith, whole_there (goal.at.loop-left-smaller c).At-loop-left)
 
 pub loop-left-preserved : goal.loop-left-preserved
 loop-left-preserved c =
-    let s = c.self.inside.sums.items in
-    let w = block_there (goal.at.loop-left-preserved c).At-loop-left in
-    let p = get_or_read s c.loop-left.block c.index.result.now w c.index.ensures 0 in
-    let q =
-    get_or_read s c.loop-left.block _ w c.index-in-loop-left.ensures 0 in
-    omega (arith, p, q, total-more c.loop-left.block s)
-
-pub overflow_mul-place : goal.overflow_mul-place
-overflow_mul-place c =
-    let m = c.self.inside.marks.items in
-    let e = blocks c.loop-left.block m c.self.inside.sums.items c.self.invariant in
+    let t = c.self.inside.totals.items in
+    let at = goal.at.loop-left-preserved c in
+    let w = whole_there at.At-loop-left in
+    let p = total_read at.After-index w in
+    let q = get_or_read t c.loop-left.whole _ w c.index-in-loop-left.ensures 0 in
     omega (
       arith,
-      reached m _ (c.loop-left.block * 512) _ c.loop-left.left c.self.view_is c.requires (omega (arith, e)),
-      c.self.inside.marks.small,
+      p,
+      q,
+      c.loop-left.invariant,
+      c.loop-left-test.true,
+      total-more c.loop-left.whole t,
     )
 
-pub loop-left-2-init : goal.loop-left-2-init
-loop-left-2-init c =
-    omega (arith, blocks c.loop-left.block _ _ c.self.invariant)
+pub overflow_mul-whole : goal.overflow_mul-whole
+overflow_mul-whole c =
+    let w = whole_there (goal.at.overflow_mul-whole c).At-loop-left in
+    let s = c.self.inside.sums.items in
+    let some = enough _ _ _ c.self.view_is c.requires in
+    let within : c.loop-left.whole * 64 < length s =
+    mark_within (c.loop-left.whole * 64) c.args.count s
+    (omega (
+      arith,
+      c.loop-left.invariant,
+      blocks c.loop-left.whole s _ c.self.invariant.totals_right,
+    )) (omega (arith, some, all-sums _ _ _ c.self.invariant)) in
+    omega (arith, within, c.self.inside.sums.small)
 
-pub index-requires-in-loop-left-2 : goal.index-requires-in-loop-left-2
-index-requires-in-loop-left-2 c =
-    omega (arith, place_there (goal.at.index-requires-in-loop-left-2 c).At-loop-left-2)
+pub place_past-block-requires : goal.place_past-block-requires
+place_past-block-requires c =
+    sums_left c.self.inside.marks.items c.self.inside.sums.items c.self.inside.totals.items
+    c.deref.result.now c.loop-left.whole c.args.count c.loop-left.left c.self.invariant
+    c.deref.ensures.value (enough _ _ _ c.self.view_is c.requires) c.loop-left.invariant
 
-pub index-requires-in-loop-left-2-2 : goal.index-requires-in-loop-left-2-2
-index-requires-in-loop-left-2-2 c =
-    omega (arith, place_there (goal.at.index-requires-in-loop-left-2-2 c).At-loop-left-2)
-
-pub overflow_sub-left-in-loop-left-2 : goal.overflow_sub-left-in-loop-left-2
-overflow_sub-left-in-loop-left-2 c =
+pub overflow_mul-block : goal.overflow_mul-block
+overflow_mul-block c =
     let m = c.self.inside.marks.items in
-    let at = goal.at.overflow_sub-left-in-loop-left-2 c in
-    let w = place_there at.At-loop-left-2 in
-    let p = mark_read at.After-index-in-loop-left-2 w in
-    let q =
-    get_or_read m c.loop-left-2.place _ w c.index-in-loop-left-2-2.ensures 0 in
-    omega (arith, p, q)
+    let here = left_at (goal.at.overflow_mul-block c).After-place_past-block in
+    let within : c.place_past-block.result.0 * 64 < length m =
+    mark_within (c.place_past-block.result.0 * 64) c.args.count m (omega (arith, here))
+    (enough _ _ _ c.self.view_is c.requires) in
+    omega (arith, within, c.self.inside.marks.small)
 
-pub overflow_add-place : goal.overflow_add-place
-overflow_add-place c =
-    omega (arith, place_there (goal.at.overflow_add-place c).At-loop-left-2, c.self.inside.marks.small)
-
-pub loop-left-2-smaller : goal.loop-left-2-smaller
-loop-left-2-smaller c =
-    omega (arith, place_there (goal.at.loop-left-2-smaller c).At-loop-left-2)
-
-pub loop-left-2-preserved : goal.loop-left-2-preserved
-loop-left-2-preserved c =
-    let m = c.self.inside.marks.items in
-    let at = goal.at.loop-left-2-preserved c in
-    let w = place_there at.At-loop-left-2 in
-    let p = mark_read at.After-index-in-loop-left-2 w in
-    let q =
-    get_or_read m c.loop-left-2.place _ w c.index-in-loop-left-2-2.ensures 0 in
-    omega (arith, p, q, total-more c.loop-left-2.place m)
-
-pub returns-clause-within : goal.returns-clause-within
-returns-clause-within c =
-    omega (arith, ap length c.self.view_is, place_there (goal.at.returns-clause-within c).At-loop-left-2)
-
-pub returns-clause-marked : goal.returns-clause-marked
-returns-clause-marked c =
-    let at = goal.at.returns-clause-marked c in
-    let w = place_there at.At-loop-left-2 in
-    let p = mark_read at.After-index-in-loop-left-2 w in
-    rw (← c.self.view_is) (omega (arith, p, c.self.invariant.ones c.loop-left-2.place))
+pub place_past-place-requires : goal.place_past-place-requires
+place_past-place-requires c =
+    let here = left_at (goal.at.place_past-place-requires c).After-place_past-block in
+    rw c.deref-2.ensures.value
+    (omega (arith, here, enough _ _ _ c.self.view_is c.requires))
 
 pub returns-clause-before : goal.returns-clause-before
 returns-clause-before c =
-    let at = goal.at.returns-clause-before c in
-    let w = place_there at.At-loop-left-2 in
-    let p = mark_read at.After-index-in-loop-left-2 w in
-    rw (← c.self.view_is) (omega (arith, p, c.self.invariant.ones c.loop-left-2.place))
+    rw (← c.self.view_is)
+    (found c.self.inside.marks.items c.deref-2.result.now c.place_past-place.result.0
+    c.place_past-block.result.0 c.place_past-block.result.1 c.place_past-place.result.1
+    c.args.count c.self.invariant.ones c.deref-2.ensures.value c.place_past-place.ensures.past
+    c.place_past-place.ensures.left
+    (left_at (goal.at.returns-clause-before c).After-place_past-block))
