@@ -1,6 +1,7 @@
 //! Building the map of a plan.
 ghost use Rattle.std.specs.Prelude.{◌≡◌, ◌≢◌, ◌<◌, ◌+◌, ◌||◌, false, length, get_or, IfOk, IfErr, OnOk, Some, None, option_map, map};
 ghost use Rattle.cad_map.specs.Map.{empty_map, has_parcel, is_retired};
+ghost use Rattle.cad_files.specs.Arrival.{AreStarsOf};
 ghost use Rattle.cad_files.specs.Building.{twice_numbered, map_of, first_fault};
 ghost use Rattle.cad_files.specs.Kinds.{numbers_of, name_of, is_taken as is_taken_in, taken_of, filled};
 ghost use Rattle.cad_files.specs.Cycles.{AreSidesOf, AreLinked, followed_side};
@@ -124,13 +125,16 @@ pub(crate) fn put_rows(plain: &mut PlainMap, rows: &PlanRows) -> Result<(), Plan
     put_kind(plain, rows, Kind::Retired)
 }
 
-/// The sides of a plan's strings with their followers, where its rows have no fault.
+/// The sides of a plan's strings with their followers, where its rows have no fault. `stars`: the
+/// strings at each point.
 pub(crate) fn find_sides(
     alloc: Global,
     plain: &PlainMap,
+    stars: &Stars,
     rows: &PlanRows,
 ) -> Result<Vec<PlanSide>, PlanFault>
     requires map { plain.now ≡ map_of rows.now }
+    requires stars { AreStarsOf plain.now stars.now }
     requires free { twice_numbered rows.now ≡ None }
     ensures faultless { OnOk result (first_fault rows.now ≡ None) }
     ensures sides { IfOk result
@@ -142,11 +146,10 @@ pub(crate) fn find_sides(
     if let Some(name) = missing_row(plain, rows) {
         return Err(PlanFault::Unknown(name));
     }
-    let stars = Stars::of(alloc, plain.hash(), plain)?;
-    if let Some(string) = first_dangling(&stars, rows.strings.as_slice()) {
+    if let Some(string) = first_dangling(stars, rows.strings.as_slice()) {
         return Err(PlanFault::Dangling(string));
     }
-    let sides = follow_sides(alloc, plain, &stars, rows.strings.as_slice())?;
+    let sides = follow_sides(alloc, plain, stars, rows.strings.as_slice())?;
     if let Some(string) = first_other_label(sides.as_slice()) {
         return Err(PlanFault::Labels(string));
     }

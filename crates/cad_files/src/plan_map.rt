@@ -10,7 +10,7 @@ use crate::cycles::rings_of;
 use crate::faults::PlanFault;
 use crate::rows::PlanRows;
 use crate::sides::PlanSide;
-use cad_map::{Counts, PlainMap};
+use cad_map::{Counts, PlainMap, Stars};
 use cad_valid::first_broken_swept;
 use number_hash::NumberHash;
 use std::alloc::Global;
@@ -20,6 +20,9 @@ use std::alloc::Global;
 pub(crate) struct Begun {
     pub(crate) plain: PlainMap,
     pub(crate) sides: Vec<PlanSide>,
+    /// The strings at each point, by which the sides were found. They are kept until the plan's rows have ended: those
+    /// are larger pieces of memory, and what an allocator gets back after a larger piece it mostly keeps at hand.
+    pub(crate) stars: Stars,
 }
 
 /// Builds the map of a plan's rows: the rows in their order, and the rings that its strings make, found by followers as
@@ -62,11 +65,16 @@ fn begin(alloc: Global, hash: NumberHash, rows: &PlanRows) -> Result<Begun, Plan
         Ok(()) => {}
         Err(fault) => return Err(fault),
     }
-    let sides = match find_sides(alloc, &plain, rows) {
+    let stars = Stars::of(alloc, plain.hash(), &plain)?;
+    let sides = match find_sides(alloc, &plain, &stars, rows) {
         Ok(sides) => sides,
         Err(fault) => return Err(fault),
     };
-    Ok(Begun { plain, sides })
+    Ok(Begun {
+        plain,
+        sides,
+        stars,
+    })
 }
 
 // Puts the rings into a map that was begun. A fault is the first rule that it breaks.
@@ -76,7 +84,12 @@ fn finish(alloc: Global, begun: Begun) -> Result<PlainMap, PlanFault>
     ensures err { IfErr result (λ fault. fault ≢ faults.Memory
         → (rows : Rows) → IsBegun rows begun → IsBuildFault rows fault) }
 {
-    let Begun { mut plain, sides } = begun;
+    let Begun {
+        mut plain,
+        sides,
+        stars,
+    } = begun;
+    drop(stars);
     let rings = rings_of(alloc, sides)?;
     plain.set_boundaries(rings);
     if let Some(rule) = first_broken_swept(alloc, &plain)? {
