@@ -10,7 +10,7 @@ use Rattle.std.specs.Prelude.{OnOk, OnErr}
 use Rattle.std.proofs.lemmas.List.{get_or-map, length-map}
 use Rattle.indexmap.specs.IndexMap.{IndexMap, Updates}
 use native.Mathlib.Decide.{dec_lt, ℕ_discrete}
-use Rattle.std.proofs.lemmas.Option.{slice_get-map, slice_get-get_or, same_Some, none-some}
+use Rattle.std.proofs.lemmas.Option.{slice_get-map, slice_get-get_or, slice_get_within, same_Some, none-some}
 use Rattle.std.proofs.lemmas.Map.Entries.{lookup_from_place}
 use Rattle.std.proofs.lemmas.Cmp.{nat_eq_equiv}
 use Rattle.std.specs.Option.{option_map}
@@ -81,6 +81,13 @@ module _ {V : Type 0} where
   read rows place n row d has at =
       subst (λ (m : ℕ). lookup (nat_eq m) rows ≡ Some row.1) (same-number rows place n row has at)
       (lookup_from_place nat_eq_equiv rows place row.0 row.1 d at)
+
+  -- the place of a number is one of the rows'
+  pub within-at : (rows : Rows V) (place n : ℕ) → HasNumberAt rows place n → place < length rows
+  within-at rows place n has =
+      let within = slice_get_within (numbers_of rows) place n has in
+      let long = length-map rows (λ (e : ℕ × V). e.0) in
+      omega (arith, within, long)
 
   -- what is read at the place of a number is the number's
   pub read-at : (rows : Rows V) (place n : ℕ) → IsDistinct nat_eq (numbers_of rows) → HasNumberAt rows place n

@@ -1,5 +1,5 @@
 //! The table, and what is read of it.
-ghost use Rattle.std.specs.Prelude.{◌≡◌, ◌^◌, ◌<◌, ◌↔◌, [], length, None, slice_get, nat_eq};
+ghost use Rattle.std.specs.Prelude.{◌≡◌, ◌^◌, ◌<◌, ◌+◌, ◌↔◌, ℕ, [], length, None, slice_get, nat_eq};
 ghost use Rattle.std.specs.Prelude.{option_map, option_copied, Some, IsSome, IfSome, IfNone};
 ghost use Rattle.std.specs.Prelude.{IfOk, IsOk, IsTrue};
 ghost use Rattle.std.specs.Map.{lookup, values_of};
@@ -49,6 +49,13 @@ impl<V> Model for NumberTable<V> {
 
     ghost invariant = { λ a.
         IsTable (numbers_of a.rows.items) a.first a.others.entries a.is_whole };
+}
+
+// Where a number stands if all from the first followed one another, as they mostly do.
+fn place_after(first: u64, number: u64) -> usize
+    ensures { (place : ℕ) → number ≡ first + place → result ≡ place }
+{
+    number.wrapping_sub(first) as usize
 }
 
 impl<V> NumberTable<V> {
@@ -135,6 +142,10 @@ impl<V> NumberTable<V> {
         ensures distinct { AreDistinct self.now }
     {
         let _rows = self.len();
+        let guess = place_after(self.first, number);
+        if self.is_at(guess, number) {
+            return Some(guess);
+        }
         self.find_place(number)
     }
 
@@ -144,7 +155,7 @@ impl<V> NumberTable<V> {
         ensures there { IfSome result (λ place. HasNumberAt self.now place number) }
         ensures none { IfNone result (lookup (nat_eq number) self.now ≡ None) }
     {
-        let guess = number.wrapping_sub(self.first) as usize;
+        let guess = place_after(self.first, number);
         if self.is_at(guess, number) {
             return Some(guess);
         }
@@ -167,13 +178,13 @@ impl<V> NumberTable<V> {
     pub fn get(&self, number: u64) -> Option<&V>
         ensures { option_copied result ≡ lookup (nat_eq number) self.now }
     {
-        let guess = number.wrapping_sub(self.first) as usize;
+        let guess = place_after(self.first, number);
         if let Some((other, value)) = self.rows.get(guess) {
             if *other == number {
                 return Some(value);
             }
         }
-        let place = self.place_of(number)?;
+        let place = self.find_place(number)?;
         let (_, value) = self.rows.get(place)?;
         Some(value)
     }

@@ -1,16 +1,13 @@
-use Rattle.std.proofs.Common.{arith, ◌≡◌, ◌∙◌, sym, ℕ, ◌+◌, ◌-◌, ◌%◌, true≢false, Fits, w64}
+use Rattle.std.proofs.Common.{◌≡◌, ◌∙◌, sym, true≢false}
 use Rattle.std.proofs.lemmas.Option.{none-some, same_Some}
 use Rattle.number_table.proofs.Found.{not-found}
 use Rattle.number_table.proofs.table.NumberTable.find_place.Goals as goal
-
-guessed : (n first p : ℕ) → Fits w64 n → n ≡ first + p → (n + (18446744073709551616 - first)) % 18446744073709551616 ≡ p
-guessed n first p fits follows = omega arith
 
 pub returns-in_err-place-clause-none : goal.returns-in_err-place-clause-none
 returns-in_err-place-clause-none g c =
     rw (c.from_residual.ensures, ← c.self.view_is)
     (not-found c.self.inside.rows.items c.self.inside.first c.args.number _ c.self.inside.others.entries (c.self.invariant.found c.if-not-self.false)
-    (λ p. guessed c.args.number c.self.inside.first p c.ranges.number)
+    c.place_after-guess.ensures
     (λ at. true≢false (sym (c.is_at.ensures.1 (rw (← c.self.view_is) at)) ∙ c.if-is_at.false))
     (λ p has. absurd (none-some p (c.in_err-place.ensures ∙ has))))
 
@@ -18,7 +15,7 @@ pub returns-else-is_at-3-clause-none : goal.returns-else-is_at-3-clause-none
 returns-else-is_at-3-clause-none g c =
     rw (← c.self.view_is)
     (not-found c.self.inside.rows.items c.self.inside.first c.args.number _ c.self.inside.others.entries (c.self.invariant.found c.if-not-self.false)
-    (λ p. guessed c.args.number c.self.inside.first p c.ranges.number)
+    c.place_after-guess.ensures
     (λ at. true≢false (sym (c.is_at.ensures.1 (rw (← c.self.view_is) at)) ∙ c.if-is_at.false))
     (λ p has at.
     let here : c.in_ok-place.place ≡ p = same_Some c.in_ok-place.place p (c.in_ok-place.ensures ∙ has) in
