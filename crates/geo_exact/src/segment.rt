@@ -1,4 +1,4 @@
-ghost use Rattle.std.specs.Prelude.{◌≡◌, ◌↔◌, IsTrue};
+ghost use Rattle.std.specs.Prelude.{◌≡◌, ◌↔◌, ◌&&◌, IsTrue};
 ghost use Rattle.geo_exact.specs.Segment.{HaveCommonLocation, IsOnSegment};
 ghost use Rattle.geo_exact.specs.SignTest.{straddles, are_below, overlaps, boxes_overlap, passes_signs};
 
@@ -48,12 +48,19 @@ fn reaches_across(a: Pt, b: Pt, c: Pt, d: Pt) -> bool
     !(is_left_of(a, b, c) && is_left_of(a, b, d)) && !(is_right_of(a, b, c) && is_right_of(a, b, d))
 }
 
+// Each of the segments ab and cd reaches across the line of the other.
+fn reach_across_each_other(a: Pt, b: Pt, c: Pt, d: Pt) -> bool
+    ensures { result ≡ (straddles c d a b && straddles a b c d) }
+{
+    reaches_across(c, d, a, b) && reaches_across(a, b, c, d)
+}
+
 // The test by signs alone. It asks for the boxes first: that costs least, and most segments near one
 // another are apart by it.
 fn passes_sign_test(a: Pt, b: Pt, c: Pt, d: Pt) -> bool
     ensures { result ≡ passes_signs a b c d }
 {
-    have_boxes_in_common(a, b, c, d) && reaches_across(c, d, a, b) && reaches_across(a, b, c, d)
+    have_boxes_in_common(a, b, c, d) && reach_across_each_other(a, b, c, d)
 }
 
 /// Whether the segments ab and cd have a common location, their ends included. A segment may be a single position, and the
