@@ -86,9 +86,7 @@ struct Found<'a> {
 }
 
 /// The first entry near in the lists from one place on to the last, which is at the place before
-/// `end`. It stands apart from `next`, which stays short that way where the list at hand has one
-/// more.
-#[inline(never)]
+/// `end`.
 fn find_from<'a>(
     layer: &'a Layer,
     bounds: &Bounds,
