@@ -25,10 +25,6 @@ use cad_rows::{Memory, Rule};
 use std::alloc::Global;
 use sweep::{Extent, PairTest, all_of_two_groups_pass, all_that_overlap_pass, row_height};
 
-/// Rows are so many mean heights of boxes high: in lower ones more boxes reach several rows, and each
-/// stands in every row that it reaches.
-const MEAN_HEIGHTS: u64 = 2;
-
 /// The first of V3 and V4 that the map breaks, or `None` where it keeps both. That it keeps both is
 /// told by one sort of boxes. Where one of them is broken, or a point may have very many strings, V3
 /// is told by a sort of its own, and then V4.
@@ -63,7 +59,7 @@ fn has_clear_rows(alloc: Global, map: &PlainMap) -> Result<bool, Memory>
     let items = placed_rows(alloc, map)?;
     let boxes = boxes_of(alloc, &items)?;
     let clear = ClearOfEach { items: &items };
-    let height = row_height(&boxes).saturating_mul(MEAN_HEIGHTS);
+    let height = row_height(&boxes);
     Ok(all_that_overlap_pass(alloc, &clear, &boxes, height)?)
 }
 

@@ -96,7 +96,9 @@ fn spans_of(alloc: Global, extents: &[Extent], height: u64) -> Result<Vec<Span>,
     ensures each { IfOk result (λ spans. HasAllSpans spans.items extents.now height) }
     ensures places { IfOk result (λ spans. HavePlacesBelow spans.items (length extents.now)) }
 {
-    let mut spans = Vec::with_capacity(alloc, extents.len())?;
+    // In rows of the mean height two spans a box come of it, and mostly a few more.
+    let room = extents.len().saturating_mul(9) / 4;
+    let mut spans = Vec::with_capacity(alloc, room)?;
     for place in 0..extents.len() {
         put_spans(&mut spans, extents[place], height, place)?;
     }
