@@ -25,11 +25,11 @@ fn have_common(a: Pt, b: Pt, c: Pt, d: Pt) -> bool
     meets(a, b, c, d)
 }
 
-/// Whether q lies on the segment ab.
+/// Whether q lies on the segment ab. Most positions near it aren't even in its box.
 fn lies_on(a: Pt, b: Pt, q: Pt) -> bool
     ensures { result ≡ have_common_of a b q q }
 {
-    on_segment(a, b, q)
+    have_boxes_in_common(a, b, q, q) && on_segment(a, b, q)
 }
 
 /// Whether neither of the segments from v to a and from v to b has the other's far end.
