@@ -96,7 +96,7 @@ fn below(alloc: Global, parts: &[Part], upwards: bool, middle: u64) -> Result<Ve
     ensures { IfOk result (λ some. some.items
         ≡ filter (λ p. nat_lt (begin_of upwards p) middle) parts.now) }
 {
-    let mut some = Vec::new(alloc);
+    let mut some = Vec::with_capacity(alloc, parts.len())?;
     for part in parts {
         if begin(part, upwards) < middle {
             some.push(*part)?;
@@ -115,7 +115,7 @@ fn reaching(
     ensures { IfOk result (λ some. some.items
         ≡ filter (λ p. nat_le middle (end_of upwards p)) parts.now) }
 {
-    let mut some = Vec::new(alloc);
+    let mut some = Vec::with_capacity(alloc, parts.len())?;
     for part in parts {
         if middle <= end(part, upwards) {
             some.push(*part)?;
