@@ -150,7 +150,7 @@ impl<V> NumberTable<V> {
     }
 
     // The place of the row with a number. It is looked for first where it mostly is, from either
-    // end.
+    // end. Who calls has mostly looked from the first, in place, and comes here where it isn't there.
     fn find_place(&self, number: u64) -> Option<usize>
         ensures there { IfSome result (λ place. HasNumberAt self.now place number) }
         ensures none { IfNone result (lookup (nat_eq number) self.now ≡ None) }
