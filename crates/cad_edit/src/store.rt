@@ -106,8 +106,16 @@ impl MapView for PlainStore {
         self.map.after(from, to)
     }
 
+    fn beyond(&self, point: PointNo, place: usize) -> Option<(PointNo, PointNo)> {
+        self.map.beyond(point, place)
+    }
+
     fn ring_side(&self, face: Face, place: usize) -> Option<(PointNo, PointNo)> {
         self.map.ring_side(face, place)
+    }
+
+    fn ring_area(&self, face: Face, place: usize) -> i128 {
+        self.map.ring_area(face, place)
     }
 }
 

@@ -8,6 +8,7 @@ pub mod FaceRuns
 pub mod FacesBeside
 pub mod TwoFaces
 pub mod Looks
+pub mod LooksBefore
 pub mod RingsOfMap
 pub mod OutlineRings
 pub mod AllFaces

@@ -16,20 +16,20 @@ pub use Rattle.cad_map.proofs.Boundaries.OrderedParts.{canonical_order-filter}
 pub use Rattle.cad_map.proofs.Boundaries.FacesBeside.{Contains-has_side, IsBeside, IsSideOf, beside, both_sides, face-told, faces-told, has_side-Contains, in_all, is_face-same, of_string, one_face, one_ring, row-found, side-face, sides-once, some-faces, string_side}
 pub use Rattle.cad_map.proofs.Boundaries.TwoFaces.{apart-valid, beside-canonical_order, complete}
 pub use Rattle.cad_map.proofs.Boundaries.Looks.{first_face-some, is_face-refl, point_after-none, point_after-some}
-pub use Rattle.cad_map.proofs.Boundaries.RingsOfMap.{ring-sides-few, rings_of_map, side_is_told, side_told, string-side-points, whole_valid}
+pub use Rattle.cad_map.proofs.Boundaries.RingsOfMap.{ring-few, ring-sides-few, rings_of_map, side_is_told, side_told, string-side-points, whole_valid}
 -- walks along rings, and the corners that are met
 pub use Rattle.cad_map.proofs.Walks.AlongRing.{HaveDistinctSides, begins_with, corner-found, corner-only, is_side-refl, once-from_pairs, once-in_ring, side_before, side_behind, sides-before, sides-behind, sides_in-before}
 pub use Rattle.cad_map.proofs.Walks.Walked.{anchor-there, first_points, inside-more, least-all, least-more, placed-fits, position-on_map, sum-bounded, sum-fits, sum-more, walked, walked-all, walked-points}
 pub use Rattle.cad_map.proofs.Walks.RingsFrom.{all-from, begins-from, few-from, only-from, ring_on, same-from, walked-from}
 pub use Rattle.cad_map.proofs.Walks.Counted.{counted-Contains, parted-at, permuted-from_times, times, times-append, times-cons, times-flat_map, times-permuted}
 pub use Rattle.cad_map.proofs.Walks.CornersAt.{corners_at, new_side, old_sides, sides-without, through-corners}
-pub use Rattle.cad_map.proofs.Walks.FirstCorners.{corner-all_sides, corner-points, distinct-whole, two-each}
+pub use Rattle.cad_map.proofs.Walks.FirstCorners.{behind-only, corner-all_sides, corner-points, distinct-whole, two-each}
 pub use Rattle.cad_map.proofs.Walks.ChosenCorners.{IsChosen, chosen, face-ring}
 -- ends of strings: where strings meet, and in which directions they lead
 pub use Rattle.cad_map.proofs.Ends.SharedEnds.{only_start-is}
 pub use Rattle.cad_map.proofs.Ends.Meetings.{all-placed, ends, far_end-away, is_end-from, is_end-of, meet-at_end, meet-no_end, other_end, placed-at, positions-differ}
 pub use Rattle.cad_map.proofs.Ends.Parallel.{all_sides-once, is_side-is, pairs-IsPermutation, string_sides-once}
-pub use Rattle.cad_map.proofs.Ends.StringEnds.{IsString, Joins, first_met, joins-end, joins-far, joins-far_end, side-joins, two_ends}
+pub use Rattle.cad_map.proofs.Ends.StringEnds.{IsString, Joins, first_met, joins-end, joins-far, joins-far_end, side-joins, three_directions, two_ends}
 pub use Rattle.cad_map.proofs.Ends.StarFacts.{IsSpoke, IsSpoke-all, far-star, length-star}
 pub use Rattle.cad_map.proofs.Ends.StringsTold.{all-told, lent-is, lent-some, strings-found, told-is, told-some, two-told}
 -- edits that are allowed: what they keep of a valid map

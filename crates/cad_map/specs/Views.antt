@@ -19,6 +19,11 @@ IsNoSide m side = IsFalse (has_side side (all_sides m))
 abbrev pub ComesAfter : Map → Side → ℕ → Type 0
 ComesAfter m side w = Contains (all_corners m) (corner side.0 side.1 w)
 
+-- beyond q, a neighbour of p: what comes before the side from q to p, and what comes after the side from p to q
+pub record AreBeyond (m : Map) (p q before after : ℕ) : Type 0 where
+  pub comes : ComesAfter m (before, q) p
+  pub goes : ComesAfter m (p, q) after
+
 -- the string with the number has these faces, to its left and to its right
 pub record HasFaces (m : Map) (number : ℕ) (left right : Face) : Type 0 where
   pub string : StringRow

@@ -1,17 +1,22 @@
 //! Looking through rows and rings, one after another.
-ghost use Rattle.std.specs.Prelude.{◌≡◌, ◌≤◌, option_map, find, length, map, filter};
+ghost use Rattle.std.specs.Prelude.{◌≡◌, ◌≤◌, ◌*◌, option_map, find, length, map, filter, IfSome, IfNone, IsFalse};
 ghost use Rattle.std.specs.Prelude.{slice_get, slice_range, if◌then◌else◌};
 ghost use Rattle.std.specs.Bool.{OnTrue};
+ghost use Rattle.std.specs.List.{Contains};
 ghost use Rattle.std.specs.Option.{option_copied};
-ghost use Rattle.cad_rings.specs.Cycle.{has_side as has_side_of, sides_of};
-ghost use Rattle.cad_map.specs.Boundaries.{is_face as is_face_of, canonical_order, EndsBelow, BeginsFrom, IsFirstFrom};
-ghost use Rattle.cad_map.specs.Map.{is_end as is_end_of, far_end as far_end_of, point_after as point_after_in, rings_at};
+ghost use Rattle.geo_exact.specs.Measure.{doubled_area};
+ghost use Rattle.cad_rows.specs.Limits.{string_limit};
+ghost use Rattle.cad_rings.specs.Cycle.{has_side as has_side_of, sides_of, corners_of};
+ghost use Rattle.cad_rings.specs.Surgery.{corner};
+ghost use Rattle.cad_map.specs.Boundaries.{is_face as is_face_of, canonical_order, sides_in, corners_in, EndsBelow, BeginsFrom, IsFirstFrom};
+ghost use Rattle.cad_map.specs.Map.{is_end as is_end_of, far_end as far_end_of, point_after as point_after_in, rings_at, empty_map, position_of, sum_of_ring};
 
 use crate::boundary::Boundary;
 use crate::canonical::face_place;
 use crate::table::Table;
 use cad_rings::Ring;
-use cad_rows::{Face, PointNo, StringRow};
+use cad_rows::{Face, PointNo, PointRow, StringRow};
+use geo_exact::{DoubledArea, Pt, SideMeasure};
 
 /// Whether a string leads from a point or to it.
 pub fn is_end(string: &StringRow, point: PointNo) -> bool
@@ -97,6 +102,28 @@ pub(crate) fn point_after(boundaries: &[Boundary], from: PointNo, to: PointNo) -
     None
 }
 
+/// The point that comes before a side in a ring, and `None` where the ring doesn't have that side.
+fn before_in(ring: &Ring, from: PointNo, to: PointNo) -> Option<PointNo>
+    ensures some { IfSome result (λ u. Contains (corners_of ring.now) (corner u from to)) }
+    ensures none { IfNone result (IsFalse (has_side_of (from, to) (sides_of ring.now))) }
+{
+    let place = ring.place_of(from, to)?;
+    Some(ring.turned_at(place, ring.len() - 1))
+}
+
+/// The point that comes before the side from one point to another in the first of these rings that has it.
+pub(crate) fn point_before(boundaries: &[Boundary], from: PointNo, to: PointNo) -> Option<PointNo>
+    ensures some { IfSome result (λ u. Contains (corners_in boundaries.now) (corner u from to)) }
+    ensures none { IfNone result (IsFalse (has_side_of (from, to) (sides_in boundaries.now))) }
+{
+    for boundary in boundaries {
+        if let Some(before) = before_in(&boundary.ring, from, to) {
+            return Some(before);
+        }
+    }
+    None
+}
+
 /// Whether two faces are one.
 pub fn is_face(a: &Face, b: &Face) -> bool
     ensures { result ≡ is_face_of a.now b.now }
@@ -121,6 +148,29 @@ pub(crate) fn ring_at(boundaries: &[Boundary], face: Face, place: usize) -> Opti
 {
     let boundary = run_of(boundaries, &face).get(place)?;
     Some(&boundary.ring)
+}
+
+/// The position of a point, and of one that isn't there the origin.
+fn position_in(points: &Table<PointRow>, no: PointNo) -> Pt
+    ensures { result ≡ position_of (record empty_map { points = points.now }) no }
+{
+    match points.get(no.get()) {
+        Some(row) => row.position,
+        None => Pt { x: 0, y: 0 },
+    }
+}
+
+/// The doubled area of a ring, its points being where these rows have them. Takes no memory.
+pub(crate) fn area_of(points: &Table<PointRow>, ring: &Ring) -> i128
+    requires { length ring.now ≤ 2 * string_limit }
+    ensures { result
+        ≡ sum_of_ring doubled_area (record empty_map { points = points.now }) ring.now }
+{
+    let mut area = 0;
+    for (from, to) in ring.sides() {
+        area += DoubledArea.of(position_in(points, from), position_in(points, to));
+    }
+    area
 }
 
 /// Whether the boundary before a place, if there is one, is of a face below a bound.

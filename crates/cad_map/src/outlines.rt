@@ -8,12 +8,11 @@ ghost use Rattle.cad_map.specs.Valid.{IsValid};
 
 use crate::boundary::Boundary;
 use crate::canonical::in_canonical_order;
-use crate::rings::{has_face, ring_count, ring_sum};
+use crate::rings::{has_face, ring_count};
 use crate::store::MapView;
 use crate::walk::Walk;
 use cad_rings::Ring;
 use cad_rows::{Face, Memory};
-use geo_exact::DoubledArea;
 use std::alloc::Global;
 
 /// The rings of a face: that of positive doubled area first, which runs around it, and then the others, around its
@@ -84,7 +83,7 @@ fn is_outer<M: MapView>(map: &M, face: &Face, place: usize) -> bool
     ensures { result ≡ is_outer_of (M.map map.now) true
         (ring_at_of (M.rings map.now) face.now place) }
 {
-    ring_sum(map, face, place, &DoubledArea) > 0
+    map.ring_area(*face, place) > 0
 }
 
 /// The ring at a place, from the point on from which the map keeps it.

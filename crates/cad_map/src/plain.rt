@@ -409,9 +409,22 @@ impl MapView for PlainMap {
         look::point_after(self.boundaries.as_slice(), from, to)
     }
 
+    fn beyond(&self, point: PointNo, place: usize) -> Option<(PointNo, PointNo)> {
+        let row = self.string_with(point, place)?;
+        let far = look::far_end(row, point);
+        let before = look::point_before(self.boundaries.as_slice(), far, point)?;
+        let after = self.after(point, far)?;
+        Some((before, after))
+    }
+
     fn ring_side(&self, face: Face, place: usize) -> Option<(PointNo, PointNo)> {
         let ring = look::ring_at(self.boundaries.as_slice(), face, place)?;
         ring.sides().next()
+    }
+
+    fn ring_area(&self, face: Face, place: usize) -> i128 {
+        let ring = look::ring_at(self.boundaries.as_slice(), face, place).unwrap();
+        look::area_of(&self.points, ring)
     }
 }
 

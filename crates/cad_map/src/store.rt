@@ -1,16 +1,18 @@
 //! Maps that can be looked at, and maps that can be edited.
-ghost use Rattle.std.specs.Prelude.{◌≡◌, ℕ, ◌≤◌, List, Option, length, slice_get, option_and_then, option_map, IfSome, IfNone, IfOk, IfErr, OnOk, OnErr};
+ghost use Rattle.std.specs.Prelude.{◌≡◌, ℕ, ◌<◌, ◌≤◌, ◌⊎◌, List, Option, Some, length, slice_get, option_and_then, option_map, IfSome, IfNone, IfOk, IfErr, OnOk, OnErr};
 ghost use Rattle.std.specs.Option.{option_copied};
 ghost use Rattle.std.specs.List.{AllByRecursion};
 ghost use Rattle.std.specs.List.Sorted.{IsPermutation};
+ghost use Rattle.geo_exact.specs.Measure.{doubled_area};
 ghost use Rattle.cad_rows.specs.declared.names.Face.{Face as FaceOf};
 ghost use Rattle.cad_rows.specs.declared.rows.StringRow.{StringRow as StringOf};
 ghost use Rattle.cad_rings.specs.Cycle.{Side};
 ghost use Rattle.cad_map.specs.declared.boundary.Boundary.{Boundary};
 ghost use Rattle.cad_map.specs.Boundaries.{canonical_order};
-ghost use Rattle.cad_map.specs.Map.{Map, source_of, point_of, parcel_of, string_of, is_retired as is_retired_in, strings_at, degree as degree_of, far_end, rings_at};
+ghost use Rattle.cad_map.specs.Map.{Map, source_of, point_of, parcel_of, string_of, is_retired as is_retired_in, strings_at, degree as degree_of, far_end, rings_at, sum_of_ring};
+ghost use Rattle.cad_map.specs.Rings.{HasWholeRings, ring_at};
 ghost use Rattle.cad_map.specs.Valid.{IsValid};
-ghost use Rattle.cad_map.specs.Views.{HasSide, IsNoSide, ComesAfter, HasFaces, HasNoFaces};
+ghost use Rattle.cad_map.specs.Views.{HasSide, IsNoSide, ComesAfter, AreBeyond, HasFaces, HasNoFaces};
 ghost use Rattle.cad_map.specs.Walk.{first_side};
 ghost use Rattle.cad_map.specs.Outcome.{LeadsTo, MayRefuse};
 
@@ -142,6 +144,18 @@ pub trait MapView {
         ensures some { IfSome result (λ w. ComesAfter (map self.now) (from, to) w) }
         ensures none { IfNone result (IsNoSide (map self.now) (from, to)) };
 
+    /// The points on both sides beyond the far end of the string at a place among those that have a point, as
+    /// `string_with` tells them: what comes before the side from that end back to the point, and what comes after the
+    /// side to it. `None` past the last string, and where one of the two sides is in no ring.
+    fn beyond(&self, point: PointNo, place: usize) -> Option<(PointNo, PointNo)>
+        ensures some { IfSome result (λ ends. (s : StringOf)
+            × (slice_get (view_strings self.now point) place ≡ Some s)
+            × AreBeyond (map self.now) point (far_end s point) ends.0 ends.1) }
+        ensures none { IfNone result ((s : StringOf)
+            → slice_get (view_strings self.now point) place ≡ Some s
+            → IsNoSide (map self.now) (far_end s point, point)
+            ⊎ IsNoSide (map self.now) (point, far_end s point)) };
+
     /// A side of one ring of a face, and `None` past the last of its rings. Each ring has one place; which one isn't
     /// told.
     fn ring_side(&self, face: Face, place: usize) -> Option<(PointNo, PointNo)>
@@ -150,6 +164,14 @@ pub trait MapView {
         // The rings are those of the map, and each is of two points or more.
         ensures canonical_order { canonical_order (rings self.now) ≡ (map self.now).boundaries }
         ensures two { AllByRecursion (λ b. 2 ≤ length b.ring) (rings self.now) };
+
+    /// The doubled area of a face's ring at a place, in doubled square millimetres: positive where the ring is
+    /// counterclockwise.
+    fn ring_area(&self, face: Face, place: usize) -> i128
+        requires whole { HasWholeRings (map self.now) }
+        requires there { place < length (rings_at face (rings self.now)) }
+        ensures { result
+            ≡ sum_of_ring doubled_area (map self.now) (ring_at (rings self.now) face place) };
 }
 
 /// A map that can be edited, with a record of each edit by which it is taken back and made again.

@@ -1,5 +1,7 @@
 pub mod PartsStars
 pub mod StarStrings
+pub mod PartsBeyond
+pub mod AreasAlong
 pub mod PartsFaces
 pub mod Built
 pub mod ProperParts

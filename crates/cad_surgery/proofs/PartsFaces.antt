@@ -1,11 +1,11 @@
 -- The rings of the faces, one for each half that is kept.
-use Rattle.std.proofs.Common.{◌≡◌, ◌≢◌, ℕ, ◌==◌, Bool, true, false, List, [], ◌∷◌, ◌++◌, map, refl, sym, ap, ◌∙◌, subst, arith, Option, Some, None, slice_get}
-use Rattle.std.specs.Prelude.{flat_map, is_some, option_map, option_and_then, if◌then◌else◌}
+use Rattle.std.proofs.Common.{◌≡◌, ◌≢◌, ℕ, ◌==◌, Bool, true, false, List, [], ◌∷◌, ◌++◌, ◌<◌, ◌≤◌, length, map, refl, sym, ap, ◌∙◌, subst, arith, Option, Some, None, slice_get}
+use Rattle.std.specs.Prelude.{IsSome, flat_map, is_some, option_map, option_and_then, if◌then◌else◌}
 use Rattle.std.specs.List.{AllByRecursion, Contains}
 use Rattle.std.proofs.lemmas.Bool.{eqb-true}
 use Rattle.std.proofs.lemmas.Cmp.{nat_eq_equiv}
-use Rattle.std.proofs.lemmas.List.{append-nil}
-use Rattle.std.proofs.lemmas.Option.{slice_get-map}
+use Rattle.std.proofs.lemmas.List.{append-nil, length-map}
+use Rattle.std.proofs.lemmas.Option.{slice_get-map, slice_get-get_or, same_Some}
 use Rattle.cad_rows.specs.declared.names.Face.{Face}
 use Rattle.cad_rows.specs.declared.names.Face.TheVariants.{Outside, Parcel}
 use Rattle.cad_rows.specs.declared.rows.ParcelRow.{ParcelRow}
@@ -13,17 +13,18 @@ use Rattle.cad_rings.specs.Cycle.{Ring, Side}
 use Rattle.cad_map.specs.declared.boundary.Boundary.{Boundary}
 use Rattle.cad_map.specs.Boundaries.{is_face}
 use Rattle.cad_map.specs.Map.{faces, rings_at, has_face, has_parcel}
+use Rattle.cad_map.specs.Rings.{HasWholeRings, ring_at}
 use Rattle.cad_map.specs.Table.{row_with}
 use Rattle.cad_map.specs.Valid.{EachPair}
 use Rattle.cad_map.specs.Walk.{first_side}
-use Rattle.cad_map.proofs.CallerLemmas.{Contains-first, Contains-later, Contains-map, Contains-flat_map, Contains-at, begins_with, has_first}
+use Rattle.cad_map.proofs.CallerLemmas.{Contains-first, Contains-later, Contains-map, Contains-flat_map, Contains-at, begins_with, has_first, ring-few}
 use Rattle.half_table.specs.declared.half.Half.{Half}
 use Rattle.half_table.specs.Half.{twin}
 use Rattle.half_table.specs.Rows.{HalfRows, has, next, origin_of, cycle}
 use Rattle.map_parts.specs.KeptRings.{kept_ring}
-use Rattle.map_parts.specs.Parts.{Parts, FitTogether, rows_of, in_face, kept_at, kept_halves, rings_kept}
+use Rattle.map_parts.specs.Parts.{Parts, FitTogether, rows_of, map_of, in_face, kept_at, kept_halves, rings_kept}
 use Rattle.map_parts.proofs.CycleRings.{cycle-sides}
-use Rattle.map_parts.proofs.PartsRings.{in_table, other, kept-two}
+use Rattle.map_parts.proofs.PartsRings.{in_table, other, kept-two, rings-two}
 
 rings_at-append : (f : Face) (bs cs : List Boundary) → rings_at f (bs ++ cs) ≡ rings_at f bs ++ rings_at f cs
 rings_at-append f [] cs = refl
@@ -157,3 +158,27 @@ module _ (d : Parts) where
     -- a half that is kept is in the table
     pub kept-there : (f : Face) (place : ℕ) (h : Half) → slice_get (kept_at d f) place ≡ Some h → has rows h ≡ true
     kept-there f place h some = in_table d is h (is.shown (f, h) (in_kept f h (Contains-at (kept_at d f) place h some)))
+
+    -- the ring at a place is that of the half there
+    pub ring-is : (f : Face) (place : ℕ) → place < length (rings_at f (rings_kept d)) → (h : Half) → slice_get (kept_at d f) place ≡ Some h → ring_from h ≡ ring_at (rings_kept d) f place
+    ring-is f place within h there = same_Some _ _ (
+        ap (option_map ring_from) (sym there) ∙ sym (slice_get-map ring_from (kept_at d f) place)
+        ∙ ap (λ (l : List Ring). slice_get l place) (sym (rings-face f))
+        ∙ slice_get-get_or (rings_at f (rings_kept d)) place [] within)
+
+    -- and there is one
+    pub half-kept : (f : Face) (place : ℕ) → place < length (rings_at f (rings_kept d)) → IsSome (slice_get (kept_at d f) place)
+    half-kept f place within = some (slice_get (kept_at d f) place)
+        (sym (slice_get-map ring_from (kept_at d f) place) ∙ ap (λ (l : List Ring). slice_get l place) (sym (rings-face f)) ∙ slice_get-get_or (rings_at f (rings_kept d)) place [] within)
+      where
+        some : (o : Option Half) {ring : Ring} → option_map ring_from o ≡ Some ring → IsSome o
+        some None e = cc
+        some (Some h) e = refl
+
+    -- and it has few points where the map's rings are whole
+    pub ring-short : HasWholeRings (map_of d) → (f : Face) (place : ℕ) → place < length (rings_at f (rings_kept d)) → (h : Half) → slice_get (kept_at d f) place ≡ Some h → length (cycle rows h) ≤ 400000
+    ring-short whole f place within h there =
+        let few = ring-few (map_of d) (rings_kept d) whole refl (rings-two d is) f place within in
+        let same = ap length (ring-is f place within h there) in
+        let many = length-map (cycle rows h) (origin_of rows) in
+        omega arith

@@ -1,18 +1,19 @@
 //! A map on half-edges that is looked at, whether it keeps the rules or not.
 ghost use Rattle.std.specs.Prelude.{◌≡◌, true, IfSome, IfNone, IfOk};
 ghost use Rattle.cad_map.specs.Valid.{IsValid};
-ghost use Rattle.cad_map.specs.Views.{IsNoSide};
+ghost use Rattle.cad_map.specs.Views.{IsNoSide, AreBeyond};
 ghost use Rattle.cad_map.specs.Map.{has_string};
 ghost use Rattle.half_table.specs.declared.half.Half.{Half as HalfOf};
 ghost use Rattle.half_table.specs.Half.{twin};
 ghost use Rattle.half_table.specs.Rows.{has, origin_of};
 ghost use Rattle.key_lists.specs.Held.{items_at};
-ghost use Rattle.cad_laws.specs.Local.{side_by};
+ghost use Rattle.cad_laws.specs.Local.{IsShown, side_by};
 ghost use Rattle.map_parts.specs.Labels.{IsAlong};
 ghost use Rattle.edit_records.specs.Gridded.{IsGridOf};
 ghost use Rattle.map_parts.specs.Parts.{rows_of, map_of, FitTogether};
 ghost use Rattle.map_parts.specs.Views.{view_half};
 
+use crate::areas::area_along;
 use cad_map::{Counts, MapView, PlainMap};
 use cad_rows::{
     Face, Memory, ParcelNo, ParcelRow, PointNo, PointRow, SourceNo, SourceRow, StringNo, StringRow,
@@ -134,6 +135,18 @@ impl<T: Tally> Draft<T> {
         find_half_in_star(&self.stars, here, from, to)
     }
 
+    /// The points on both sides beyond the end of a half of the map's strings: what comes before its
+    /// twin, and what comes after it.
+    fn ends_beyond(&self, half: &Half) -> (PointNo, PointNo)
+        requires { IsShown (rows_of self.now) half.now }
+        ensures { AreBeyond (map_of self.now) (origin_of self.now.table.rows half.now)
+            (origin_of self.now.table.rows (twin half.now)) result.0 result.1 }
+    {
+        let before = self.table.prev(self.table.twin(*half));
+        let after = self.table.twin(self.table.next(*half));
+        (self.table.origin(before), self.table.origin(after))
+    }
+
     /// The point where a half ends. It is sought in the star of the point where it begins, which is at
     /// hand.
     fn far_in(&self, point: PointNo, here: &[Spoke], half: &Half) -> PointNo
@@ -253,8 +266,18 @@ impl<T: Tally> MapView for Draft<T> {
         Some(self.far_in(to, here, &after))
     }
 
+    fn beyond(&self, point: PointNo, place: usize) -> Option<(PointNo, PointNo)> {
+        let half = half_at(&self.stars, point, place)?;
+        Some(self.ends_beyond(&half))
+    }
+
     fn ring_side(&self, face: Face, place: usize) -> Option<(PointNo, PointNo)> {
         let half = kept_half(&self.kept, face, place)?;
         Some(side(&self.table, &half))
+    }
+
+    fn ring_area(&self, face: Face, place: usize) -> i128 {
+        let half = kept_half(&self.kept, face, place).unwrap();
+        area_along(&self.rows.points, &self.table, &half)
     }
 }

@@ -160,7 +160,15 @@ impl<T: Tally> MapView for HalfMap<T> {
         self.draft.after(from, to)
     }
 
+    fn beyond(&self, point: PointNo, place: usize) -> Option<(PointNo, PointNo)> {
+        self.draft.beyond(point, place)
+    }
+
     fn ring_side(&self, face: Face, place: usize) -> Option<(PointNo, PointNo)> {
         self.draft.ring_side(face, place)
+    }
+
+    fn ring_area(&self, face: Face, place: usize) -> i128 {
+        self.draft.ring_area(face, place)
     }
 }

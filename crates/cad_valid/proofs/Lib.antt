@@ -27,7 +27,11 @@ mod Passed
 mod RowsByNumber
 mod NearPoints
 mod NearStrings
+mod PassedTriangles
+mod TrianglesSeen
 mod NearCorners
+mod StayedCorners
+mod SeenBetween
 mod StarTests
 mod SeenNear
 mod SightOfMap

@@ -174,7 +174,7 @@ module _ (reach : Reach) (at from : Position) (at_in : IsInReach reach at) (from
   overlaps-within l h z lz zh = grind (arith, ints)
 
   -- a position that doesn't lies left of it, or below, above or right of it
-  outside : (q : Position) → boxes_overlap reach.low reach.high q q ≡ false
+  pub outside : (q : Position) → boxes_overlap reach.low reach.high q q ≡ false
       → (q.x <ℤ reach.low.x) ⊎ ((q.y <ℤ reach.low.y) ⊎ (reach.high.y <ℤ q.y) ⊎ (reach.high.x <ℤ q.x))
   outside q apart =
       by_lt_z q.x reach.low.x inl (λ left.

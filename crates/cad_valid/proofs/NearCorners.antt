@@ -20,6 +20,9 @@ use Rattle.cad_valid.proofs.RowsByNumber.{row-found_is}
 use Rattle.cad_valid.proofs.EmptyCorners.{empty-after, empty-from_strings}
 use Rattle.cad_valid.specs.Near.{OfString, HasEmptyCornersAt, HasEmptyEnds, IsEmptyBeyond}
 
+pub joins-turned : (s : StringRow) (a b : ℕ) → Joins s a b → Joins s b a
+joins-turned s a b j = record { ends = elim j.ends [ inl e ↦ inr e | inr e ↦ inl e ] }
+
 -- a string between two points
 pub record IsBetween (m : Map) (a b : ℕ) : Type 0 where
   pub string : StringRow
@@ -175,7 +178,7 @@ module _ (old new : Map) (t : Touched) (valid : IsValid old) (whole : HasWholeRi
     ]
       where
         turned : IsBetween new c.at c.after → IsBetween new c.after c.at
-        turned b = record { string = b.string; there = b.there; joins = record { ends = elim b.joins.ends [ inl e ↦ inr e | inr e ↦ inl e ] } }
+        turned b = record { string = b.string; there = b.there; joins = joins-turned b.string c.at c.after b.joins }
 
 pub near-corners : (old new : Map) (t : Touched) → IsValid old → HasWholeRings new → IsTouched old new t → AllByRecursion (HasEmptyCornersAt new) t.points × AllByRecursion (OfString new (HasEmptyEnds new)) t.strings ↔ IsTrue (has_empty_corners new)
 unfolding OfString

@@ -21,7 +21,7 @@ meet-turned m s t meet common =
     (shared.0, record { of_first = shared.1.of_second; of_second = shared.1.of_first; there = common.same ∙ shared.1.there })
 
 -- segments whose ends stand where others' ends stand have a common location where those have
-kept-common : {a b c d p q r s : Position} → a ≡ p → b ≡ q → c ≡ r → d ≡ s → HaveCommonLocation a b c d → HaveCommonLocation p q r s
+pub kept-common : {a b c d p q r s : Position} → a ≡ p → b ≡ q → c ≡ r → d ≡ s → HaveCommonLocation a b c d → HaveCommonLocation p q r s
 kept-common e f g h common = record {
   n = common.n;
   s = common.s;

@@ -3,6 +3,7 @@ pub mod Boxes
 pub mod Corners
 pub mod Holes
 pub mod Moves
+pub mod Triangles
 pub mod Joins
 pub mod Near
 pub mod Seen

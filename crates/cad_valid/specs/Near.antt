@@ -1,14 +1,16 @@
 -- What is tested near an edit.
 use Rattle.std.specs.Prelude.{◌≡◌, ◌≢◌, ℕ, IsTrue}
 use Rattle.std.specs.List.{AllByRecursion, Contains}
+use Rattle.geo_exact.specs.Sector.{in_sector}
 use Rattle.cad_rows.specs.declared.rows.PointRow.{PointRow}
 use Rattle.cad_rows.specs.declared.rows.StringRow.{StringRow}
 use Rattle.cad_rows.specs.declared.names.Face.{Face}
 use Rattle.cad_rows.specs.declared.names.Face.TheVariants.{Outside, Parcel}
 use Rattle.cad_rings.specs.Cycle.{Corner}
-use Rattle.cad_map.specs.Map.{Map, has_face, position_of, is_end, far_end, all_corners, rings_of}
+use Rattle.cad_map.specs.Map.{Map, has_face, position_of, is_end, far_end, strings_at, all_corners, rings_of}
 use Rattle.cad_map.specs.Valid.{IsValid, MeetAtEnds, LiesOnlyAsEnd, is_empty_corner, has_outlines, has_sound_holes}
 use Rattle.cad_map.specs.Touched.{Touched, IsTouched}
+use Rattle.cad_map.specs.Views.{AreBeyond}
 use Rattle.cell_grid.specs.Grid.{Grid, HoldsString, HoldsPoint}
 use Rattle.cad_valid.specs.declared.near.Touched.{Touched as Lists}
 use Rattle.cad_valid.specs.declared.near.faces.FaceRules.{FaceRules}
@@ -101,6 +103,17 @@ IsEmptyBeyond m p s = IsTrue (is_end s p) → IsTrue (is_empty_after m (far_end 
 pub record HasEmptyEnds (m : Map) (s : StringRow) : Type 0 where
   pub from : HasEmptyCornersAt m s.from
   pub to : HasEmptyCornersAt m s.to
+
+-- the corners at the far ends of a point's strings are empty
+abbrev pub HasEmptyCornersRound : Map → ℕ → Type 0
+HasEmptyCornersRound m p = (s : StringRow) → Contains (strings_at m p) s → HasEmptyCornersAt m (far_end s p)
+
+-- q sees its neighbour p between the two strings of q that are next to the one to p
+pub record IsSeenBetween (m : Map) (p q : ℕ) : Type 0 where
+  pub before : ℕ
+  pub after : ℕ
+  pub beyond : AreBeyond m p q before after
+  pub inside : IsTrue (in_sector (position_of m q) (position_of m after) (position_of m before) (position_of m p))
 
 -- ---- V7, V8
 

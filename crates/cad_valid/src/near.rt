@@ -1,5 +1,6 @@
 //! The first rule that a map breaks, looked for near an edit.
 ghost use Rattle.std.specs.Prelude.{◌≡◌, ◌↔◌, [], IsTrue, IfSome, IfNone};
+ghost use Rattle.std.specs.List.{AllByRecursion};
 ghost use Rattle.cad_rows.specs.declared.refusals.Rule.TheVariants.{V3, V4, V6, V7, V8};
 ghost use Rattle.cad_map.specs.Valid.{HasSoundRows, HasTwoEnds};
 ghost use Rattle.cad_map.specs.Valid.{CanBeTested, Keeps, KeepsAll, FirstBroken};
@@ -7,7 +8,7 @@ ghost use Rattle.cad_map.specs.Crossings.{HasPlacedRows};
 ghost use Rattle.cad_map.specs.Rings.{HasWholeRings};
 ghost use Rattle.cad_map.specs.Touched.{Touched as TouchedOf};
 ghost use Rattle.cad_valid.specs.Near.{HoldsMap, ComesFromValid, touched_of};
-ghost use Rattle.cad_valid.specs.Near.{AreUncrossed};
+ghost use Rattle.cad_valid.specs.Near.{AreUncrossed, HasEmptyCornersAt};
 ghost use Rattle.cad_valid.specs.Seen.{IsSeenAlone};
 
 mod corners;
@@ -15,6 +16,7 @@ mod faces;
 mod joins;
 mod many;
 mod moves;
+mod passed;
 mod points;
 mod rays;
 mod rounds;
@@ -24,9 +26,10 @@ mod strings;
 mod turns;
 mod ways;
 
-use crate::near::corners::{are_empty_at, are_empty_at_ends};
+use crate::near::corners::{are_empty_at, are_empty_at_ends, are_empty_round};
 use crate::near::faces::{FaceRules, rules_of_faces};
 use crate::near::many::are_many_uncrossed;
+use crate::near::passed::is_move_clear;
 use crate::near::points::are_alone;
 use crate::near::seen::{Seen, gather};
 use crate::near::sight::{sees_points_clear, sees_strings_clear};
@@ -116,9 +119,14 @@ pub struct Touched {
 /// that few strings have, a string was split or two were joined, and that is seen to leave the rings as
 /// they were to one another, only those that pass there are walked. At a touched point of
 /// more than eight strings these are laid out too and sorted by their directions, 32 bytes a string;
-/// without memory each corner there is compared with each of them. Where 64 strings or more were
-/// touched, what the grid holds near them is laid out and compared by a sort of its boxes, some 200
-/// bytes for each string and point; without memory each is looked at by itself. All else takes none.
+/// without memory each corner there is compared with each of them. Where a point was moved, of the other
+/// strings at the far end of one of its own only the two next to that are looked at, if it is still seen
+/// between them. Where 64 strings or more were touched, what the grid holds near them is laid out and
+/// compared by a sort of its boxes, some 200 bytes for each string and point; without memory each is
+/// looked at by itself. All else takes none.
+///
+/// Where an edit only moved a point of few strings, which swept over no other point, and no other string
+/// comes near the point's way, that alone tells that points lie apart and strings meet only at ends.
 ///
 /// The grid holds the map's strings and points at their positions. It may hold others as well: a
 /// candidate is tested where the map has it, and one that the map doesn't have is passed over.
@@ -135,13 +143,8 @@ pub fn first_broken_near<M: MapView>(
     ensures broken { IfSome result (FirstBroken (M.map map.now)) }
     ensures kept { IfNone result (KeepsAll (M.map map.now)) }
 {
-    let mut gathered = Seen::none();
-    let seen = seen_alone(map, grid, touched, &mut gathered);
-    if !has_distinct_positions(map, grid, touched, seen) {
-        return Some(Rule::V3);
-    }
-    if !has_no_crossing(alloc, map, grid, touched, seen) {
-        return Some(Rule::V4);
+    if let Some(rule) = first_broken_apart(alloc, map, grid, touched) {
+        return Some(rule);
     }
     if !has_empty_corners(alloc, map, touched) {
         return Some(Rule::V6);
@@ -152,6 +155,35 @@ pub fn first_broken_near<M: MapView>(
     }
     if !rules.holes {
         return Some(Rule::V8);
+    }
+    None
+}
+
+/// Of V3 and V4 the first that a map breaks. It breaks neither where a move of one point alone is seen
+/// to have gone clear of all else. Otherwise what was touched is compared with all that lies near it.
+fn first_broken_apart<M: MapView>(
+    alloc: Global,
+    map: &M,
+    grid: &CellGrid,
+    touched: &Touched,
+) -> Option<Rule>
+    requires tested { CanBeTested (M.map map.now) }
+    requires held { HoldsMap grid.now (M.map map.now) }
+    requires touched { ComesFromValid (touched_of touched.now) (M.map map.now) }
+    ensures broken { IfSome result (FirstBroken (M.map map.now)) }
+    ensures distinct { IfNone result (Keeps (M.map map.now) V3) }
+    ensures uncrossed { IfNone result (Keeps (M.map map.now) V4) }
+{
+    if is_move_clear(map, grid, touched) {
+        return None;
+    }
+    let mut gathered = Seen::none();
+    let seen = seen_alone(map, grid, touched, &mut gathered);
+    if !has_distinct_positions(map, grid, touched, seen) {
+        return Some(Rule::V3);
+    }
+    if !has_no_crossing(alloc, map, grid, touched, seen) {
+        return Some(Rule::V4);
     }
     None
 }
@@ -242,12 +274,27 @@ fn has_empty_corners<M: MapView>(alloc: Global, map: &M, touched: &Touched) -> b
     ensures { IsTrue result ↔ Keeps (M.map map.now) V6 }
 {
     are_empty_at(alloc, map, touched.points.as_slice())
-        && are_empty_at_ends(
+        && has_empty_corners_beside(alloc, map, touched)
+}
+
+/// Whether corners are empty, where those at touched points are. Of an edit that moved a point and did
+/// no more, those at the other ends of its strings are left; of another, those at the ends of touched
+/// strings.
+fn has_empty_corners_beside<M: MapView>(alloc: Global, map: &M, touched: &Touched) -> bool
+    requires whole { HasWholeRings (M.map map.now) }
+    requires touched { ComesFromValid (touched_of touched.now) (M.map map.now) }
+    requires points { AllByRecursion (HasEmptyCornersAt (M.map map.now)) touched.now.points.items }
+    ensures { IsTrue result ↔ Keeps (M.map map.now) V6 }
+{
+    match touched.moved {
+        Some(moved) => are_empty_round(alloc, map, moved.point),
+        None => are_empty_at_ends(
             alloc,
             map,
             touched.strings.as_slice(),
             touched.points.as_slice(),
-        )
+        ),
+    }
 }
 
 /// Whether each parcel has one outline and the outside none, and whether the holes of each face are in

@@ -6,9 +6,9 @@ ghost use Rattle.cad_rings.specs.Cycle.{anchor_of as anchor_of_ring, placed, sid
 ghost use Rattle.cad_map.specs.Map.{rings_at, position_of, has_point, sum_of_ring, is_positive, is_negative};
 ghost use Rattle.cad_map.specs.Rings.{HasWholeRings, ring_at};
 
-use cad_map::{MapView, Walk, position, ring_sum};
+use cad_map::{MapView, Walk, position};
 use cad_rows::{Face, PointNo};
-use geo_exact::{DoubledArea, Pt, crosses};
+use geo_exact::{Pt, crosses};
 
 /// Whether a ring of a face has positive doubled area.
 pub(crate) fn is_outline<M: MapView>(map: &M, face: &Face, place: usize) -> bool
@@ -35,7 +35,7 @@ pub(crate) fn doubled_area_of<M: MapView>(map: &M, face: &Face, place: usize) ->
     ensures { result ≡ sum_of_ring doubled_area (M.map map.now)
         (ring_at (M.rings map.now) face.now place) }
 {
-    ring_sum(map, face, place, &DoubledArea)
+    map.ring_area(*face, place)
 }
 
 /// The anchor of a ring of a face, its least point.

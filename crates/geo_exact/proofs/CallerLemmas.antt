@@ -17,9 +17,11 @@ use Rattle.geo_exact.proofs.SignTestLemmas.{and_right, overlap_from}
 use Rattle.geo_exact.proofs.Toolbox.{by_parts, var, ◌⊞◌, ◌⊟◌, ◌⊠◌}
 pub use Rattle.geo_exact.specs.MeasureLaws.{doubled_area-odd, doubled_area-bounded, winding-odd, winding-bounded}
 pub use Rattle.geo_exact.proofs.Directions.{one_is_first, in_one_sector}
-pub use Rattle.geo_exact.proofs.Borders.{in_sector-first_border, in_sector-last_border}
+pub use Rattle.geo_exact.proofs.Borders.{in_sector-first_border, in_sector-last_border, IsApart, in_sector-apart, in_sector-three}
+pub use Rattle.geo_exact.proofs.PastTriangle.{IsBeyond, passes_triangle, outside-not_on, outside-of_box}
+pub use Rattle.geo_exact.proofs.RoundPoint.{in_sector-turned, in_sector-goes_on, in_sector-goes_on-rest, IsClear, in_sector-whole, stays-clear_last, stays-clear_first, stays-clear_elsewhere}
 pub use Rattle.geo_exact.proofs.SignTestLemmas.{passes_signs-is}
-pub use Rattle.geo_exact.proofs.TurnOrder.{IsBetween, met-later, met-apart, not-met-itself, same-exchanged, on-same_direction, first-between, second-between, last-between}
+pub use Rattle.geo_exact.proofs.TurnOrder.{IsBetween, met-later, met-total, met-apart, not-met-itself, same-exchanged, on-same_direction, first-between, second-between, last-between}
 
 -- ---- Positions
 

@@ -1,5 +1,5 @@
 -- Directions in the order in which a turn meets them: it is an order, and of three in a row each lies in the sector between the other two.
-use Rattle.std.proofs.Common.{◌≡◌, refl, sym, ap, ◌∙◌, [], ◌∷◌, ℤ, pos, ◌+ℤ◌, ◌-ℤ◌, ◌*ℤ◌, neg_ℤ, ◌<ℤ◌, ◌≤ℤ◌, arith, Bool, true, false, true≢false}
+use Rattle.std.proofs.Common.{◌≡◌, refl, sym, ap, ◌∙◌, [], ◌∷◌, ℤ, pos, ◌+ℤ◌, ◌-ℤ◌, ◌*ℤ◌, neg_ℤ, ◌<ℤ◌, ◌≤ℤ◌, arith, Bool, true, false, true≢false, ◌⊎◌, inl, inr}
 use Rattle.std.specs.Prelude.{not, ◌&&◌, ◌||◌, int_lt, int_le, if◌then◌else◌}
 use Rattle.std.proofs.lemmas.Bool.{not-true}
 use Rattle.std.proofs.lemmas.Int.{ints, by_lt_z}
@@ -10,7 +10,7 @@ use Rattle.geo_exact.specs.Segment.{IsOnSegment}
 use Rattle.geo_exact.specs.Turning.{is_ahead, is_met_first}
 use Rattle.geo_exact.proofs.Polynomial.{by_parts}
 use Rattle.geo_exact.proofs.Polynomial.Polynomial.{var, num, ◌⊞◌, ◌⊟◌, ◌⊠◌}
-use Rattle.geo_exact.proofs.Signs.{positive-positive, negative-positive, zero-times, square}
+use Rattle.geo_exact.proofs.Signs.{positive-positive, zero-times, square}
 use Rattle.geo_exact.proofs.Borders.{cross_self}
 use Rattle.geo_exact.proofs.Directions.Sign.{above, zero_, below}
 use Rattle.geo_exact.proofs.Directions.{by_signs, Sign, sign, cross, inner, inner_back, cross_back, one_is_first, above_if, zero_if, away}
@@ -288,6 +288,41 @@ same_way ax ay bx by a b parallel = by_halves a b above_b
         let m = positive-positive ax by k l in let n = flat_first ax ay bx by h in absurd (omega (arith, m, n, parallel, ints))
     by_halves (east h k) (east l m) same =
         let n = positive-positive ax bx k m in let o = zero-times ay by h in omega (arith, n, o, ints)
+
+-- of two different directions one is met before the other
+pub met-total : (v a b : Position) → ¬ (a ≡ v) → ¬ (b ≡ v) → ¬ IsSameDirection v a b → (is_met_first v a b ≡ true) ⊎ (is_met_first v b a ≡ true)
+met-total v a b a_away b_away apart = by i j (sign (orientation v a b))
+  where
+    i : Half v a
+    i = half v a a_away
+
+    j : Half v b
+    j = half v b b_away
+
+    before : Meeting v a b → (is_met_first v a b ≡ true) ⊎ (is_met_first v b a ≡ true)
+    before m = inl (met v a b i j m)
+
+    after : Meeting v b a → (is_met_first v a b ≡ true) ⊎ (is_met_first v b a ≡ true)
+    after m = inr (met v b a j i m)
+
+    back : orientation v b a ≡ neg_ℤ (orientation v a b)
+    back = cross_back (a.x -ℤ v.x) (a.y -ℤ v.y) (b.x -ℤ v.x) (b.y -ℤ v.y)
+
+    -- the inner product of both vectors turned by half a turn
+    dot_turned : inner (v.x -ℤ a.x) (v.y -ℤ a.y) (v.x -ℤ b.x) (v.y -ℤ b.y) ≡ dot v a b
+    dot_turned =
+        let VX = var 0 in let VY = var 1 in let AX = var 2 in let AY = var 3 in let BX = var 4 in let BY = var 5 in
+        by_parts (v.x ∷ v.y ∷ a.x ∷ a.y ∷ b.x ∷ b.y ∷ []) ((VX ⊟ AX) ⊠ (VX ⊟ BX) ⊞ (VY ⊟ AY) ⊠ (VY ⊟ BY)) ((AX ⊟ VX) ⊠ (BX ⊟ VX) ⊞ (AY ⊟ VY) ⊠ (BY ⊟ VY)) (omega arith)
+
+    by : Half v a → Half v b → Sign (orientation v a b) → (is_met_first v a b ≡ true) ⊎ (is_met_first v b a ≡ true)
+    by (first p x) (second q y) s = before (across x y)
+    by (second p x) (first q y) s = after (across y x)
+    by (first p x) (first q y) (above k u) = before (in_first x y k)
+    by (first p x) (first q y) (below k u) = after (in_first y x (omega (arith, back, k, ints)))
+    by (first p x) (first q y) (zero_ k u) = absurd (apart (record { parallel = k; same_way = same_way _ _ _ _ x y k }))
+    by (second p x) (second q y) (above k u) = before (in_second x y k)
+    by (second p x) (second q y) (below k u) = after (in_second y x (omega (arith, back, k, ints)))
+    by (second p x) (second q y) (zero_ k u) = absurd (apart (record { parallel = k; same_way = rw dot_turned at (same_way _ _ _ _ x y (half_turned v a b ∙ k)) }))
 
 -- directions of which one is met first are two
 pub met-apart : (v a b : Position) → ¬ (a ≡ v) → ¬ (b ≡ v) → is_met_first v a b ≡ true → ¬ IsSameDirection v a b

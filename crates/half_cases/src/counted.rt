@@ -140,8 +140,18 @@ impl<M: MapView> MapView for Counted<'_, M> {
         self.inner.after(from, to)
     }
 
+    fn beyond(&self, point: PointNo, place: usize) -> Option<(PointNo, PointNo)> {
+        self.count();
+        self.inner.beyond(point, place)
+    }
+
     fn ring_side(&self, face: Face, place: usize) -> Option<(PointNo, PointNo)> {
         self.count();
         self.inner.ring_side(face, place)
+    }
+
+    fn ring_area(&self, face: Face, place: usize) -> i128 {
+        self.count();
+        self.inner.ring_area(face, place)
     }
 }

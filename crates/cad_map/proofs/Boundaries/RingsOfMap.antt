@@ -99,6 +99,16 @@ module _ (m : Map) (bs : List Boundary) (whole : HasWholeRings m) (is : canonica
             | inr later ↦ le_part cs later (omega arith)
           ]
 
+  -- so the ring at a place has no more points than that
+  pub ring-few : (f : Face) (place : ℕ) → place < length (rings_at f bs) → length (ring_at bs f place) ≤ 400000
+  ring-few f place within =
+      let found = rings_at-Contains f bs place within in
+      let few = ring-sides-few found.0 found.1 in
+      let many = length-sides_of found.0.ring in
+      let same = ap length found.2 in
+      let most = whole.v1.few_strings in
+      omega arith
+
   pub ring-points : (b : Boundary) → Contains bs b → (s : Side) → Contains (sides_of b.ring) s → IsTrue (has_point m s.0) × IsTrue (has_point m s.1)
   ring-points b there s h = string-side-points m whole s (Contains-permutation (sides_in bs) (all_sides m) s rings_of_map.sides (Contains-flat_map (λ c. sides_of c.ring) bs b s there h))
 

@@ -8,7 +8,7 @@ use Rattle.std.proofs.lemmas.Cmp.{int_eq_equiv}
 use Rattle.geo_exact.specs.Position.{Position}
 use Rattle.geo_exact.specs.Orientation.{IsSameDirection}
 use Rattle.geo_exact.specs.Segment.{IsOnSegment}
-use Rattle.geo_exact.specs.Sector.{in_sector}
+use Rattle.geo_exact.specs.Sector.{in_sector, AreThreeDirections}
 use Rattle.geo_exact.proofs.CallerLemmas.{HaveCommonLocation-first_turned, one_is_first}
 use Rattle.cad_rows.specs.declared.rows.PointRow.{PointRow}
 use Rattle.cad_rows.specs.declared.rows.StringRow.{StringRow}
@@ -154,14 +154,20 @@ module _ (m : Map) (valid : IsValid m) where
   pub end_away : (s : StringRow) (v a : ℕ) → IsString s v a → ¬ (position_of m a ≡ position_of m v)
   end_away s v a k = positions_differ a v (both_in s v a k).1 (both_in s v a k).0 (λ e. two_ends s v a k (sym e))
 
-  -- of three strings at a point, one isn't met before another exactly where the other is met before it
-  pub first_met : (s t r : StringRow) (v a b w : ℕ) → IsString s v a → IsString t v b → IsString r v w → a ≢ b → a ≢ w → w ≢ b
-      → in_sector (position_of m v) (position_of m a) (position_of m b) (position_of m w) ≡ not (in_sector (position_of m v) (position_of m w) (position_of m b) (position_of m a))
-  first_met s t r v a b w ks kt kr ab aw wb = one_is_first (position_of m v) (position_of m a) (position_of m b) (position_of m w) (record {
+  -- strings to three points lead into three directions
+  pub three_directions : (s t r : StringRow) (v a b w : ℕ) → IsString s v a → IsString t v b → IsString r v w → a ≢ b → a ≢ w → w ≢ b
+      → AreThreeDirections (position_of m v) (position_of m a) (position_of m b) (position_of m w)
+  three_directions s t r v a b w ks kt kr ab aw wb = record {
     n_away = end_away s v a ks;
     p_away = end_away t v b kt;
     w_away = end_away r v w kr;
     n_from_p = directions_differ s t v a b ks kt ab;
     n_from_w = directions_differ s r v a w ks kr aw;
     w_from_p = directions_differ r t v w b kr kt wb;
-  })
+  }
+
+  -- of three strings at a point, one isn't met before another exactly where the other is met before it
+  pub first_met : (s t r : StringRow) (v a b w : ℕ) → IsString s v a → IsString t v b → IsString r v w → a ≢ b → a ≢ w → w ≢ b
+      → in_sector (position_of m v) (position_of m a) (position_of m b) (position_of m w) ≡ not (in_sector (position_of m v) (position_of m w) (position_of m b) (position_of m a))
+  first_met s t r v a b w ks kt kr ab aw wb =
+      one_is_first (position_of m v) (position_of m a) (position_of m b) (position_of m w) (three_directions s t r v a b w ks kt kr ab aw wb)

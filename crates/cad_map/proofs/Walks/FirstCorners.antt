@@ -166,7 +166,7 @@ module _ (m : Map) (whole : HasWholeRings m) where
           let sides = times-append s (sides_of b.ring) (sides_in bs) in
           omega (arith, ring, one, other, last, rest, parts, sides)
 
-  behind-only : (c d : Corner) → Contains (all_corners m) c → Contains (all_corners m) d → side_behind c ≡ side_behind d → c ≡ d
+  pub behind-only : (c d : Corner) → Contains (all_corners m) c → Contains (all_corners m) d → side_behind c ≡ side_behind d → c ≡ d
   behind-only c d h k same =
       let s = side_behind c in
       one-only (λ e. is_side s (side_behind e)) (all_corners m) c d (behind-once s) h k (is_side-refl s) (ap (is_side s) (sym same) ∙ is_side-refl s)

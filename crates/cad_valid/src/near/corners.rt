@@ -1,14 +1,17 @@
 //! Whether the corners at touched points, and at the ends of touched strings, are empty.
-ghost use Rattle.std.specs.Prelude.{◌≡◌, ◌↔◌, IsTrue, IfSome, drop, take};
+ghost use Rattle.std.specs.Prelude.{◌≡◌, ◌↔◌, ℕ, IsTrue, IfSome, Some, drop, take, slice_get, option_map};
 ghost use Rattle.std.specs.List.{AllByRecursion};
+ghost use Rattle.cad_map.specs.Map.{far_end as far_end_of};
 ghost use Rattle.cad_map.specs.Rings.{HasWholeRings};
 ghost use Rattle.cad_valid.specs.Near.{OfString, HasEmptyCornersAt, HasEmptyEnds};
+ghost use Rattle.cad_valid.specs.Near.{HasEmptyCornersRound, IsSeenBetween};
 
 use crate::corners::is_empty_after;
 use crate::near::rays::{MOST_RAYS, are_empty_between, rays_at};
 use crate::near::turns::empty_by_turn;
-use cad_map::{MapView, far_end, is_end};
+use cad_map::{MapView, far_end, is_end, position};
 use cad_rows::{PointNo, StringNo, StringRow};
+use geo_exact::in_sector;
 use std::alloc::Global;
 
 /// Whether the corners at each of these points are empty.
@@ -93,6 +96,62 @@ fn is_empty_end<M: MapView>(
         }
     }
     points.contains(&end) || has_empty_corners(alloc, map, end)
+}
+
+/// Whether the far end of a point's string at a place sees the point between the two strings of its own
+/// that are next to that one.
+fn is_seen_between<M: MapView>(map: &M, point: PointNo, place: usize, far: PointNo) -> bool
+    requires whole { HasWholeRings (M.map map.now) }
+    requires far { option_map (λ s. far_end_of s point)
+        (slice_get (M.view_strings map.now point) place) ≡ Some far }
+    ensures { IsTrue result ↔ IsSeenBetween (M.map map.now) point far }
+{
+    match map.beyond(point, place) {
+        Some((before, after)) => in_sector(
+            position(map, far),
+            position(map, after),
+            position(map, before),
+            position(map, point),
+        ),
+        None => false,
+    }
+}
+
+/// Whether the corners at the far end of a moved point's string at a place are empty, where they are at
+/// each end that sees the point between the two strings next to its own.
+fn is_empty_far<M: MapView>(
+    alloc: Global,
+    map: &M,
+    point: PointNo,
+    place: usize,
+    far: PointNo,
+) -> bool
+    requires whole { HasWholeRings (M.map map.now) }
+    requires seen { (q : ℕ) → IsSeenBetween (M.map map.now) point q
+        → HasEmptyCornersAt (M.map map.now) q }
+    requires far { option_map (λ s. far_end_of s point)
+        (slice_get (M.view_strings map.now point) place) ≡ Some far }
+    ensures { IsTrue result ↔ HasEmptyCornersAt (M.map map.now) far }
+{
+    is_seen_between(map, point, place, far) || has_empty_corners(alloc, map, far)
+}
+
+/// Whether the corners at the far ends of a moved point's strings are empty, where they are at each end
+/// that sees it between the two strings next to its own. Mostly all do, and then no other strings of
+/// theirs are looked at.
+pub(crate) fn are_empty_round<M: MapView>(alloc: Global, map: &M, point: PointNo) -> bool
+    requires whole { HasWholeRings (M.map map.now) }
+    requires seen { (q : ℕ) → IsSeenBetween (M.map map.now) point q
+        → HasEmptyCornersAt (M.map map.now) q }
+    ensures { IsTrue result ↔ HasEmptyCornersRound (M.map map.now) point }
+{
+    for place in 0..map.degree(point) {
+        let far = map.far_with(point, place).unwrap();
+        if !is_empty_far(alloc, map, point, place, far) {
+            return false;
+        }
+    }
+    true
 }
 
 /// Whether the corners at a point are empty.

@@ -179,7 +179,7 @@ fn goes_past<M: MapView>(
 }
 
 /// The box of a point, of where it lay, and of the ends of its rays.
-fn reach_round(at: Pt, from: Pt, rays: &[Ray]) -> Reach
+pub(crate) fn reach_round(at: Pt, from: Pt, rays: &[Ray]) -> Reach
     ensures at { IsInReach result at }
     ensures from { IsInReach result from }
     ensures rays { AllByRecursion (λ r. IsInReach result r.position) rays.now }

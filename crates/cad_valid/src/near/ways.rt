@@ -42,7 +42,7 @@ fn has_left(grid: &CellGrid, moved: &Moved) -> bool
 
 /// Whether the string with a number, if the map has it, has an end at a point.
 #[tactic(auto, using(crate::proofs::RowsByNumber::rows_found))]
-fn ends_there<M: MapView>(map: &M, string: StringNo, point: PointNo) -> bool
+pub(crate) fn ends_there<M: MapView>(map: &M, string: StringNo, point: PointNo) -> bool
     requires { HasSoundRows (M.map map.now) }
     ensures { IsTrue result
         ↔ OfString (M.map map.now) (λ s. IsTrue (is_end_of s point)) string }
@@ -54,7 +54,13 @@ fn ends_there<M: MapView>(map: &M, string: StringNo, point: PointNo) -> bool
 }
 
 /// Whether no string that the grid holds comes near the way between two positions, but those of a point.
-fn is_way_clear<M: MapView>(map: &M, grid: &CellGrid, point: PointNo, from: Pt, to: Pt) -> bool
+pub(crate) fn is_way_clear<M: MapView>(
+    map: &M,
+    grid: &CellGrid,
+    point: PointNo,
+    from: Pt,
+    to: Pt,
+) -> bool
     requires sound { HasSoundRows (M.map map.now) }
     requires held { HoldsMap grid.now (M.map map.now) }
     ensures { IsTrue result → (s : StringOf) → Contains (M.map map.now).strings s

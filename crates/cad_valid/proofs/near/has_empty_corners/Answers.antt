@@ -1,13 +1,7 @@
 use Rattle.cad_valid.specs.Near.{touched_of}
 use Rattle.cad_valid.proofs.NearCorners.{near-corners}
-use Rattle.cad_valid.proofs.Passed.{first-decides, second-decides}
+use Rattle.cad_valid.proofs.Passed.{first-decides}
 use Rattle.cad_valid.proofs.near.has_empty_corners.Goals as goal
-
-pub returns-then-are_empty_at : goal.returns-then-are_empty_at
-returns-then-are_empty_at g c =
-    let from = c.requires.touched in
-    let halves = near-corners from.before (g.M.MapView.map c.args.map.now) (touched_of c.args.touched.now) from.valid c.requires.whole from.touched in
-    second-decides halves _ (rw c.as_slice.ensures.value at c.are_empty_at.ensures) _ (rw c.as_slice-then-are_empty_at.ensures.value at c.are_empty_at_ends.ensures) c.if-are_empty_at.true
 
 pub returns-else-are_empty_at : goal.returns-else-are_empty_at
 returns-else-are_empty_at g c =
