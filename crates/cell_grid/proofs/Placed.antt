@@ -15,13 +15,13 @@ use Rattle.cell_grid.specs.Cells.{AreSideBits, cells_in_row, shift, place_along,
 side-long : (bits : ℕ) → AreSideBits bits → 512 ≤ 2 ^ bits
 side-long bits h = pow_mono h.least
 
-record FromZero (z : ℤ) : Type 0 where
-  n : ℕ
-  is : z +ℤ pos shift ≡ pos n
-  within : n ≤ 27179869184
+pub record FromZero (z : ℤ) : Type 0 where
+  pub n : ℕ
+  pub is : z +ℤ pos shift ≡ pos n
+  pub within : n ≤ 27179869184
 
 -- a coordinate from the beginning of the grid
-from_zero : (z : ℤ) → InRange z → FromZero z
+pub from_zero : (z : ℤ) → InRange z → FromZero z
 from_zero z within = of (z +ℤ pos shift) refl
   where
     of : (x : ℤ) → z +ℤ pos shift ≡ x → FromZero z

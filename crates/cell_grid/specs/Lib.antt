@@ -1,5 +1,6 @@
 pub mod Cells
 pub mod Entries
+pub mod Packed
 pub mod Held
 pub mod Spread
 pub mod Kept

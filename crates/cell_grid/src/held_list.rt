@@ -2,7 +2,8 @@
 ghost use Rattle.std.specs.Prelude.{◌≡◌, ◌<◌, ◌∷◌, ◌++◌, [], true, false, length, IsPermutation, OnOk, OnErr, slice_index_or};
 ghost use Rattle.std.specs.List.{Contains};
 
-use crate::entry::{Entry, is_same};
+use crate::entry::Entry;
+use crate::packed::{PackedEntry, is_same};
 use cad_rows::Memory;
 use std::alloc::Global;
 
@@ -14,12 +15,12 @@ const LONGEST_SHORT: usize = 64;
 /// another mostly stood side by side.
 #[derive(Drop)]
 pub(crate) struct HeldList {
-    pub entries: Vec<Entry>,
+    pub entries: Vec<PackedEntry>,
     pub taken: usize,
 }
 
 /// Whether an entry stands at a place of a list.
-fn is_at(list: &[Entry], place: usize, entry: &Entry) -> bool
+fn is_at(list: &[PackedEntry], place: usize, entry: &Entry) -> bool
     ensures yes { result ≡ true
         → (place < length list.now) × (slice_index_or list.now place entry.now ≡ entry.now) }
     ensures no { result ≡ false → place < length list.now
@@ -29,7 +30,7 @@ fn is_at(list: &[Entry], place: usize, entry: &Entry) -> bool
 }
 
 /// The place of an entry in a list that has it. It is looked for from the front.
-fn place_from_front(list: &[Entry], entry: &Entry) -> usize
+fn place_from_front(list: &[PackedEntry], entry: &Entry) -> usize
     requires { Contains list.now entry.now }
     ensures within { result < length list.now }
     ensures value { slice_index_or list.now result entry.now ≡ entry.now }
@@ -44,7 +45,7 @@ fn place_from_front(list: &[Entry], entry: &Entry) -> usize
 
 /// The place of an entry in a list that has it. It is looked for from a place on, both ways at
 /// once, so that what stands near that place is found soon.
-fn place_around(list: &[Entry], entry: &Entry, from: usize) -> usize
+fn place_around(list: &[PackedEntry], entry: &Entry, from: usize) -> usize
     requires { Contains list.now entry.now }
     ensures within { result < length list.now }
     ensures value { slice_index_or list.now result entry.now ≡ entry.now }
@@ -64,7 +65,7 @@ fn place_around(list: &[Entry], entry: &Entry, from: usize) -> usize
 
 /// The place of an entry in a list that has it. It may well be this one; a short list is looked
 /// through from the front, and a long one around the place.
-fn place_in(list: &[Entry], entry: &Entry, likely: usize) -> usize
+fn place_in(list: &[PackedEntry], entry: &Entry, likely: usize) -> usize
     requires { Contains list.now entry.now }
     ensures within { result < length list.now }
     ensures value { slice_index_or list.now result entry.now ≡ entry.now }
@@ -95,7 +96,7 @@ impl HeldList {
             (self.new.entries.items ≡ self.old.entries.items ++ entry ∷ []) }
         ensures err { OnErr result (self.new.entries.items ≡ self.old.entries.items) }
     {
-        self.entries.push(entry)?;
+        self.entries.push(PackedEntry::of(&entry))?;
         Ok(())
     }
 

@@ -17,6 +17,7 @@ mod held_list;
 mod layer;
 mod lists;
 mod near;
+mod packed;
 mod segments;
 
 pub use entries::Entries;

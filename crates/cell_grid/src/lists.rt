@@ -5,6 +5,7 @@ ghost use Rattle.cell_grid.specs.Held.{entries_at, KeepsOtherCells, HasSameEntri
 
 use crate::entry::Entry;
 use crate::held_list::HeldList;
+use crate::packed::PackedEntry;
 use cad_rows::Memory;
 use indexmap::IndexMap;
 use number_hash::NumberHash;
@@ -38,7 +39,7 @@ impl CellLists {
     }
 
     /// The entries in a cell.
-    pub(crate) fn at(&self, cell: u64) -> &[Entry]
+    pub(crate) fn at(&self, cell: u64) -> &[PackedEntry]
         ensures { result.now ≡ entries_at self.now cell }
     {
         match self.lists.get(&cell) {
@@ -56,7 +57,7 @@ impl CellLists {
     }
 
     /// The cell at a place, in the order in which cells came to have lists, and the entries in it.
-    pub(crate) fn in_turn(&self, place: usize) -> (u64, &[Entry])
+    pub(crate) fn in_turn(&self, place: usize) -> (u64, &[PackedEntry])
         requires { place < length self.now }
         ensures cell { result.0 ≡ cell_in_turn self.now place }
         ensures list { result.1.now ≡ list_in_turn self.now place }

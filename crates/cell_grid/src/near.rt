@@ -13,8 +13,8 @@ ghost use Rattle.cell_grid.specs.Kept.{kept, AreSpread, IsHeld};
 
 use crate::block::{Block, block_of};
 use crate::bounds::{Bounds, bounds_of, is_near};
-use crate::entry::Entry;
 use crate::layer::Layer;
+use crate::packed::PackedEntry;
 use crate::segments::Segments;
 use geo_exact::Pt;
 use std::marker::Model;
@@ -50,7 +50,7 @@ fn searched_count(layer: &Layer, scope: &Scope) -> usize
 }
 
 /// The list at a place among these. One of a cell that the box doesn't touch counts as empty.
-fn searched_list<'a>(layer: &'a Layer, scope: &Scope, place: usize) -> &'a [Entry]
+fn searched_list<'a>(layer: &'a Layer, scope: &Scope, place: usize) -> &'a [PackedEntry]
     requires block { IsBlock scope.now.block }
     requires there { place < searched_count_of layer.now.lists scope.now }
     ensures { result.now ≡ searched_list_of layer.now.lists scope.now place }
@@ -64,7 +64,10 @@ fn searched_list<'a>(layer: &'a Layer, scope: &Scope, place: usize) -> &'a [Entr
 }
 
 /// The first entry of a list that is near, and those that come after it.
-fn first_near<'a>(list: &'a [Entry], bounds: &Bounds) -> Option<(&'a Entry, &'a [Entry])>
+fn first_near<'a>(
+    list: &'a [PackedEntry],
+    bounds: &Bounds,
+) -> Option<(&'a PackedEntry, &'a [PackedEntry])>
     ensures stands { IfSome result (λ r. IsFirstNear bounds.now list.now r.0.now r.1.now) }
     ensures some { IfSome result (λ r. filter (is_near_of bounds.now) list.now
         ≡ r.0.now ∷ filter (is_near_of bounds.now) r.1.now) }
@@ -80,8 +83,8 @@ fn first_near<'a>(list: &'a [Entry], bounds: &Bounds) -> Option<(&'a Entry, &'a 
 
 /// An entry that was found near, what comes after it in its list, and the place of the next list.
 struct Found<'a> {
-    entry: &'a Entry,
-    rest: &'a [Entry],
+    entry: &'a PackedEntry,
+    rest: &'a [PackedEntry],
     next: usize,
 }
 
@@ -127,7 +130,7 @@ pub(crate) struct NearInLayer<'a> {
     bounds: Bounds,
     scope: Scope,
     // What is left of the list at hand, the place of the next one, and how many there are.
-    list: &'a [Entry],
+    list: &'a [PackedEntry],
     next: usize,
     end: usize,
 }
@@ -170,13 +173,13 @@ impl<'a> NearInLayer<'a> {
 }
 
 impl<'a> Iterator for NearInLayer<'a> {
-    type Item = &'a Entry;
+    type Item = &'a PackedEntry;
 
     ghost next_gives = { YieldsFirstRef (λ w. w) };
 
     ghost remaining = { item_count (λ w. w) };
 
-    fn next(&mut self) -> Option<&'a Entry> {
+    fn next(&mut self) -> Option<&'a PackedEntry> {
         if let Some((entry, rest)) = first_near(self.list, &self.bounds) {
             self.list = rest;
             return Some(entry);
@@ -203,7 +206,7 @@ pub(crate) struct NearEntries<'a> {
     lanes_north: NearInLayer<'a>,
     bounds: Bounds,
     // What is left of the long ones.
-    long: &'a [Entry],
+    long: &'a [PackedEntry],
 }
 
 impl<'a> Model for NearEntries<'a> {
@@ -241,13 +244,13 @@ impl<'a> NearEntries<'a> {
 }
 
 impl<'a> Iterator for NearEntries<'a> {
-    type Item = &'a Entry;
+    type Item = &'a PackedEntry;
 
     ghost next_gives = { YieldsFirstRef (λ w. w) };
 
     ghost remaining = { item_count (λ w. w) };
 
-    fn next(&mut self) -> Option<&'a Entry> {
+    fn next(&mut self) -> Option<&'a PackedEntry> {
         if let Some(entry) = self.small_squares.next() {
             return Some(entry);
         }
