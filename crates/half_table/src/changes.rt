@@ -8,6 +8,7 @@ ghost use Rattle.half_table.specs.Surgery.{IsUnchanged, IsSpliced, SplicesBack, 
 
 use crate::half::{Half, is_same};
 use crate::links::{Ends, Links};
+use crate::packed::PackedLinks;
 use crate::rows::{Rows, next_half, number_of, set_face, set_next, set_prev};
 use crate::tally::Tally;
 use cad_rows::{Face, Memory, PointNo, StringNo};
@@ -74,10 +75,10 @@ pub(crate) fn put_loose(
 }
 
 /// The links of a half that both follows and is followed by this half of its string.
-fn lone_links(string: &StringNo, origin: &PointNo, face: &Face, forward: bool) -> Links
+fn lone_links(string: &StringNo, origin: &PointNo, face: &Face, forward: bool) -> PackedLinks
     ensures { result ≡ links_to (half_of string.now forward) origin.now face.now }
 {
-    Links {
+    let links = Links {
         origin: *origin,
         next: Half {
             string: *string,
@@ -88,7 +89,8 @@ fn lone_links(string: &StringNo, origin: &PointNo, face: &Face, forward: bool) -
             forward,
         },
         face: *face,
-    }
+    };
+    PackedLinks::of(&links)
 }
 
 /// Takes out a string whose halves are each other's next.

@@ -6,6 +6,7 @@ mod changes;
 mod half;
 mod links;
 mod open;
+mod packed;
 mod rows;
 mod table;
 mod tally;

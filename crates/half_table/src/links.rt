@@ -4,6 +4,7 @@ ghost use Rattle.half_table.specs.Rows.{links_at};
 ghost use Rattle.half_table.specs.Writes.{with_links_at};
 
 use crate::half::Half;
+use crate::packed::PackedLinks;
 use cad_rows::{Face, PointNo};
 
 /// The record of a half-edge: where it begins, what follows it, what it follows, and the face to its left.
@@ -15,16 +16,16 @@ pub struct Links {
     pub face: Face,
 }
 
-/// The links of both halves of a string.
+/// The links of both halves of a string, packed.
 #[derive(Clone, Copy, Drop)]
 pub struct Ends {
-    pub forward: Links,
-    pub backward: Links,
+    pub forward: PackedLinks,
+    pub backward: PackedLinks,
 }
 
 impl Ends {
     /// The links of one half.
-    pub(crate) fn at(&self, forward: bool) -> &Links
+    pub(crate) fn at(&self, forward: bool) -> &PackedLinks
         ensures { result.now ≡ links_at forward self.now }
     {
         if forward {
@@ -39,9 +40,9 @@ impl Ends {
         ensures { self.new ≡ with_links_at forward to self.old }
     {
         if forward {
-            self.forward = to;
+            self.forward = PackedLinks::of(&to);
         } else {
-            self.backward = to;
+            self.backward = PackedLinks::of(&to);
         }
     }
 }

@@ -7,10 +7,14 @@ ghost use Rattle.half_table.specs.Writes.{ChangesLinks, ChangesNext, ChangesPrev
 
 use crate::half::Half;
 use crate::links::{Ends, Links};
+use crate::packed::PackedLinks;
 use cad_rows::{Face, StringNo};
 use number_table::NumberTable;
 
 pub(crate) type Rows = NumberTable<Ends>;
+
+// A row takes 48 bytes: edits mostly wait for memory.
+const _: () = prove!(size_of::<(u64, Ends)>() == 48);
 
 // The number under which the halves of a string stand.
 pub(crate) fn number_of(string: &StringNo) -> u64
@@ -20,7 +24,7 @@ pub(crate) fn number_of(string: &StringNo) -> u64
 }
 
 /// The links of a half.
-pub(crate) fn find_links<'a>(rows: &'a Rows, h: &Half) -> Option<&'a Links>
+pub(crate) fn find_links<'a>(rows: &'a Rows, h: &Half) -> Option<&'a PackedLinks>
     ensures { option_copied result ≡ links_of rows.now h.now }
 {
     let ends = rows.get(number_of(&h.string))?;
@@ -32,7 +36,7 @@ pub(crate) fn next_half(rows: &Rows, h: &Half) -> Half
     ensures { result ≡ next rows.now h.now }
 {
     match find_links(rows, h) {
-        Some(links) => links.next,
+        Some(links) => links.next(),
         None => *h,
     }
 }
@@ -47,9 +51,9 @@ fn change_links<F: FnOnce(Links) -> Links>(rows: &mut Rows, h: &Half, change: F)
 {
     let place = rows.place_of(number_of(&h.string)).unwrap();
     let ends = rows.value_at(place);
-    let links = ends.at(h.forward);
-    let was = *links;
-    let to = change(*links);
+    let links = ends.at(h.forward).links();
+    let was = links;
+    let to = change(links);
     ends.set(h.forward, to);
     was
 }

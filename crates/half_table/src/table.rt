@@ -8,8 +8,8 @@ ghost use Rattle.half_table.specs.Surgery.{IsUnchanged, IsSpliced, SplicesBack, 
 
 use crate::changes::{exchange, put_loose, relabel_cycle, take_loose};
 use crate::half::Half;
-use crate::links::Links;
 use crate::open::OpenTable;
+use crate::packed::PackedLinks;
 use crate::rows::{Rows, find_links, number_of};
 use crate::tally::Tally;
 use crate::walk::{Walk, walk_rows};
@@ -104,7 +104,7 @@ impl<T: Tally> HalfTable<T> {
         }
     }
 
-    fn links(&self, h: &Half) -> &Links
+    fn links(&self, h: &Half) -> &PackedLinks
         requires { has self.now.rows h.now ≡ true }
         ensures is { links_of self.now.rows h.now ≡ Some result.now }
         ensures linked { IsLinked self.now.rows }
@@ -117,7 +117,7 @@ impl<T: Tally> HalfTable<T> {
         requires { has self.now.rows h ≡ true }
         ensures { result ≡ origin_of self.now.rows h }
     {
-        self.links(&h).origin
+        self.links(&h).origin()
     }
 
     /// The half that follows `h` along the boundary of its face.
@@ -127,7 +127,7 @@ impl<T: Tally> HalfTable<T> {
         ensures inside { has self.now.rows result ≡ true }
         ensures linked { IsLinked self.now.rows }
     {
-        self.links(&h).next
+        self.links(&h).next()
     }
 
     /// The half that `h` follows.
@@ -137,7 +137,7 @@ impl<T: Tally> HalfTable<T> {
         ensures inside { has self.now.rows result ≡ true }
         ensures linked { IsLinked self.now.rows }
     {
-        self.links(&h).prev
+        self.links(&h).prev()
     }
 
     /// The face to the left of a half.
@@ -145,7 +145,7 @@ impl<T: Tally> HalfTable<T> {
         requires { has self.now.rows h ≡ true }
         ensures { result ≡ face self.now.rows h }
     {
-        self.links(&h).face
+        self.links(&h).face()
     }
 
     /// Counts one step of work.
