@@ -1,7 +1,7 @@
 -- The list under a key gives way to another at its place.
 use Rattle.std.proofs.Common.{◌≡◌, ◌≢◌, ◌∙◌, sym, ap, subst, ℕ, [], Some, None, option_map, unwrap_or, slice_get, nat_eq, true, false, ◌⊎◌, inl, inr, Result, Ok, Err}
 use Rattle.std.specs.Prelude.{OnErr}
-use Rattle.std.specs.Global.{Vec}
+use Rattle.key_lists.specs.Kept.{Kept}
 use Rattle.std.specs.Map.{values_of}
 use Rattle.std.proofs.Math.Dec.{eqb}
 use Rattle.std.proofs.lemmas.Bool.{ne_eqb, eq-eqb}
@@ -14,12 +14,12 @@ use Rattle.indexmap.specs.Layout.{set_value_at}
 use Rattle.key_lists.specs.Held.{Held, list_at, items_at, KeepsOthers, IsSame, NoneAbove, IsUnderAt}
 
 module _ {X : Type 0} where
-  pub record IsWritten (old new : Held X) (key : ℕ) (list other : Vec X) : Type 0 where
+  pub record IsWritten (old new : Held X) (key : ℕ) (list other : Kept X) : Type 0 where
     pub was : list_at old key ≡ Some list
     pub is : list_at new key ≡ Some other
     pub others : KeepsOthers key old new
 
-  pub written : (held : Held X) (place key : ℕ) (found other : Vec X) → IsUnderAt held place key
+  pub written : (held : Held X) (place key : ℕ) (found other : Kept X) → IsUnderAt held place key
       → slice_get (values_of held) place ≡ Some found → AreDistinct held → IsWritten held (set_value_at held place other) key found other
   written held place key found other under value distinct =
       let now = updates-set held place key under distinct other in
@@ -31,16 +31,16 @@ module _ {X : Type 0} where
       }
 
   -- with the same items the items under every key are as they were
-  pub same-items : {old new : Held X} {key : ℕ} {list other : Vec X} → IsWritten old new key list other
+  pub same-items : {old new : Held X} {key : ℕ} {list other : Kept X} → IsWritten old new key list other
       → other.items ≡ list.items → IsSame old new
   same-items {old} {new} {key} {list} {other} w same q = by (eqb_tells key q)
     where
       by : ((eqb key q ≡ true) × (key ≡ q)) ⊎ ((eqb key q ≡ false) × (key ≢ q)) → items_at new q ≡ items_at old q
       by (inl one) = subst (λ (n : ℕ). items_at new n ≡ items_at old n) one.1 (rw (w.is, w.was) same)
-      by (inr apart) = ap (λ o. unwrap_or (option_map (λ (l : Vec X). l.items) o) []) (w.others q apart.1)
+      by (inr apart) = ap (λ o. unwrap_or (option_map (λ (l : Kept X). l.items) o) []) (w.others q apart.1)
 
   -- no key above all others is given room
-  pub none-above : {old new : Held X} {key : ℕ} {list other : Vec X} (greatest : ℕ)
+  pub none-above : {old new : Held X} {key : ℕ} {list other : Kept X} (greatest : ℕ)
       → IsWritten old new key list other → NoneAbove greatest old → NoneAbove greatest new
   none-above {old} {new} {key} {list} greatest w above q more = by (eqb_tells key q)
     where
@@ -49,11 +49,11 @@ module _ {X : Type 0} where
           let there : list_at old q ≡ Some list = subst (λ (n : ℕ). list_at old n ≡ Some list) one.1 w.was in
           absurd (is-some list (sym there ∙ above q more))
         where
-          is-some : (list : Vec X) → Some list ≡ None → ⊥
+          is-some : (list : Kept X) → Some list ≡ None → ⊥
           is-some list h = cc
       by (inr apart) = w.others q apart.1 ∙ above q more
 
--- what holds anyhow holds where there is an error
-pub on-err : {T E : Type 0} (r : Result T E) (P : Type 0) → P → OnErr r P
-on-err (Ok x) P holds = tt
-on-err (Err e) P holds = holds
+-- what follows where there is an error
+pub when-err : {T E : Type 0} (r : Result T E) (P Q : Type 0) → (P → Q) → OnErr r P → OnErr r Q
+when-err (Ok x) P Q follows holds = tt
+when-err (Err e) P Q follows holds = follows holds

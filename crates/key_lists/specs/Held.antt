@@ -1,16 +1,16 @@
 -- Lists under keys, and the room that each has.
-use Rattle.std.specs.Prelude.{◌≡◌, ℕ, ◌+◌, ◌<◌, ◌≤◌, vec_capacity, List, [], length, Option, nat_eq, option_map, unwrap_or, None}
+use Rattle.std.specs.Prelude.{◌≡◌, ℕ, ◌+◌, ◌<◌, ◌≤◌, List, [], length, Option, nat_eq, option_map, unwrap_or, None}
 use Rattle.std.specs.Map.{lookup}
-use Rattle.std.specs.Global.{Vec}
 use Rattle.number_table.specs.Rows.{HasNumberAt}
+use Rattle.key_lists.specs.Kept.{Kept}
 
 -- under each key that was ever given room a list
 abbrev pub Held : Type 0 → Type 0
-Held X = List (ℕ × Vec X)
+Held X = List (ℕ × Kept X)
 
 module _ {X : Type 0} where
   -- the list under a key, if the key was ever given room
-  abbrev pub list_at : Held X → ℕ → Option (Vec X)
+  abbrev pub list_at : Held X → ℕ → Option (Kept X)
   list_at held key = lookup (nat_eq key) held
 
   -- the items under a key; none where the key was never given room
@@ -19,7 +19,7 @@ module _ {X : Type 0} where
 
   -- how many items fit under a key without memory; none where the key was never given room
   abbrev pub capacity_at : Held X → ℕ → ℕ
-  capacity_at held key = unwrap_or (option_map (λ list. vec_capacity list) (list_at held key)) 0
+  capacity_at held key = unwrap_or (option_map (λ list. list.capacity) (list_at held key)) 0
 
   -- so many items more fit under the key without memory
   abbrev pub HasRoomAt : Held X → ℕ → ℕ → Type 0

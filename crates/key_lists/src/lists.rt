@@ -2,6 +2,7 @@
 ghost use Rattle.std.specs.Prelude.{◌≡◌, ◌≤◌, ◌<◌, ◌++◌, ◌∷◌, [], length, option_copied, IsOk, IfOk, OnOk, OnErr, slice_set, slice_get, Some, None, swap_remove, true, IfSome, IfNone};
 ghost use Rattle.key_lists.specs.Held.{items_at, list_at, capacity_at, HasRoomAt, KeepsOthers, IsSame, IsUnderAt};
 
+use crate::items::Items;
 use number_hash::NumberHash;
 use number_table::NumberTable;
 use std::alloc::{AllocError, Global};
@@ -9,11 +10,14 @@ use std::marker::Model;
 
 /// Under each key a list of items; under a key that was never given room, the empty one.
 ///
+/// A first item stands in the key's row of the table. Only where more are to fit does a list take
+/// memory of its own, and then it keeps it.
+///
 /// Only `reserve` and `push` take memory, and `reserve` changes no item. A key keeps its list with
 /// its room, also where no item is left, so a change that is taken back needs no memory either. Each
 /// call but those two takes a look into the table, and no time by the length of the list.
 pub struct KeyLists<X: Copy> {
-    lists: NumberTable<Vec<X>>,
+    lists: NumberTable<Items<X>>,
     // No key above it was ever given room.
     greatest: u64,
 }
@@ -72,7 +76,7 @@ impl<X: Copy> KeyLists<X> {
     }
 
     // The list under a key. What reads mostly finds it at the first guess.
-    fn find(&self, key: u64) -> Option<&Vec<X>>
+    fn find(&self, key: u64) -> Option<&Items<X>>
         ensures { option_copied result ≡ list_at self.now key }
     {
         self.lists.get(key)
@@ -98,10 +102,9 @@ impl<X: Copy> KeyLists<X> {
         ensures err { OnErr result (IsSame self.old self.new) }
         ensures err_room { OnErr result (capacity_at self.new key ≡ capacity_at self.old key) }
     {
+        let alloc = self.lists.allocator();
         let items = self.lists.value_at(place);
-        items.reserve(1)?;
-        items.push_reserved(item);
-        Ok(())
+        items.push(alloc, item)
     }
 
     // Sees that so many items more fit under the key at a place.
@@ -114,8 +117,9 @@ impl<X: Copy> KeyLists<X> {
         ensures had_room { HasRoomAt self.old key more → IsOk result }
         ensures err { OnErr result (capacity_at self.new key ≡ capacity_at self.old key) }
     {
+        let alloc = self.lists.allocator();
         let items = self.lists.value_at(place);
-        items.reserve(more)
+        items.reserve(alloc, more)
     }
 
     /// Sees that so many items more fit under a key. It takes memory where they don't yet, and
@@ -129,14 +133,15 @@ impl<X: Copy> KeyLists<X> {
         ensures had_room { HasRoomAt self.old key more → IsOk result }
         ensures err { OnErr result (capacity_at self.new key ≡ capacity_at self.old key) }
     {
-        if more == 0 {
-            return Ok(());
-        }
         if let Some(place) = self.place_of(key) {
             return self.reserve_at(place, key, more);
         }
-        let mut list = Vec::new(self.lists.allocator());
-        list.reserve(more)?;
+        if more == 0 {
+            return Ok(());
+        }
+        let alloc = self.lists.allocator();
+        let mut list = Items::new(alloc);
+        list.reserve(alloc, more)?;
         self.lists.push(key, list)?;
         self.greatest = self.greatest.max(key);
         Ok(())
@@ -155,8 +160,9 @@ impl<X: Copy> KeyLists<X> {
         if let Some(place) = self.place_of(key) {
             return self.push_at(place, key, item);
         }
-        let mut list = Vec::new(self.lists.allocator());
-        list.push(item)?;
+        let alloc = self.lists.allocator();
+        let mut list = Items::new(alloc);
+        list.push(alloc, item)?;
         self.lists.push(key, list)?;
         self.greatest = self.greatest.max(key);
         Ok(())
@@ -171,7 +177,7 @@ impl<X: Copy> KeyLists<X> {
     {
         let place = self.place_of(key).unwrap();
         let items = self.lists.value_at(place);
-        items.push_reserved(item);
+        items.put(item);
     }
 
     /// Takes the item at a place out and gives it; the last one under the key takes its place. It
@@ -186,7 +192,6 @@ impl<X: Copy> KeyLists<X> {
     {
         let found = self.place_of(key).unwrap();
         let items = self.lists.value_at(found);
-        let _length = items.len();
         items.swap_remove(place)
     }
 
@@ -199,6 +204,6 @@ impl<X: Copy> KeyLists<X> {
     {
         let found = self.place_of(key).unwrap();
         let items = self.lists.value_at(found);
-        items[place] = item;
+        items.set(place, item);
     }
 }

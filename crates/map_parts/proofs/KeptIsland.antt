@@ -16,9 +16,9 @@ use Rattle.cad_map.proofs.CallerLemmas.{Contains-first, Contains-later, Contains
 use Rattle.half_table.specs.declared.half.Half.{Half}
 use Rattle.half_table.specs.Half.{twin}
 use Rattle.half_table.specs.Rows.{HalfRows, origin_of, face}
-use Rattle.std.specs.Prelude.{option_map, vec_capacity}
-use Rattle.std.specs.Global.{Vec}
+use Rattle.std.specs.Prelude.{option_map}
 use Rattle.std.proofs.lemmas.List.{length-append}
+use Rattle.key_lists.specs.Kept.{Kept}
 use Rattle.key_lists.specs.Held.{Held, items_at, capacity_at, KeepsOthers}
 use Rattle.map_parts.specs.Paths.{HasStringsMore}
 use Rattle.map_parts.proofs.RingCycles.{face-on}
@@ -230,10 +230,10 @@ module _ (whole parted : Map) (outer inner : Face) (ring : Ring) (left right : B
 -- ---- Lists under keys
 
 pub items-of : {X : Type 0} (key n : ℕ) (old new : Held X) → KeepsOthers key old new → ¬ (key ≡ n) → items_at new n ≡ items_at old n
-items-of key n old new keeps away = ap (λ (o : Option (Vec _)). unwrap_or (option_map (λ list. list.items) o) []) (keeps n away)
+items-of key n old new keeps away = ap (λ (o : Option (Kept _)). unwrap_or (option_map (λ list. list.items) o) []) (keeps n away)
 
 pub capacity-of : {X : Type 0} (key n : ℕ) (old new : Held X) → KeepsOthers key old new → ¬ (key ≡ n) → capacity_at new n ≡ capacity_at old n
-capacity-of key n old new keeps away = ap (λ (o : Option (Vec _)). unwrap_or (option_map (λ list. vec_capacity list) o) 0) (keeps n away)
+capacity-of key n old new keeps away = ap (λ (o : Option (Kept _)). unwrap_or (option_map (λ list. list.capacity) o) 0) (keeps n away)
 
 -- a call that keeps the room under one key, and the lists under others, keeps the room under all
 pub put-capacity : {X : Type 0} (key n : ℕ) (old new : Held X) → KeepsOthers key old new → capacity_at new key ≡ capacity_at old key → capacity_at new n ≡ capacity_at old n

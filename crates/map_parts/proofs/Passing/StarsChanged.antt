@@ -1,8 +1,7 @@
 -- Stars of some strings, with one string less and one more.
 use Rattle.std.proofs.Common.{◌≡◌, ◌≢◌, ℕ, ◌+◌, ◌≤◌, inl, inr, ◌==◌, ◌&&◌, if◌then◌else◌, refl, sym, ap, subst, ◌∙◌, List, [], ◌∷◌, ◌++◌, length, Bool, true, false, cond, Option, arith, length-append}
-use Rattle.std.specs.Prelude.{IsPermutation, sum_by, count_by, option_map, unwrap_or, vec_capacity}
+use Rattle.std.specs.Prelude.{IsPermutation, sum_by, count_by, option_map, unwrap_or}
 use Rattle.std.specs.List.{Contains}
-use Rattle.std.specs.Global.{Vec}
 use Rattle.std.proofs.lemmas.Bool.{eqb-true, eq-eqb}
 use Rattle.std.proofs.lemmas.List.Sums.{sum_by-cons, sum_by-append}
 use Rattle.std.proofs.lemmas.List.Sorted.{IsPermutation-refl, IsPermutation-cons, IsPermutation-sym, IsPermutation-trans, IsPermutation-middle, sum_by-IsPermutation, Contains-permutation, length_permutation}
@@ -10,6 +9,7 @@ use Rattle.cad_map.proofs.CallerLemmas.{Contains-cases, Contains-first, Contains
 use Rattle.cad_rows.specs.declared.rows.StringRow.{StringRow}
 use Rattle.half_table.specs.Half.{is_half, forward_of, backward_of}
 use Rattle.half_table.proofs.Halves.{is_half-self, is_half-same}
+use Rattle.key_lists.specs.Kept.{Kept}
 use Rattle.key_lists.specs.Held.{Held, items_at, capacity_at, list_at, HasRoomAt}
 use Rattle.map_parts.specs.declared.stars.Spoke.{Spoke}
 use Rattle.map_parts.specs.Splitting.{AreStarsOf, Connects}
@@ -196,12 +196,12 @@ stars-with rows left row old new are parts adds p =
 
 same-items : (old new : Held Spoke) (p : ℕ) → list_at new p ≡ list_at old p → items_at new p ≡ items_at old p
 same-items old new p e =
-    ap (λ (o : Option (Vec Spoke)). unwrap_or (option_map (λ list. list.items) o) []) e
+    ap (λ (o : Option (Kept Spoke)). unwrap_or (option_map (λ list. list.items) o) []) e
 
 same-capacity : (old new : Held Spoke) (p : ℕ) → list_at new p ≡ list_at old p
     → capacity_at new p ≡ capacity_at old p
 same-capacity old new p e =
-    ap (λ (o : Option (Vec Spoke)). unwrap_or (option_map (λ list. vec_capacity list) o) 0) e
+    ap (λ (o : Option (Kept Spoke)). unwrap_or (option_map (λ list. list.capacity) o) 0) e
 
 pub same-room : (old new : Held Spoke) (p n : ℕ) → list_at new p ≡ list_at old p → HasRoomAt old p n
     → HasRoomAt new p n

@@ -1,5 +1,5 @@
 use Rattle.std.proofs.Common.{rules}
-use Rattle.std.specs.Global.{Vec}
+use Rattle.key_lists.specs.Kept.{Kept}
 use Rattle.indexmap.specs.Layout.{set_value_at}
 use Rattle.number_table.proofs.CallerLemmas.{within}
 use Rattle.key_lists.proofs.Written.{IsWritten, written, none-above, same-items}
@@ -7,7 +7,7 @@ use Rattle.key_lists.proofs.lists.KeyLists.reserve_at.Goals.{After-value_at-item
 use Rattle.key_lists.proofs.lists.KeyLists.reserve_at.Goals as goal
 
 -- whatever list comes to stand at the place
-changed : (g : _) (c : goal.After-value_at-items g) (other : Vec _)
+changed : (g : _) (c : goal.After-value_at-items g) (other : Kept _)
     → IsWritten c.args.self.now (set_value_at c.self.inside.lists c.args.place other) c.args.key c.value_at-items.result.now other
 changed g c other =
     rw (← c.self.view_is) (written c.self.inside.lists c.args.place c.args.key c.value_at-items.result.now other

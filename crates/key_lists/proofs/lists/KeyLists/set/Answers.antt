@@ -1,6 +1,5 @@
 use Rattle.std.proofs.Common.{rules}
-use Rattle.std.specs.Global.{Vec}
-use Rattle.std.specs.Vec.{with_item}
+use Rattle.key_lists.specs.Kept.{Kept}
 use Rattle.indexmap.specs.Layout.{set_value_at}
 use Rattle.number_table.proofs.CallerLemmas.{within}
 use Rattle.key_lists.specs.Held.{IsUnderAt}
@@ -9,37 +8,37 @@ use Rattle.key_lists.proofs.lists.KeyLists.set.Goals.{After-value_at-items}
 use Rattle.key_lists.proofs.lists.KeyLists.set.Goals as goal
 
 -- whatever list comes to stand under the key
-changed : (g : _) (c : goal.After-value_at-items g) (other : Vec _)
+changed : (g : _) (c : goal.After-value_at-items g) (other : Kept _)
     → IsWritten c.args.self.now (set_value_at c.self.inside.lists c.unwrap-found.result other) c.args.key c.value_at-items.result.now other
 changed g c other =
     let under : IsUnderAt c.args.self.now c.unwrap-found.result c.args.key = rw c.unwrap-found.ensures at c.place_of.ensures.there in
     rw (← c.self.view_is) (written c.self.inside.lists c.unwrap-found.result c.args.key c.value_at-items.result.now other
     (rw c.self.view_is under) c.value_at-items.ensures.value c.value_at-items.ensures.distinct)
 
-pub index_mut-requires : goal.index_mut-requires
-index_mut-requires g c =
-    let k = changed g (goal.at.index_mut-requires g c).After-value_at-items c.value_at-items.result.now in
+pub set-requires : goal.set-requires
+set-requires g c =
+    let k = changed g (goal.at.set-requires g c).After-value_at-items c.value_at-items.result.now in
     let within = rw k.was at c.requires in
     search rules
 
 pub invariant_of-self : goal.invariant_of-self
 invariant_of-self g c =
-    let k = changed g (goal.at.invariant_of-self g c).After-value_at-items (with_item c.value_at-items.result.now c.args.place c.args.item) in
+    let k = changed g (goal.at.invariant_of-self g c).After-value_at-items c.set.new.self in
     none-above c.self.inside.greatest k (rw (← c.self.view_is) c.self.invariant)
 
 pub returns-clause-items : goal.returns-clause-items
 returns-clause-items g c =
-    let k = changed g (goal.at.returns-clause-items g c).After-value_at-items (with_item c.value_at-items.result.now c.args.place c.args.item) in
+    let k = changed g (goal.at.returns-clause-items g c).After-value_at-items c.set.new.self in
     rw (k.is, k.was) (search rules)
 
 pub returns-clause-capacity : goal.returns-clause-capacity
 returns-clause-capacity g c =
-    let k = changed g (goal.at.returns-clause-capacity g c).After-value_at-items (with_item c.value_at-items.result.now c.args.place c.args.item) in
+    let k = changed g (goal.at.returns-clause-capacity g c).After-value_at-items c.set.new.self in
     rw (k.is, k.was) (search rules)
 
 pub returns-clause-others : goal.returns-clause-others
 returns-clause-others g c =
-    let k = changed g (goal.at.returns-clause-others g c).After-value_at-items (with_item c.value_at-items.result.now c.args.place c.args.item) in
+    let k = changed g (goal.at.returns-clause-others g c).After-value_at-items c.set.new.self in
     k.others
 
 pub value_at-items-requires : goal.value_at-items-requires

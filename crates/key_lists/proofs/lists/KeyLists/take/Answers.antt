@@ -1,6 +1,5 @@
-use Rattle.std.proofs.Common.{rules, refl}
-use Rattle.std.proofs.lemmas.Option.{slice_get_read}
-use Rattle.std.specs.Global.{Vec}
+use Rattle.std.proofs.Common.{rules}
+use Rattle.key_lists.specs.Kept.{Kept}
 use Rattle.indexmap.specs.Layout.{set_value_at}
 use Rattle.number_table.proofs.CallerLemmas.{within}
 use Rattle.key_lists.specs.Held.{IsUnderAt}
@@ -9,7 +8,7 @@ use Rattle.key_lists.proofs.lists.KeyLists.take.Goals.{After-value_at-items}
 use Rattle.key_lists.proofs.lists.KeyLists.take.Goals as goal
 
 -- whatever list comes to stand under the key
-changed : (g : _) (c : goal.After-value_at-items g) (other : Vec _)
+changed : (g : _) (c : goal.After-value_at-items g) (other : Kept _)
     → IsWritten c.args.self.now (set_value_at c.self.inside.lists c.unwrap-found.result other) c.args.key c.value_at-items.result.now other
 changed g c other =
     let under : IsUnderAt c.args.self.now c.unwrap-found.result c.args.key = rw c.unwrap-found.ensures at c.place_of.ensures.there in
@@ -50,8 +49,7 @@ returns-clause-others g c =
 pub returns-clause-item : goal.returns-clause-item
 returns-clause-item g c =
     let k = changed g (goal.at.returns-clause-item g c).After-value_at-items c.swap_remove.new.self in
-    let within = rw k.was at c.requires in
-    rw k.was (slice_get_read c.value_at-items.result.now.items _ c.args.place c.swap_remove.result refl within c.swap_remove.ensures.value)
+    rw k.was c.swap_remove.ensures.item
 
 pub value_at-items-requires : goal.value_at-items-requires
 value_at-items-requires g c =

@@ -1,7 +1,7 @@
 use Rattle.std.proofs.Common.{◌≡◌, ◌+◌, ◌<◌, ◌≤◌, ◌∙◌, ◌++◌, [], ℕ, suc, length, map, take, drop, get_or, ap, subst, arith, List, Option}
-use Rattle.std.specs.Global.{Vec}
 use Rattle.std.specs.Prelude.{slice_set, option_map, unwrap_or}
 use Rattle.half_table.specs.declared.half.Half.{Half}
+use Rattle.key_lists.specs.Kept.{Kept}
 use Rattle.key_lists.specs.Held.{items_at}
 use Rattle.map_parts.specs.Passing.{in_place_of, in_place_at}
 use Rattle.map_parts.proofs.Passing.InPlace.{placed-item, placed-set, placed-all}
@@ -29,7 +29,7 @@ loop-place-preserved c =
     let more : suc i ≡ i + 1 = omega arith in (
       put ∙ (λ j. map f (take (more j) xs) ++ drop (more j) xs),
       λ n apart.
-          ap (λ (o : Option (Vec Half)). unwrap_or (option_map (λ list. list.items) o) [])
+          ap (λ (o : Option (Kept Half)). unwrap_or (option_map (λ list. list.items) o) [])
           (c.set.ensures.others n apart) ∙ c.loop-place.invariant.1 n apart,
     )
 
