@@ -2,7 +2,7 @@
 ghost use Rattle.std.specs.Prelude.{◌≡◌};
 
 use crate::effect::try_edit;
-use cad_map::{Counts, MapStore, MapView, PlainMap};
+use cad_map::{Counts, MapStore, MapView, PlainMap, Span};
 use cad_rows::{
     Edit, Face, Memory, ParcelNo, ParcelRow, PointNo, PointRow, Refusal, SourceNo, SourceRow,
     StringNo, StringRow,
@@ -86,8 +86,8 @@ impl MapView for PlainStore {
         self.map.string_with(point, place)
     }
 
-    fn far_with(&self, point: PointNo, place: usize) -> Option<PointNo> {
-        self.map.far_with(point, place)
+    fn span_with(&self, point: PointNo, place: usize) -> Option<Span> {
+        self.map.span_with(point, place)
     }
 
     fn degree(&self, no: PointNo) -> usize {
@@ -112,6 +112,10 @@ impl MapView for PlainStore {
 
     fn ring_side(&self, face: Face, place: usize) -> Option<(PointNo, PointNo)> {
         self.map.ring_side(face, place)
+    }
+
+    fn ring_count(&self, face: Face) -> usize {
+        self.map.ring_count(face)
     }
 
     fn ring_area(&self, face: Face, place: usize) -> i128 {

@@ -70,7 +70,7 @@ pub fn run_job<R: Read + Drop, S: Sink>(
         Ok(store) => store,
         Err(fault) => return Err(fault_of_plan(fault)),
     };
-    run_script(alloc, &mut reader, store, sink, depth)
+    run_on_map(alloc, &mut reader, store, sink, depth)
 }
 
 /// The map of a plan's rows on half-edges, on which a script is done. A fault is that of [`build_of`].
@@ -83,6 +83,26 @@ fn store_of(alloc: Global, hash: NumberHash, rows: PlanRows) -> Result<HalfMap<T
         Ok(store) => Ok(store),
         Err(_) => Err(PlanFault::Memory),
     }
+}
+
+/// Does the records of a script that are left on the plan's map on half-edges, as `run_script` does on any store of it.
+fn run_on_map<R: Read, S: Sink>(
+    alloc: Global,
+    reader: &mut Reader<R>,
+    map: HalfMap<Ticks>,
+    sink: &mut S,
+    depth: Depth,
+) -> Result<(), JobFault>
+    requires { IsValid (map_of map) }
+    ensures does { (text : List ℕ) (plan : List (List (List ℕ))) (rows : Rows)
+        → HasRead R.remaining text plan reader.old → plan_of plan ≡ opened rows
+        → (written : List ℕ) × Appends (S.taken sink.old) (S.taken sink.new) written
+        × DoesScript text plan (map_of map) depth written result }
+    ensures write { IsErrOf result JobFault.Write
+        → S.failures sink.new ≡ counted_up (S.failures sink.old) }
+    ensures quiet { OnOk result (S.failures sink.new ≡ S.failures sink.old) }
+{
+    run_script(alloc, reader, map, sink, depth)
 }
 
 /// Does the records of a script that are left, on a store of the plan's map, and writes each one's answer.

@@ -13,6 +13,7 @@ pub mod Outcome
 pub mod Asked
 pub mod Sums
 pub mod Views
+pub mod Spans
 pub mod Walk
 pub mod Crossings
 pub mod Rings

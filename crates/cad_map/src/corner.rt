@@ -11,6 +11,7 @@ ghost use Rattle.cad_map.specs.Valid.{IsValid};
 
 use crate::look::is_face;
 use crate::rings::position;
+use crate::span::far_with;
 use crate::store::MapView;
 use crate::walk::Walk;
 use cad_rows::{Face, PointNo};
@@ -49,7 +50,7 @@ pub fn chosen_corner<M: MapView>(
 {
     let mut chosen = None;
     for place in 0..map.degree(at) {
-        let from = map.far_with(at, place).unwrap();
+        let from = far_with(map, at, place).unwrap();
         chosen = first_by_after(chosen, corner_after(map, face, from, at, towards));
     }
     chosen

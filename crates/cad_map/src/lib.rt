@@ -13,6 +13,7 @@ mod retired;
 mod rings;
 mod row_tables;
 mod shared_chain;
+mod span;
 mod stars;
 mod store;
 mod sums;
@@ -26,11 +27,12 @@ pub use laws::{faces_balance, one_list, one_outcome, one_shared_chain, parcels_a
 pub use look::{far_end, is_end, is_face};
 pub use outlines::outline;
 pub use plain::PlainMap;
-pub use rings::{has_face, has_ring, position, ring_count, ring_sum, sum_round};
+pub use rings::{has_face, position, ring_sum, sum_round};
 pub use row_tables::RowTables;
 pub use shared_chain::{
     SharedChain, find_chain_of_sides, find_shared_chain, has_shared_chain, is_shared, shared_count,
 };
+pub use span::{Span, far_with, span_of};
 pub use stars::{Spoke, Stars};
 pub use store::{Counts, MapStore, MapView};
 pub use sums::sum_of;

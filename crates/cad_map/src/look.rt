@@ -150,6 +150,14 @@ pub(crate) fn ring_at(boundaries: &[Boundary], face: Face, place: usize) -> Opti
     Some(&boundary.ring)
 }
 
+/// How many rings have the face to their left.
+pub(crate) fn rings_with(boundaries: &[Boundary], face: &Face) -> usize
+    requires { canonical_order boundaries.now ≡ boundaries.now }
+    ensures { result ≡ length (rings_at face.now boundaries.now) }
+{
+    run_of(boundaries, face).len()
+}
+
 /// The position of a point, and of one that isn't there the origin.
 fn position_in(points: &Table<PointRow>, no: PointNo) -> Pt
     ensures { result ≡ position_of (record empty_map { points = points.now }) no }

@@ -8,7 +8,7 @@ ghost use Rattle.cad_map.specs.Valid.{IsValid};
 
 use crate::boundary::Boundary;
 use crate::canonical::in_canonical_order;
-use crate::rings::{has_face, ring_count};
+use crate::rings::has_face;
 use crate::store::MapView;
 use crate::walk::Walk;
 use cad_rings::Ring;
@@ -67,7 +67,7 @@ fn collect<M: MapView>(
     ensures canonical_order { canonical_order (M.rings map.now) ≡ (M.map map.now).boundaries }
 {
     let mut boundaries = Vec::new(alloc);
-    for place in 0..ring_count(map, face) {
+    for place in 0..map.ring_count(*face) {
         if is_outer(map, face, place) == outer {
             let ring = ring_at(alloc, map, face, place)?;
             boundaries.push(Boundary { face: *face, ring })?;

@@ -12,6 +12,7 @@ use crate::canonical::in_canonical_order;
 use crate::look;
 use crate::retired::Retired;
 use crate::row_tables::RowTables;
+use crate::span::{Span, span_of};
 use crate::store::{Counts, MapView};
 use crate::table::{Numbered, Table};
 use cad_rows::{
@@ -385,9 +386,9 @@ impl MapView for PlainMap {
         look::string_with(&self.strings, point, place)
     }
 
-    fn far_with(&self, point: PointNo, place: usize) -> Option<PointNo> {
+    fn span_with(&self, point: PointNo, place: usize) -> Option<Span> {
         let row = self.string_with(point, place)?;
-        Some(look::far_end(row, point))
+        Some(span_of(row))
     }
 
     fn degree(&self, no: PointNo) -> usize {
@@ -420,6 +421,10 @@ impl MapView for PlainMap {
     fn ring_side(&self, face: Face, place: usize) -> Option<(PointNo, PointNo)> {
         let ring = look::ring_at(self.boundaries.as_slice(), face, place)?;
         ring.sides().next()
+    }
+
+    fn ring_count(&self, face: Face) -> usize {
+        look::rings_with(self.boundaries.as_slice(), &face)
     }
 
     fn ring_area(&self, face: Face, place: usize) -> i128 {

@@ -1,7 +1,6 @@
 //! The rings of a face of any map, each walked along its sides.
-ghost use Rattle.std.specs.Prelude.{◌≡◌, ◌↔◌, ◌<◌, ◌≤◌, ◌*◌, length, IsTrue};
+ghost use Rattle.std.specs.Prelude.{◌≡◌, ◌<◌, ◌≤◌, ◌*◌, length};
 ghost use Rattle.cad_rows.specs.Limits.{string_limit};
-ghost use Rattle.cad_map.specs.Boundaries.{canonical_order};
 ghost use Rattle.cad_map.specs.Map.{rings_at, position_of, has_face as has_face_of, sum_of_ring};
 ghost use Rattle.cad_map.specs.Rings.{HasWholeRings, ring_at};
 
@@ -29,28 +28,6 @@ pub fn has_face<M: MapView>(map: &M, face: &Face) -> bool
         Face::Outside => true,
         Face::Parcel(no) => map.parcel(*no).is_some(),
     }
-}
-
-/// Whether a face has a ring at a place, and so more rings than that many.
-pub fn has_ring<M: MapView>(map: &M, face: &Face, place: usize) -> bool
-    requires { HasWholeRings (M.map map.now) }
-    ensures there { IsTrue result ↔ (place < length (rings_at face.now (M.rings map.now))) }
-    ensures canonical_order { canonical_order (M.rings map.now) ≡ (M.map map.now).boundaries }
-{
-    map.ring_side(*face, place).is_some()
-}
-
-/// How many rings a face has: they stand at the places before it.
-pub fn ring_count<M: MapView>(map: &M, face: &Face) -> usize
-    requires { HasWholeRings (M.map map.now) }
-    ensures count { result ≡ length (rings_at face.now (M.rings map.now)) }
-    ensures canonical_order { canonical_order (M.rings map.now) ≡ (M.map map.now).boundaries }
-{
-    let mut count = 0;
-    while map.ring_side(*face, count).is_some() {
-        count += 1;
-    }
-    count
 }
 
 /// The measures of the sides of a face's ring at a place, added up. Takes no memory.

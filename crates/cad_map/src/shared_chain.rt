@@ -10,7 +10,6 @@ ghost use Rattle.cad_map.specs.Steps.{next_side as next_side_of, steps, turns_ba
 ghost use Rattle.cad_map.specs.Valid.{IsValid};
 
 use crate::look::{is_face, one_if};
-use crate::rings::ring_count;
 use crate::store::MapView;
 use crate::walk::Walk;
 use cad_rows::{Face, PointNo, StringRow};
@@ -36,7 +35,7 @@ pub fn shared_count<M: MapView>(map: &M, kept: &Face, ended: &Face) -> usize
     ensures { result ≡ length (shared_sides (M.map map.now) kept.now ended.now) }
 {
     let mut count = 0;
-    for place in 0..ring_count(map, kept) {
+    for place in 0..map.ring_count(*kept) {
         count += shared_in_ring(map, kept, place, ended);
     }
     count
@@ -77,7 +76,7 @@ pub fn find_chain_of_sides<M: MapView>(
     ensures some { IfSome result (IsSharedChain (M.map map.now) kept.now ended.now) }
     ensures none { IfNone result (shared_chains (M.map map.now) kept.now ended.now ≡ []) }
 {
-    for place in 0..ring_count(map, kept) {
+    for place in 0..map.ring_count(*kept) {
         if let Some(chain) = chain_in_ring(map, kept, place, ended, sides) {
             return Some(chain);
         }

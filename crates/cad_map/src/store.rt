@@ -11,11 +11,13 @@ ghost use Rattle.cad_map.specs.declared.boundary.Boundary.{Boundary};
 ghost use Rattle.cad_map.specs.Boundaries.{canonical_order};
 ghost use Rattle.cad_map.specs.Map.{Map, source_of, point_of, parcel_of, string_of, is_retired as is_retired_in, strings_at, degree as degree_of, far_end, rings_at, sum_of_ring};
 ghost use Rattle.cad_map.specs.Rings.{HasWholeRings, ring_at};
+ghost use Rattle.cad_map.specs.Spans.{span_of};
 ghost use Rattle.cad_map.specs.Valid.{IsValid};
 ghost use Rattle.cad_map.specs.Views.{HasSide, IsNoSide, ComesAfter, AreBeyond, HasFaces, HasNoFaces};
 ghost use Rattle.cad_map.specs.Walk.{first_side};
 ghost use Rattle.cad_map.specs.Outcome.{LeadsTo, MayRefuse};
 
+use crate::span::Span;
 use cad_rows::{
     Edit, Face, Memory, ParcelNo, ParcelRow, PointNo, PointRow, Refusal, SourceNo, SourceRow,
     StringNo, StringRow,
@@ -112,11 +114,11 @@ pub trait MapView {
         ensures each { IsPermutation (strings_at (map self.now) point)
             (view_strings self.now point) };
 
-    /// The other end of the string at a place among those that have a point, as `string_with` tells
-    /// them, and `None` past the last of them.
-    fn far_with(&self, point: PointNo, place: usize) -> Option<PointNo>
-        ensures far { result
-            ≡ option_map (λ s. far_end s point) (slice_get (view_strings self.now point) place) }
+    /// The number and the ends of the string at a place among those that have a point, as
+    /// `string_with` tells them, and `None` past the last of them.
+    fn span_with(&self, point: PointNo, place: usize) -> Option<Span>
+        ensures span { result
+            ≡ option_map span_of (slice_get (view_strings self.now point) place) }
         // The strings are the point's, each once.
         ensures each { IsPermutation (strings_at (map self.now) point)
             (view_strings self.now point) };
@@ -164,6 +166,12 @@ pub trait MapView {
         // The rings are those of the map, and each is of two points or more.
         ensures canonical_order { canonical_order (rings self.now) ≡ (map self.now).boundaries }
         ensures two { AllByRecursion (λ b. 2 ≤ length b.ring) (rings self.now) };
+
+    /// How many rings a face has: they stand at the places before it.
+    fn ring_count(&self, face: Face) -> usize
+        ensures count { result ≡ length (rings_at face (rings self.now)) }
+        // The rings are those of the map.
+        ensures canonical_order { canonical_order (rings self.now) ≡ (map self.now).boundaries };
 
     /// The doubled area of a face's ring at a place, in doubled square millimetres: positive where the ring is
     /// counterclockwise.

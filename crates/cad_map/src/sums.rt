@@ -10,7 +10,7 @@ ghost use Rattle.cad_map.specs.Rings.{HasWholeRings};
 ghost use Rattle.cad_map.specs.Sums.{IsBalanced};
 ghost use Rattle.cad_map.specs.Valid.{IsValid};
 
-use crate::rings::{has_face, ring_count, ring_sum};
+use crate::rings::{has_face, ring_sum};
 use crate::store::MapView;
 use cad_rows::Face;
 use geo_exact::SideMeasure;
@@ -56,7 +56,7 @@ fn sum_of_rings<M: MapView, F: SideMeasure>(map: &M, face: &Face, measure: &F) -
     ensures small { unsigned_abs result ≤ 2 * string_limit * measure_limit }
 {
     let mut sum = 0;
-    for place in 0..ring_count(map, face) {
+    for place in 0..map.ring_count(*face) {
         sum += ring_sum(map, face, place, measure);
     }
     sum

@@ -2,10 +2,13 @@
 use Rattle.std.proofs.Common.{◌≡◌, inl, inr, arith, ℕ, ◌==◌, Bool, true, false, List, [], ◌∷◌, map, filter, refl, sym, ap, ◌∙◌, subst, Option, Some, None, true≢false, slice_get}
 use Rattle.std.specs.Prelude.{IsPermutation, is_some, unwrap_or, option_map}
 use Rattle.std.specs.List.{Contains}
+use Rattle.std.proofs.lemmas.Bool.{eqb-true}
 use Rattle.std.proofs.lemmas.List.Sorted.{IsPermutation-map, IsPermutation-sym, Contains-permutation}
 use Rattle.std.proofs.lemmas.Option.{slice_get-map}
 use Rattle.cad_rows.specs.declared.rows.StringRow.{StringRow}
+use Rattle.cad_map.specs.declared.span.Span.{Span}
 use Rattle.cad_map.specs.Map.{far_end, is_end, string_of, strings_at}
+use Rattle.cad_map.specs.Spans.{span_of}
 use Rattle.cad_map.proofs.CallerLemmas.{Contains-cases, Contains-first, Contains-later, Contains-at, row-found}
 use Rattle.half_table.specs.declared.half.Half.{Half}
 use Rattle.key_lists.specs.Held.{items_at}
@@ -15,6 +18,7 @@ use Rattle.map_parts.specs.Stars.{spoke, spokes_at}
 use Rattle.map_parts.specs.Parts.{Parts, FitTogether, rows_of, map_of}
 use Rattle.map_parts.specs.Views.{string_row, view_strings}
 use Rattle.map_parts.proofs.StarHalves.{spoke-is}
+use Rattle.cad_surgery.specs.Spans.{span_along}
 
 module _ (d : Parts) (fit : FitTogether d) where
   abbrev row_of : Spoke → StringRow
@@ -80,13 +84,40 @@ module _ (d : Parts) (fit : FitTogether d) where
       by false true is is_to among rest = first (spoke (backward_of s.number) s.from) (ap (λ (r : StringRow). far_end r p) row ∙ rw is refl) (rw (is, is_to) at among) rest
       by false false is is_to among rest = rest (rw (is, is_to) at among)
 
-  -- the far end of the half at a place is that of the string that is told there
-  pub far-told : (p place : ℕ) → option_map (λ (x : Spoke). x.far) (slice_get (items_at d.stars p) place) ≡ option_map (λ s. far_end s p) (slice_get (view_strings d p) place)
-  far-told p place = by (slice_get (items_at d.stars p) place) refl ∙ ap (option_map (λ s. far_end s p)) (sym (slice_get-map row_of (items_at d.stars p) place))
+  -- a half leads between its string's ends
+  span-spoke : (p : ℕ) (ss : List StringRow) → ((s : StringRow) → Contains ss s → Contains d.strings s) → (x : Spoke) → Contains (spokes_at p ss) x → span_of (row_of x) ≡ span_along p x
+  span-spoke p [] sub x there = let none = there.1 in absurd (omega arith)
+  span-spoke p (s ∷ ss) sub x there = by (s.from == p) (s.to == p) refl refl there (λ later. span-spoke p ss (λ t rest. sub t (Contains-later s ss t rest)) x later)
     where
-      by : (o : Option Spoke) → slice_get (items_at d.stars p) place ≡ o
-          → option_map (λ (x : Spoke). x.far) (slice_get (items_at d.stars p) place) ≡ option_map (λ s. far_end s p) (option_map row_of (slice_get (items_at d.stars p) place))
+      row : string_row d s.number ≡ s
+      row = row-is s (sub s (Contains-first s ss))
+
+      leading : ℕ → ℕ → Span
+      leading from to = record { string = s.number; from = from; to = to }
+
+      first : (y : Spoke) → span_of (row_of y) ≡ span_along p y → Contains (y ∷ spokes_at p ss) x → (Contains (spokes_at p ss) x → span_of (row_of x) ≡ span_along p x) → span_of (row_of x) ≡ span_along p x
+      first y told among rest = elim (Contains-cases y (spokes_at p ss) x among) [ inl same ↦ subst (λ (z : Spoke). span_of (row_of z) ≡ span_along p z) same told | inr later ↦ rest later ]
+
+      by : (t u : Bool) → (s.from == p) ≡ t → (s.to == p) ≡ u → Contains (spokes_at p (s ∷ ss)) x → (Contains (spokes_at p ss) x → span_of (row_of x) ≡ span_along p x) → span_of (row_of x) ≡ span_along p x
+      by true u is is_to among rest = first (spoke (forward_of s.number) s.to) (ap span_of row ∙ ap (λ (q : ℕ). leading q s.to) (eqb-true s.from p is)) (rw is at among) rest
+      by false true is is_to among rest = first (spoke (backward_of s.number) s.from) (ap span_of row ∙ ap (λ (q : ℕ). leading s.from q) (eqb-true s.to p is_to)) (rw (is, is_to) at among) rest
+      by false false is is_to among rest = rest (rw (is, is_to) at among)
+
+  -- what is one of each half and its string is one of what is told at a place
+  told-alike : {X : Type 0} (f : Spoke → X) (h : StringRow → X) (p place : ℕ) → ((x : Spoke) → Contains (spokes_at p d.strings) x → h (row_of x) ≡ f x)
+      → option_map f (slice_get (items_at d.stars p) place) ≡ option_map h (slice_get (view_strings d p) place)
+  told-alike {X} f h p place alike = by (slice_get (items_at d.stars p) place) refl ∙ ap (option_map h) (sym (slice_get-map row_of (items_at d.stars p) place))
+    where
+      by : (o : Option Spoke) → slice_get (items_at d.stars p) place ≡ o → option_map f (slice_get (items_at d.stars p) place) ≡ option_map h (option_map row_of (slice_get (items_at d.stars p) place))
       by None is = rw is refl
       by (Some x) is =
           let among = Contains-permutation (items_at d.stars p) (spokes_at p d.strings) x (IsPermutation-sym (spokes_at p d.strings) (items_at d.stars p) (fit.stars p)) (Contains-at (items_at d.stars p) place x is) in
-          rw is (ap Some (sym (far-spoke p d.strings (λ s there. there) x among)))
+          rw is (ap Some (sym (alike x among)))
+
+  -- the far end of the half at a place is that of the string that is told there
+  pub far-told : (p place : ℕ) → option_map (λ (x : Spoke). x.far) (slice_get (items_at d.stars p) place) ≡ option_map (λ s. far_end s p) (slice_get (view_strings d p) place)
+  far-told p place = told-alike (λ (x : Spoke). x.far) (λ s. far_end s p) p place (far-spoke p d.strings (λ s there. there))
+
+  -- and the string along it is that one
+  pub span-told : (p place : ℕ) → option_map (span_along p) (slice_get (items_at d.stars p) place) ≡ option_map span_of (slice_get (view_strings d p) place)
+  span-told p place = told-alike (span_along p) span_of p place (span-spoke p d.strings (λ s there. there))

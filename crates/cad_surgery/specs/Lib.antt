@@ -1,4 +1,5 @@
 pub mod Proper
+pub mod Spans
 pub mod RowEdits
 pub mod Work
 pub mod Trials

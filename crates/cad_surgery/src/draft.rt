@@ -1,5 +1,5 @@
 //! A map on half-edges that is looked at, whether it keeps the rules or not.
-ghost use Rattle.std.specs.Prelude.{◌≡◌, true, IfSome, IfNone, IfOk};
+ghost use Rattle.std.specs.Prelude.{◌≡◌, true, option_map, slice_get, IfSome, IfNone, IfOk};
 ghost use Rattle.cad_map.specs.Valid.{IsValid};
 ghost use Rattle.cad_map.specs.Views.{IsNoSide, AreBeyond};
 ghost use Rattle.cad_map.specs.Map.{has_string};
@@ -12,18 +12,19 @@ ghost use Rattle.map_parts.specs.Labels.{IsAlong};
 ghost use Rattle.edit_records.specs.Gridded.{IsGridOf};
 ghost use Rattle.map_parts.specs.Parts.{rows_of, map_of, FitTogether};
 ghost use Rattle.map_parts.specs.Views.{view_half};
+ghost use Rattle.cad_surgery.specs.Spans.{span_along};
 
 use crate::areas::area_along;
-use cad_map::{Counts, MapView, PlainMap};
+use cad_map::{Counts, MapView, PlainMap, Span};
 use cad_rows::{
     Face, Memory, ParcelNo, ParcelRow, PointNo, PointRow, SourceNo, SourceRow, StringNo, StringRow,
 };
 use cell_grid::CellGrid;
-use edit_records::grid_of;
+use edit_records::{grid_of, span_between};
 use half_table::{Half, HalfTable, Tally};
 use key_lists::KeyLists;
 use map_parts::{
-    MapRows, Spoke, add_strings, far_at, far_in_star, find_half_in_star, half_at, kept_half,
+    MapRows, Spoke, add_strings, face_place, far_in_star, find_half_in_star, half_at, kept_half,
     link_rings, star_of,
 };
 use std::alloc::Global;
@@ -70,6 +71,14 @@ pub(crate) fn side<T: Tally>(table: &HalfTable<T>, half: &Half) -> (PointNo, Poi
 {
     let twin = table.twin(*half);
     (table.origin(*half), table.origin(twin))
+}
+
+/// The number and the ends of the string at a place in the star of a point, and `None` past the last.
+fn span_at(stars: &KeyLists<Spoke>, point: PointNo, place: usize) -> Option<Span>
+    ensures { result ≡ option_map (span_along point) (slice_get (items_at stars.now point) place) }
+{
+    let spoke = star_of(stars, point).get(place)?;
+    Some(span_between(&spoke.half, point, spoke.far))
 }
 
 impl<T: Tally> Draft<T> {
@@ -233,8 +242,8 @@ impl<T: Tally> MapView for Draft<T> {
         self.rows.strings.get(half.string.get())
     }
 
-    fn far_with(&self, point: PointNo, place: usize) -> Option<PointNo> {
-        far_at(&self.stars, point, place)
+    fn span_with(&self, point: PointNo, place: usize) -> Option<Span> {
+        span_at(&self.stars, point, place)
     }
 
     fn degree(&self, no: PointNo) -> usize {
@@ -274,6 +283,10 @@ impl<T: Tally> MapView for Draft<T> {
     fn ring_side(&self, face: Face, place: usize) -> Option<(PointNo, PointNo)> {
         let half = kept_half(&self.kept, face, place)?;
         Some(side(&self.table, &half))
+    }
+
+    fn ring_count(&self, face: Face) -> usize {
+        self.kept.at(face_place(face)).len()
     }
 
     fn ring_area(&self, face: Face, place: usize) -> i128 {

@@ -7,7 +7,7 @@ ghost use Rattle.map_parts.specs.Parts.{map_of, kept_at};
 ghost use Rattle.cad_surgery.specs.Proper.{IsProper};
 
 use crate::draft::Draft;
-use cad_map::{Counts, MapView, PlainMap};
+use cad_map::{Counts, MapView, PlainMap, Span};
 use cad_rows::{
     Face, Memory, ParcelNo, ParcelRow, PointNo, PointRow, SourceNo, SourceRow, StringNo, StringRow,
 };
@@ -140,8 +140,8 @@ impl<T: Tally> MapView for HalfMap<T> {
         self.draft.string_with(point, place)
     }
 
-    fn far_with(&self, point: PointNo, place: usize) -> Option<PointNo> {
-        self.draft.far_with(point, place)
+    fn span_with(&self, point: PointNo, place: usize) -> Option<Span> {
+        self.draft.span_with(point, place)
     }
 
     fn degree(&self, no: PointNo) -> usize {
@@ -166,6 +166,10 @@ impl<T: Tally> MapView for HalfMap<T> {
 
     fn ring_side(&self, face: Face, place: usize) -> Option<(PointNo, PointNo)> {
         self.draft.ring_side(face, place)
+    }
+
+    fn ring_count(&self, face: Face) -> usize {
+        self.draft.ring_count(face)
     }
 
     fn ring_area(&self, face: Face, place: usize) -> i128 {

@@ -25,6 +25,7 @@ mod RingsInMap
 mod OutlineCounts
 mod Passed
 mod RowsByNumber
+mod StringsTold
 mod NearPoints
 mod NearStrings
 mod PassedTriangles

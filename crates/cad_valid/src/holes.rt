@@ -9,7 +9,7 @@ ghost use Rattle.cad_valid.specs.Shapes.{shape_of};
 
 use crate::rings::{anchor_of, is_hole, is_in_ring, is_outline};
 use crate::shapes::{self, Enclosing};
-use cad_map::{MapView, has_ring, position, ring_count};
+use cad_map::{MapView, position};
 use cad_rows::{Face, PointNo};
 use geo_exact::Pt;
 
@@ -35,7 +35,7 @@ pub(crate) fn has_sound_holes<M: MapView>(map: &M, face: &Face) -> bool
     requires { HasWholeRings (M.map map.now) }
     ensures { result ≡ has_sound_holes_of (M.map map.now) (rings_of (M.map map.now) face.now) }
 {
-    if !has_ring(map, face, 1) {
+    if map.ring_count(*face) < 2 {
         return true;
     }
     are_holes_inside(map, face) && are_holes_apart(map, face)
@@ -46,7 +46,7 @@ fn are_holes_inside<M: MapView>(map: &M, face: &Face) -> bool
     requires { HasWholeRings (M.map map.now) }
     ensures { result ≡ are_holes_inside_of (M.map map.now) (rings_of (M.map map.now) face.now) }
 {
-    for place in 0..ring_count(map, face) {
+    for place in 0..map.ring_count(*face) {
         if !is_inside_if_hole(map, face, place) {
             return false;
         }
@@ -71,7 +71,7 @@ fn is_in_outlines<M: MapView>(map: &M, face: &Face, point: PointNo) -> bool
     ensures { result ≡ list_all (λ outline. is_in_ring_of (M.map map.now) outline point)
         (filter (is_positive (M.map map.now)) (rings_at face.now (M.rings map.now))) }
 {
-    for place in 0..ring_count(map, face) {
+    for place in 0..map.ring_count(*face) {
         if !has_inside_if_outline(map, face, place, point) {
             return false;
         }
@@ -95,7 +95,7 @@ fn are_holes_apart<M: MapView>(map: &M, face: &Face) -> bool
     requires { HasWholeRings (M.map map.now) }
     ensures { result ≡ are_holes_apart_of (M.map map.now) (rings_of (M.map map.now) face.now) }
 {
-    for place in 0..ring_count(map, face) {
+    for place in 0..map.ring_count(*face) {
         if !is_apart_from_later(map, face, place) {
             return false;
         }
@@ -122,7 +122,7 @@ fn is_apart_from<M: MapView>(map: &M, face: &Face, place: usize) -> bool
         (is_apart_if_hole_of (M.map map.now) (ring_at (M.rings map.now) face.now place))
         (drop (place + 1) (rings_at face.now (M.rings map.now))) }
 {
-    let rings = ring_count(map, face);
+    let rings = map.ring_count(*face);
     for other in place + 1..rings {
         if !is_apart_if_hole(map, face, place, other) {
             return false;

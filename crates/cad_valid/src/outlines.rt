@@ -6,7 +6,7 @@ ghost use Rattle.cad_map.specs.Rings.{HasWholeRings};
 ghost use Rattle.cad_valid.specs.Outlines.{outlines_among};
 
 use crate::rings::doubled_area_of;
-use cad_map::{MapView, ring_count};
+use cad_map::MapView;
 use cad_rows::Face;
 
 /// What the doubled areas of rings tell: how many are positive, and whether all others are
@@ -73,7 +73,7 @@ pub(crate) fn has_outlines<M: MapView>(map: &M, face: &Face, wanted: usize) -> b
     ensures { result ≡ has_outlines_of wanted (M.map map.now) (rings_of (M.map map.now) face.now) }
 {
     let mut outlines = OutlineCount::none();
-    for place in 0..ring_count(map, face) {
+    for place in 0..map.ring_count(*face) {
         outlines.add(doubled_area_of(map, face, place));
     }
     outlines.is(wanted)

@@ -17,10 +17,12 @@ use Rattle.cad_rows.specs.declared.names.Face.TheVariants.{Outside, Parcel}
 use Rattle.cad_rows.specs.declared.names.Name.TheVariants as name
 use Rattle.cad_rows.specs.declared.rows.PointRow.{PointRow}
 use Rattle.cad_rows.specs.declared.rows.StringRow.{StringRow}
+use Rattle.cad_map.specs.declared.span.Span.{Span}
 use Rattle.cad_map.specs.Chain.{start_of, strings_along}
 use Rattle.cad_map.specs.Changes.{with_point, by_number}
 use Rattle.cad_map.specs.Effects.{after}
 use Rattle.cad_map.specs.Map.{Map, point_of, string_of, has_point, position_of, is_end, far_end, strings_at}
+use Rattle.cad_map.specs.Spans.{span_of}
 use Rattle.cad_map.specs.Table.{row_with, without_row}
 use Rattle.cad_map.specs.Valid.{IsValid, EachPair, is_same_position}
 use Rattle.cad_map.proofs.CallerLemmas.{allowed, not-when, there-one, two-joined, free-split, can-divide, CanDivide, MeetAt, meet-at, All-at_each, Contains-first, Contains-later, Contains-map, filter-Contains, find-Contains, found-number, differs, ends}
@@ -30,13 +32,12 @@ use Rattle.cad_laws.proofs.CallerLemmas.{filter-none, map-map, map-same}
 use Rattle.cell_grid.specs.declared.entry.Entry.{Entry}
 use Rattle.cell_grid.specs.Grid.{entry_of}
 use Rattle.cell_grid.specs.Together.{Listed}
-use Rattle.edit_records.specs.declared.grid_lists.Span.{Span}
 use Rattle.cell_grid.specs.Entries.{is_same_entry}
 use Rattle.cell_grid.proofs.CallerLemmas.{same_entry, is_itself}
 use Rattle.edit_records.specs.Gridded.{string_entry, point_entry, string_entries, point_entries}
 use Rattle.edit_records.specs.Exchanged.{AreOnlyOf, IsExchange}
 use Rattle.edit_records.specs.GridEdits.{gone_by, come_by}
-use Rattle.edit_records.specs.GridLists.{span_of, position_by, span_entry, span_at, AreEntries, IsBeside}
+use Rattle.edit_records.specs.GridLists.{position_by, span_entry, span_at, AreEntries, IsBeside}
 use Rattle.edit_records.proofs.EditExchanges.{some-from, of_point, of_string, placed, pushed-at, without-at, at-new, at-others}
 
 -- ---- Lists

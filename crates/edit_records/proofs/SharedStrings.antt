@@ -7,9 +7,11 @@ use Rattle.cad_rows.specs.declared.edits.Edit.TheVariants.{Merge}
 use Rattle.cad_rows.specs.declared.names.Face.{Face}
 use Rattle.cad_rows.specs.declared.rows.StringRow.{StringRow}
 use Rattle.cad_rings.specs.Cycle.{Side, has_side, opposite}
+use Rattle.cad_map.specs.declared.span.Span.{Span}
 use Rattle.cad_map.specs.Crossings.{HasPlacedRows}
 use Rattle.cad_map.specs.Map.{Map, face_sides, is_end, side_of}
 use Rattle.cad_map.specs.Merger.{is_shared, shared_sides}
+use Rattle.cad_map.specs.Spans.{span_of}
 use Rattle.cad_map.specs.Steps.{has_twin_in}
 use Rattle.cad_map.specs.Valid.{EachPair, IsValid, MeetAtEnds}
 use Rattle.cad_map.specs.Views.{HasSide}
@@ -21,8 +23,7 @@ use Rattle.cad_map.proofs.Lists.TakenOut.{fills}
 use Rattle.cad_laws.specs.Counts.{shared_strings}
 use Rattle.cad_laws.specs.Tried.{IsTried}
 use Rattle.cad_laws.proofs.CallerLemmas.{shared-counted}
-use Rattle.edit_records.specs.declared.grid_lists.Span.{Span}
-use Rattle.edit_records.specs.GridLists.{LeadsBetween, span_of}
+use Rattle.edit_records.specs.GridLists.{LeadsBetween}
 
 -- ---- One string between two points
 

@@ -24,7 +24,7 @@ use Rattle.cad_map.specs.Merger.{ChainInRings, shared_chains, shared_sides}
 use Rattle.cad_map.specs.Touched.{Touched, Moved, Joined, ComesByMove, ComesBySplit, ComesByJoin, IsTouched, StringStands, neighbours}
 use Rattle.cad_map.specs.Valid.{IsValid}
 use Rattle.cad_map.specs.Views.{HasFaces, HasNoFaces, HasSide, IsNoSide}
-use Rattle.cad_map.proofs.CallerLemmas.{All-follows, Contains-cases, Contains-first, Contains-later, Contains-filter, Contains-flat_map, Contains-map, filter-Contains, map-Contains, faces-told, some-faces, find-Contains, of_string, one_ring, Contains-has_side, has_side-Contains, Contains-in_part, list_any-Contains, beside, IsPermutation-canonical_order, is_face-refl, along-passed, row-found, IsFound, found}
+use Rattle.cad_map.proofs.CallerLemmas.{All-follows, Contains-cases, Contains-first, Contains-later, Contains-filter, Contains-flat_map, Contains-map, filter-Contains, map-Contains, both_sides, face-told, faces-told, in_all, some-faces, find-Contains, of_string, one_ring, Contains-has_side, has_side-Contains, Contains-in_part, list_any-Contains, beside, IsPermutation-canonical_order, is_face-refl, along-passed, IsFound, found}
 use Rattle.cad_laws.specs.Faces.{IsMergedIn}
 use Rattle.cad_laws.specs.Touching.{touching, joined_between, touched_by, touched_by_split, faces_where, goes_along, passes, points_of_shared_chain}
 use Rattle.cad_laws.specs.Tried.{IsTried}
@@ -65,6 +65,27 @@ side-passing : (p : ℕ) (ring : Ring) → IsTrue (passes p ring) → (q : ℕ) 
 side-passing p [] has = absurd (true≢false (sym has))
 side-passing p (a ∷ xs) has = side-from p a xs a has
 
+-- to each point that a ring passes a side leads
+side-to : (p a : ℕ) (xs : List ℕ) (z : ℕ) → (list_any (λ q. q == p) xs ≡ true) ⊎ (z ≡ p) → (q : ℕ) × Contains {X = Side} (sides_along a xs z) (q, p)
+side-to p a [] z (inl has) = absurd (true≢false (sym has))
+side-to p a [] z (inr last) = (a, subst (λ (k : ℕ). Contains {X = Side} ((a, z) ∷ []) (a, k)) last (Contains-first (a, z) []))
+side-to p a (x ∷ xs) z has = by (nat_eq x p) refl has (λ h. side-to p x xs z h)
+  where
+    by : (b : Bool) → nat_eq x p ≡ b → (list_any (λ q. q == p) (x ∷ xs) ≡ true) ⊎ (z ≡ p)
+        → ((list_any (λ q. q == p) xs ≡ true) ⊎ (z ≡ p) → (q : ℕ) × Contains {X = Side} (sides_along x xs z) (q, p))
+        → (q : ℕ) × Contains {X = Side} (sides_along a (x ∷ xs) z) (q, p)
+    by true is has again = (a, subst (λ (k : ℕ). Contains {X = Side} ((a, x) ∷ sides_along x xs z) (a, k)) (eqb-true x p is) (Contains-first (a, x) (sides_along x xs z)))
+    by false is (inl has) again = let rest = again (inl (rw is at has)) in (rest.0, Contains-later (a, x) (sides_along x xs z) (rest.0, p) rest.1)
+    by false is (inr last) again = let rest = again (inr last) in (rest.0, Contains-later (a, x) (sides_along x xs z) (rest.0, p) rest.1)
+
+side-reaching : (p : ℕ) (ring : Ring) → IsTrue (passes p ring) → (q : ℕ) × Contains {X = Side} (sides_of ring) (q, p)
+side-reaching p [] has = absurd (true≢false (sym has))
+side-reaching p (a ∷ xs) has = by (nat_eq a p) refl has
+  where
+    by : (b : Bool) → nat_eq a p ≡ b → list_any (λ q. q == p) (a ∷ xs) ≡ true → (q : ℕ) × Contains {X = Side} (sides_along a xs a) (q, p)
+    by true is has = side-to p a xs a (inr (eqb-true a p is))
+    by false is has = side-to p a xs a (inl (rw is at has))
+
 or-left : (a b : Bool) → a ≡ true → (a || b) ≡ true
 or-left a b is = rw is refl
 
@@ -102,45 +123,45 @@ far-is s p q is = by (nat_eq s.from p) refl
         ]
 
 module _ (m : Map) (valid : IsValid m) where
-  -- a ring that passes a point leaves it along one of its strings
-  pub record LeavesAlong (p : ℕ) (ring : Ring) : Type 0 where
+  -- a ring that passes a point comes to it along one of its strings
+  pub record ComesAlong (p : ℕ) (ring : Ring) : Type 0 where
     pub string : StringRow
     pub there : Contains (strings_at m p) string
-    pub out : Contains {X = Side} (sides_of ring) (p, far_end string p)
+    pub in_ring : Contains {X = Side} (sides_of ring) (far_end string p, p)
 
-  pub leaves-along : (p : ℕ) (b : Boundary) → Contains m.boundaries b → IsTrue (passes p b.ring) → LeavesAlong p b.ring
-  leaves-along p b among has =
-      let side = side-passing p b.ring has in
-      let s = of_string m valid (p, side.0) (Contains-flat_map (λ (c : Boundary). sides_of c.ring) m.boundaries b (p, side.0) among side.1) in
+  pub comes-along : (p : ℕ) (b : Boundary) → Contains m.boundaries b → IsTrue (passes p b.ring) → ComesAlong p b.ring
+  comes-along p b among has =
+      let side = side-reaching p b.ring has in
+      let s = of_string m valid (side.0, p) (Contains-flat_map (λ (c : Boundary). sides_of c.ring) m.boundaries b (side.0, p) among side.1) in
+      let turned : ((p, side.0) ≡ side_of s.string) ⊎ ((p, side.0) ≡ opposite (side_of s.string)) = elim s.is [ inl is ↦ inr (ap opposite is) | inr is ↦ inl (ap opposite is) ] in
       record {
         string = s.string;
         there = Contains-filter (λ r. is_end r p) m.strings s.string s.there (elim s.is [
-          | inl is ↦ or-left _ _ (eq-eqb s.string.from p (sym (ap (λ (t : Side). t.0) is)))
-          | inr is ↦ or-right _ _ (eq-eqb s.string.to p (sym (ap (λ (t : Side). t.0) is)))
+          | inl is ↦ or-right _ _ (eq-eqb s.string.to p (sym (ap (λ (t : Side). t.1) is)))
+          | inr is ↦ or-left _ _ (eq-eqb s.string.from p (sym (ap (λ (t : Side). t.1) is)))
         ]);
-        out = subst (λ (q : ℕ). Contains {X = Side} (sides_of b.ring) (p, q)) (sym (far-is s.string p side.0 s.is)) side.1;
+        in_ring = subst (λ (q : ℕ). Contains {X = Side} (sides_of b.ring) (q, p)) (sym (far-is s.string p side.0 turned)) side.1;
       }
 
-  -- the face of that ring is the one on the string's side that leads away from the point
-  pub face-out : (n : ℕ) (left right : Face) (s : StringRow) (p : ℕ) (b : Boundary) → HasFaces m n left right → string_of m n ≡ Some s → IsTrue (is_end s p)
-      → Contains m.boundaries b → Contains {X = Side} (sides_of b.ring) (p, far_end s p) → ((nat_eq s.from p ≡ true) → left ≡ b.face) × ((nat_eq s.from p ≡ false) → right ≡ b.face)
-  face-out n left right s p b told is end among out =
-      let faces = faces-told m valid n s left right is told in (
-        (λ same. same_Some left b.face (sym faces.0 ∙ one_ring m valid (side_of s) b among
-            (subst (Contains {X = Side} (sides_of b.ring)) (λ i. (sym (eqb-true s.from p same) i, far-from s p same i)) out))),
-        (λ other. same_Some right b.face (sym faces.1 ∙ one_ring m valid (opposite (side_of s)) b among
-            (subst (Contains {X = Side} (sides_of b.ring)) (λ i. (sym (to-is s p other end) i, far-to s p other i)) out))),
-      )
+  -- the side to a point along one of its strings is in a ring
+  side-in : (p : ℕ) (s : StringRow) → Contains (strings_at m p) s → Contains {X = Side} (all_sides m) (far_end s p, p)
+  side-in p s there = by (nat_eq s.from p) refl
+    where
+      at : Contains m.strings s × IsTrue (is_end s p)
+      at = filter-Contains (λ t. is_end t p) m.strings s there
 
-  -- a string at a point is found by its number
-  pub found-at : (p : ℕ) (s : StringRow) → Contains (strings_at m p) s → string_of m s.number ≡ Some s
-  found-at p s there = row-found m.strings s valid.sound.v1.strings.distinct (filter-Contains (λ t. is_end t p) m.strings s there).0
+      by : (b : Bool) → nat_eq s.from p ≡ b → Contains {X = Side} (all_sides m) (far_end s p, p)
+      by true same = subst (Contains {X = Side} (all_sides m)) (λ i. (sym (far-from s p same) i, eqb-true s.from p same i)) (in_all m valid (opposite (side_of s)) (both_sides m s at.0).1)
+      by false other = subst (Contains {X = Side} (all_sides m)) (λ i. (sym (far-to s p other) i, to-is s p other at.1 i)) (in_all m valid (side_of s) (both_sides m s at.0).0)
 
-  -- and which of its faces has the ring that leaves the point along it
-  pub out-of-point : (p : ℕ) (s : StringRow) → Contains (strings_at m p) s → (faces : Face × Face) (b : Boundary) → HasFaces m s.number faces.0 faces.1
-      → Contains m.boundaries b → Contains {X = Side} (sides_of b.ring) (p, far_end s p) → ((nat_eq s.from p ≡ true) → faces.0 ≡ b.face) × ((nat_eq s.from p ≡ false) → faces.1 ≡ b.face)
-  out-of-point p s there faces b told among out =
-      face-out s.number faces.0 faces.1 s p b told (found-at p s there) (filter-Contains (λ t. is_end t p) m.strings s there).1 among out
+  -- so its face is told
+  pub face-some : (p : ℕ) (s : StringRow) → Contains (strings_at m p) s → (o : Option Face) → IfNone o (IsNoSide m (far_end s p, p)) → is_some o ≡ true
+  face-some p s there (Some f) none = refl
+  face-some p s there None none = absurd (true≢false (sym (Contains-has_side (far_end s p, p) (all_sides m) (side-in p s there)) ∙ none))
+
+  -- and it is that of the ring that has the side
+  pub face-is : (s : Side) (f : Face) (b : Boundary) → HasSide m f s → Contains m.boundaries b → Contains (sides_of b.ring) s → f ≡ b.face
+  face-is s f b has among out = same_Some f b.face (sym (face-told m valid f s has) ∙ one_ring m valid s b among out)
 
   -- the faces of the rings that go along a string are those on its sides
   pub face-along : (n : ℕ) (left right : Face) (s : StringRow) (b : Boundary) → HasFaces m n left right → string_of m n ≡ Some s → Contains m.boundaries b → IsTrue (goes_along s b.ring)

@@ -4,17 +4,14 @@ use Rattle.geo_exact.specs.Position.{Position}
 use Rattle.cad_rows.specs.declared.edits.Edit.{Edit}
 use Rattle.cad_rows.specs.declared.rows.StringRow.{StringRow}
 use Rattle.cad_rings.specs.Cycle.{Side, opposite}
+use Rattle.cad_map.specs.declared.span.Span.{Span}
 use Rattle.cad_map.specs.Map.{Map, position_of, side_of}
 use Rattle.cad_map.specs.Effects.{after}
+use Rattle.cad_map.specs.Spans.{span_of}
 use Rattle.cad_laws.specs.Tried.{IsTried}
 use Rattle.cell_grid.specs.declared.entry.Entry.{Entry}
 use Rattle.cell_grid.specs.Together.{Listed}
 use Rattle.cell_grid.specs.Grid.{entry_of}
-use Rattle.edit_records.specs.declared.grid_lists.Span.{Span}
-
--- a string's number and its ends
-abbrev pub span_of : StringRow → Span
-span_of s = record { string = s.number; from = s.from; to = s.to }
 
 -- the position of a point, where p lies at this one
 abbrev pub position_by : Map → ℕ → Position → ℕ → Position

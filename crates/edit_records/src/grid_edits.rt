@@ -8,15 +8,15 @@ ghost use Rattle.cad_map.specs.Map.{degree, far_end as far_end_of, strings_at};
 ghost use Rattle.cad_map.specs.Valid.{IsValid};
 ghost use Rattle.cad_laws.specs.Tried.{IsTried};
 ghost use Rattle.edit_records.specs.GridEdits.{gone_by, come_by};
-ghost use Rattle.edit_records.specs.GridLists.{AreEntries, span_of as span_of_row};
+ghost use Rattle.edit_records.specs.GridLists.{AreEntries};
 
 use crate::grid_lists::{
-    Span, lone_point, lone_string, point_with_strings, strings_of_chain, two_strings,
+    lone_point, lone_string, point_with_strings, strings_of_chain, two_strings,
 };
 use crate::point_strings::string_at;
 use crate::shared_strings::strings_shared;
-use cad_map::{MapView, far_end, position};
-use cad_rows::{Edit, Memory, PointNo, StringNo, StringRow};
+use cad_map::{MapView, Span, far_end, position, span_of};
+use cad_rows::{Edit, Memory, PointNo, StringNo};
 use cell_grid::Entries;
 use geo_exact::Pt;
 use std::alloc::Global;
@@ -27,17 +27,6 @@ pub fn at(x: i64, y: i64) -> Pt
     ensures { result ≡ record { x = x; y = y } }
 {
     Pt::new(x, y).unwrap()
-}
-
-/// A string's number and its ends.
-pub(crate) fn span_of(row: &StringRow) -> Span
-    ensures { result ≡ span_of_row row.now }
-{
-    Span {
-        string: row.number,
-        from: row.from,
-        to: row.to,
-    }
 }
 
 // The far ends of the two strings at a point, that of the lower-numbered one first.

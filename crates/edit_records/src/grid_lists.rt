@@ -8,30 +8,23 @@ ghost use Rattle.cad_rows.specs.declared.rows.StringRow.{StringRow};
 ghost use Rattle.cad_map.specs.Chain.{start_of, strings_along};
 ghost use Rattle.cad_map.specs.Changes.{by_number};
 ghost use Rattle.cad_map.specs.Map.{Map, point_of, string_of, strings_at, far_end, position_of};
+ghost use Rattle.cad_map.specs.Spans.{span_of};
 ghost use Rattle.cad_map.specs.Valid.{IsValid};
 ghost use Rattle.cad_laws.specs.Counts.{shared_strings};
 ghost use Rattle.cell_grid.specs.Grid.{entry_of};
 ghost use Rattle.edit_records.specs.Gridded.{string_entry, point_entry};
 ghost use Rattle.edit_records.specs.GridEdits.{gone_by, come_by};
 ghost use Rattle.edit_records.specs.HeldChains.{closed, rows_along};
-ghost use Rattle.edit_records.specs.GridLists.{span_of, AreEntries, IsBeside, position_by as position_by_of, span_entry, span_at};
+ghost use Rattle.edit_records.specs.GridLists.{AreEntries, IsBeside, position_by as position_by_of, span_entry, span_at};
 
-use crate::point_strings::string_at;
+use crate::point_strings::span_at_place;
 use crate::record::ChainString;
-use cad_map::{MapView, position};
+use cad_map::{MapView, Span, position};
 use cad_rows::{Memory, PointNo, StringNo};
 use cell_grid::Entries;
 use geo_exact::Pt;
 use half_table::Half;
 use std::alloc::Global;
-
-/// A string, and the points that it leads from and to.
-#[derive(Clone, Copy, Debug)]
-pub(crate) struct Span {
-    pub(crate) string: StringNo,
-    pub(crate) from: PointNo,
-    pub(crate) to: PointNo,
-}
 
 // The position of a point of the map, where this one lies at the position that is given.
 fn position_by<M: MapView>(map: &M, no: PointNo, point: PointNo, at: Pt) -> Pt
@@ -130,12 +123,7 @@ fn strings_by<M: MapView>(alloc: Global, map: &M, point: PointNo, at: Pt) -> Res
 {
     let mut entries = Entries::new(alloc);
     for place in 0..map.degree(point) {
-        let row = string_at(map, point, place);
-        let span = Span {
-            string: row.number,
-            from: row.from,
-            to: row.to,
-        };
+        let span = span_at_place(map, point, place);
         add_span_by(&mut entries, map, span, point, at)?;
     }
     Ok(entries)
@@ -221,8 +209,8 @@ pub(crate) fn strings_of_chain<M: MapView>(
     Ok(entries)
 }
 
-// A half between two points, the first of them where it begins.
-fn span_between(half: &Half, from: PointNo, to: PointNo) -> Span
+/// The string along a half between two points, the first of them where it begins.
+pub fn span_between(half: &Half, from: PointNo, to: PointNo) -> Span
     ensures { result ≡ record {
       string = half.now.string;
       from = if half.now.forward then from else to;

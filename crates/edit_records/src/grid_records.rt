@@ -6,13 +6,11 @@ ghost use Rattle.edit_records.specs.GridEdits.{gone_by, come_by};
 ghost use Rattle.edit_records.specs.GridLists.{AreEntries, IsBeside};
 ghost use Rattle.edit_records.specs.Record.{edit_of, Holds};
 
-use crate::grid_edits::span_of;
 use crate::grid_lists::{
-    Span, lone_point, lone_string, point_with_strings, strings_between, strings_of_chain,
-    two_strings,
+    lone_point, lone_string, point_with_strings, strings_between, strings_of_chain, two_strings,
 };
 use crate::record::SmallRecord;
-use cad_map::{MapView, far_end};
+use cad_map::{MapView, Span, far_end, span_of};
 use cad_rows::Memory;
 use cell_grid::Entries;
 use std::alloc::Global;

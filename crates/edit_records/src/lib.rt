@@ -13,6 +13,7 @@ mod touched;
 
 pub use grid::{enter, grid_of, withdraw};
 pub use grid_edits::{at, coming, going};
+pub use grid_lists::span_between;
 pub use grid_records::{what_comes, what_goes};
 pub use record::{ChainString, SmallRecord, are_in_range, weight};
 pub use touched::touched_by;

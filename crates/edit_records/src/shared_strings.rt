@@ -4,22 +4,22 @@ ghost use Rattle.std.specs.List.{Contains};
 ghost use Rattle.cad_rings.specs.Cycle.{Side, opposite, sides_of};
 ghost use Rattle.cad_rows.specs.declared.edits.Edit.TheVariants.{Merge};
 ghost use Rattle.cad_rows.specs.declared.rows.StringRow.{StringRow as StringOf};
+ghost use Rattle.cad_map.specs.declared.span.Span.{Span as SpanOf};
 ghost use Rattle.cad_map.specs.Map.{rings_at};
 ghost use Rattle.cad_map.specs.Merger.{shared_sides};
 ghost use Rattle.cad_map.specs.Rings.{ring_at};
+ghost use Rattle.cad_map.specs.Spans.{span_of as span_of_row};
 ghost use Rattle.cad_map.specs.Steps.{has_twin_in};
 ghost use Rattle.cad_map.specs.Valid.{IsValid};
 ghost use Rattle.cad_map.specs.Views.{HasSide};
 ghost use Rattle.cad_laws.specs.Tried.{IsTried};
 ghost use Rattle.edit_records.specs.GridEdits.{gone_by};
-ghost use Rattle.edit_records.specs.GridLists.{AreEntries, LeadsBetween, span_of as span_of_row};
-ghost use Rattle.edit_records.specs.declared.grid_lists.Span.{Span as SpanOf};
+ghost use Rattle.edit_records.specs.GridLists.{AreEntries, LeadsBetween};
 
-use crate::grid_edits::span_of;
-use crate::grid_lists::{Span, several_strings};
+use crate::grid_lists::several_strings;
 use crate::point_strings::string_at;
 use crate::touched::is_behind;
-use cad_map::{MapView, Walk, far_end, ring_count};
+use cad_map::{MapView, Span, Walk, far_end, span_of};
 use cad_rows::{Face, Memory, PointNo};
 use cell_grid::Entries;
 use std::alloc::Global;
@@ -108,7 +108,7 @@ fn shared_spans<M: MapView>(
         length spans.items ≤ length (shared_sides (M.map map.now) face.now other.now)) }
 {
     let mut spans = Vec::new(alloc);
-    for place in 0..ring_count(map, face) {
+    for place in 0..map.ring_count(*face) {
         add_ring(&mut spans, map, face, place, other)?;
     }
     Ok(spans)

@@ -17,9 +17,9 @@ ghost use Rattle.cad_laws.specs.Tried.{IsTried};
 ghost use Rattle.cad_valid.specs.Near.{touched_of};
 ghost use Rattle.edit_records.specs.Told.{Tells};
 
-use crate::point_strings::string_at;
-use cad_map::{MapView, Walk, far_end, is_face, position, ring_count};
-use cad_rows::{Edit, Face, Memory, ParcelNo, PointNo, StringNo, StringRow};
+use crate::point_strings::{span_at_place, string_at};
+use cad_map::{MapView, Walk, far_end, far_with, is_face, position};
+use cad_rows::{Edit, Face, Memory, ParcelNo, PointNo, StringNo};
 use cad_valid::{Joined, Moved, Touched};
 use std::alloc::Global;
 
@@ -44,20 +44,15 @@ pub(crate) fn add_faces<M: MapView>(
     Ok(())
 }
 
-/// The face of the ring that leaves a point along one of its strings.
-fn face_out<M: MapView>(map: &M, point: PointNo, string: &StringRow) -> Face
+/// The face of the ring that comes to a point along one of its strings, from that string's other end.
+fn face_into<M: MapView>(map: &M, far: PointNo, point: PointNo) -> Face
     requires valid { IsValid (M.map map.now) }
-    requires there { Contains (strings_at (M.map map.now) point) string.now }
+    requires there { (s : StringOf) × Contains (strings_at (M.map map.now) point) s
+        × (far_end_of s point ≡ far) }
     ensures { (b : BoundaryOf) → Contains (M.map map.now).boundaries b
-        → Contains {X = Side} (sides_of b.ring) (point, far_end_of string.now point)
-        → result ≡ b.face }
+        → Contains {X = Side} (sides_of b.ring) (far, point) → result ≡ b.face }
 {
-    let (left, right) = map.left_right(string.number).unwrap();
-    if string.from.get() == point.get() {
-        left
-    } else {
-        right
-    }
+    map.face_of(far, point).unwrap()
 }
 
 /// These faces, each named once. It takes no memory.
@@ -70,7 +65,7 @@ fn each_once(faces: Vec<Face>) -> Vec<Face>
     once
 }
 
-/// The faces of the rings that pass a point, each named once: each ring leaves it along one of its
+/// The faces of the rings that pass a point, each named once: each ring comes to it along one of its
 /// strings, and a face may lie between many of these.
 pub(crate) fn faces_at<M: MapView>(
     alloc: Global,
@@ -83,8 +78,8 @@ pub(crate) fn faces_at<M: MapView>(
 {
     let mut faces = Vec::new(alloc);
     for place in 0..map.degree(point) {
-        let row = string_at(map, point, place);
-        faces.push(face_out(map, point, row))?;
+        let far = far_with(map, point, place).unwrap();
+        faces.push(face_into(map, far, point))?;
     }
     Ok(each_once(faces))
 }
@@ -100,8 +95,8 @@ pub(crate) fn strings_of<M: MapView>(
 {
     let mut strings = Vec::new(alloc);
     for place in 0..map.degree(point) {
-        let row = string_at(map, point, place);
-        strings.push(row.number)?;
+        let span = span_at_place(map, point, place);
+        strings.push(span.string)?;
     }
     Ok(strings)
 }
@@ -347,7 +342,7 @@ fn shared_ends<M: MapView>(
         → Contains points.items s.0 × Contains points.items s.1) }
 {
     let mut points = Vec::new(alloc);
-    for place in 0..ring_count(map, face) {
+    for place in 0..map.ring_count(*face) {
         add_ends(&mut points, map, face, place, other)?;
     }
     Ok(points)

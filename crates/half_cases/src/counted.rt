@@ -1,7 +1,7 @@
 //! A view of a map that counts how often it is asked.
 ghost use Rattle.std.specs.Prelude.{◌≡◌};
 
-use cad_map::{Counts, MapView};
+use cad_map::{Counts, MapView, Span};
 use cad_rows::{
     Face, ParcelNo, ParcelRow, PointNo, PointRow, SourceNo, SourceRow, StringNo, StringRow,
 };
@@ -115,9 +115,9 @@ impl<M: MapView> MapView for Counted<'_, M> {
         self.inner.string_with(point, place)
     }
 
-    fn far_with(&self, point: PointNo, place: usize) -> Option<PointNo> {
+    fn span_with(&self, point: PointNo, place: usize) -> Option<Span> {
         self.count();
-        self.inner.far_with(point, place)
+        self.inner.span_with(point, place)
     }
 
     fn degree(&self, no: PointNo) -> usize {
@@ -148,6 +148,11 @@ impl<M: MapView> MapView for Counted<'_, M> {
     fn ring_side(&self, face: Face, place: usize) -> Option<(PointNo, PointNo)> {
         self.count();
         self.inner.ring_side(face, place)
+    }
+
+    fn ring_count(&self, face: Face) -> usize {
+        self.count();
+        self.inner.ring_count(face)
     }
 
     fn ring_area(&self, face: Face, place: usize) -> i128 {

@@ -28,6 +28,4 @@ pub use edits::split::{begin_split, begin_unsplit, forward, unsplit};
 pub use kept::{face_place, kept_half};
 pub use map_rows::{MapRows, RetiredRow};
 pub use rows::Rows;
-pub use stars::{
-    Spoke, far_at, far_in_star, find_half_by_ends, find_half_in_star, half_at, star_of,
-};
+pub use stars::{Spoke, far_in_star, find_half_by_ends, find_half_in_star, half_at, star_of};

@@ -35,14 +35,6 @@ pub fn half_at(stars: &KeyLists<Spoke>, point: PointNo, place: usize) -> Option<
     Some(spoke.half)
 }
 
-/// The point where the half at a place in the star of a point ends, and `None` past the last.
-pub fn far_at(stars: &KeyLists<Spoke>, point: PointNo, place: usize) -> Option<PointNo>
-    ensures { result ≡ option_map (λ (x : SpokeOf). x.far) (slice_get (items_at stars.now point) place) }
-{
-    let spoke = star_of(stars, point).get(place)?;
-    Some(spoke.far)
-}
-
 // The first of these halves that ends at a point.
 fn first_to(spokes: &[Spoke], far: PointNo) -> Option<Half>
     ensures { result ≡ half_to far spokes.now }

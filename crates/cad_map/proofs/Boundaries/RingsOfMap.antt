@@ -1,8 +1,7 @@
 -- What is known of the rings that something keeps of a map whose rings are whole.
-use Rattle.std.proofs.Common.{◌≡◌, ℕ, zero, suc, ◌*◌, ◌<◌, ◌≤◌, inl, inr, refl, sym, ap, subst, ◌∙◌, List, [], ◌∷◌, length, Bool, true, false, arith, slice_get, Option, Some, None, is_some, true≢false, length-append}
+use Rattle.std.proofs.Common.{◌≡◌, ℕ, zero, suc, ◌*◌, ◌<◌, ◌≤◌, inl, inr, refl, sym, ap, subst, List, [], ◌∷◌, length, Bool, true, false, arith, slice_get, length-append}
 use Rattle.std.proofs.lemmas.List.Sorted.{IsPermutation-sym, length_permutation, Contains-permutation}
-use Rattle.std.proofs.lemmas.Bool.{cases_lt}
-use Rattle.std.proofs.lemmas.Option.{slice_get-get_or, slice_get_past}
+use Rattle.std.proofs.lemmas.Option.{slice_get-get_or}
 use Rattle.std.specs.Prelude.{IsTrue, IsSome, flat_map, option_and_then}
 use Rattle.std.specs.List.{AllByRecursion, Contains}
 use Rattle.cad_rows.specs.declared.names.Face.{Face}
@@ -41,18 +40,6 @@ rings_at-Contains f (b ∷ bs) place within = by (is_face f b.face) refl place w
     by true is (suc p) h again = let k : suc p < suc (length (rings_at f bs)) = rw is at h in rw is (one_more (again p (omega arith)))
     by false is p h again = let k : p < length (rings_at f bs) = rw is at h in rw is (one_more (again p k))
 
-rings_at-few : (f : Face) (bs : List Boundary) → AllByRecursion (λ b. 2 ≤ length b.ring) bs → length (rings_at f bs) ≤ length (sides_in bs)
-rings_at-few f [] two = omega arith
-rings_at-few f (b ∷ bs) two = by (is_face f b.face) refl (rings_at-few f bs two.1)
-  where
-    by : (t : Bool) → is_face f b.face ≡ t → length (rings_at f bs) ≤ length (sides_in bs) → length (rings_at f (b ∷ bs)) ≤ length (sides_in (b ∷ bs))
-    by true is rest =
-        let e = length-append (sides_of b.ring) (sides_in bs) in
-        let k = length-sides_of b.ring in
-        let h : 2 ≤ length b.ring = two.0 in
-        rw is (omega arith)
-    by false is rest = let e = length-append (sides_of b.ring) (sides_in bs) in rw is (omega arith)
-
 pub first_side-there : (ring : Ring) → 2 ≤ length ring → IsSome (first_side ring)
 first_side-there [] two = absurd (omega arith)
 first_side-there (a ∷ []) two = absurd (omega arith)
@@ -80,9 +67,6 @@ module _ (m : Map) (bs : List Boundary) (whole : HasWholeRings m) (is : canonica
       let two = length_permutation (string_sides m) (all_sides m) whole.v5.once in
       let three = two_each m.strings in
       omega arith
-
-  pub rings-few : (f : Face) → length (rings_at f bs) ≤ 400000
-  rings-few f = let one = rings_at-few f bs two in let most = whole.v1.few_strings in let e = sides-count in omega arith
 
   pub ring-there : (f : Face) (place : ℕ) → place < length (rings_at f bs) → (b : Boundary) × Contains bs b × (b.ring ≡ ring_at bs f place)
   ring-there f place within = rings_at-Contains f bs place within
@@ -121,23 +105,3 @@ module _ (m : Map) (bs : List Boundary) (whole : HasWholeRings m) (is : canonica
       let found = rings_at-Contains f bs place within in
       subst IsSome (sym (side_told f place within))
       (subst (λ (r : Ring). IsSome (first_side r)) found.2 (first_side-there found.0.ring (All-at_each (λ b. 2 ≤ length b.ring) bs found.0 two found.1)))
-
-  pub none_told : (f : Face) (place : ℕ) → length (rings_at f bs) ≤ place → option_and_then first_side (slice_get (rings_at f bs) place) ≡ None
-  none_told f place past = ap (option_and_then first_side) (slice_get_past (rings_at f bs) place past)
-
-  -- past the last ring no side is told, and before it one is
-  pub within-from_some : (f : Face) (place : ℕ) (told : Option Side) → told ≡ option_and_then first_side (slice_get (rings_at f bs) place) → is_some told ≡ true → place < length (rings_at f bs)
-  within-from_some f place told same some = elim (cases_lt place (length (rings_at f bs))) [
-    | inl within ↦ within
-    | inr past ↦ absurd (true≢false (sym some ∙ ap is_some (same ∙ none_told f place past)))
-  ]
-
-  pub past-from_none : (f : Face) (place : ℕ) (told : Option Side) → told ≡ option_and_then first_side (slice_get (rings_at f bs) place) → is_some told ≡ false → length (rings_at f bs) ≤ place
-  past-from_none f place told same none = elim (cases_lt place (length (rings_at f bs))) [
-    | inl within ↦ absurd (some_is (option_and_then first_side (slice_get (rings_at f bs) place)) (side_is_told f place within) (sym (ap is_some same) ∙ none))
-    | inr past ↦ past
-  ]
-    where
-      some_is : (o : Option Side) → IsSome o → is_some o ≡ false → ⊥
-      some_is None h k = true≢false (sym h)
-      some_is (Some s) h k = true≢false k

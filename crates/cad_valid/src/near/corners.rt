@@ -9,7 +9,7 @@ ghost use Rattle.cad_valid.specs.Near.{HasEmptyCornersRound, IsSeenBetween};
 use crate::corners::is_empty_after;
 use crate::near::rays::{MOST_RAYS, are_empty_between, rays_at};
 use crate::near::turns::empty_by_turn;
-use cad_map::{MapView, far_end, is_end, position};
+use cad_map::{MapView, far_end, far_with, is_end, position};
 use cad_rows::{PointNo, StringNo, StringRow};
 use geo_exact::in_sector;
 use std::alloc::Global;
@@ -146,7 +146,7 @@ pub(crate) fn are_empty_round<M: MapView>(alloc: Global, map: &M, point: PointNo
     ensures { IsTrue result ↔ HasEmptyCornersRound (M.map map.now) point }
 {
     for place in 0..map.degree(point) {
-        let far = map.far_with(point, place).unwrap();
+        let far = far_with(map, point, place).unwrap();
         if !is_empty_far(alloc, map, point, place, far) {
             return false;
         }

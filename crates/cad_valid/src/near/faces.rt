@@ -19,7 +19,7 @@ use crate::near::moves::leaves_face;
 use crate::near::{Joined, Moved};
 use crate::outlines::has_outlines;
 use crate::shapes::PlacedRing;
-use cad_map::{MapView, Walk, has_face, has_ring, ring_count};
+use cad_map::{MapView, Walk, has_face};
 use cad_rows::{Face, Memory};
 use cell_grid::CellGrid;
 use std::alloc::Global;
@@ -84,7 +84,7 @@ fn rules_of_face_if_there<M: MapView>(
     ensures holes { IsTrue result.holes
         ↔ OfFace (M.map map.now) (HasSoundHoles (M.map map.now)) face.now }
 {
-    let many = has_ring(map, face, FEW_RINGS);
+    let many = map.ring_count(*face) > FEW_RINGS;
     if many && (leaves_face(map, grid, face, moved) || joins_face(map, grid, face, joined)) {
         return FaceRules {
             outlines: true,
@@ -150,7 +150,7 @@ fn shapes_of<M: MapView>(alloc: Global, map: &M, face: &Face) -> Result<FaceShap
     ensures canonical_order { canonical_order (M.rings map.now) ≡ (M.map map.now).boundaries }
 {
     let mut shapes = FaceShapes::none(alloc);
-    for place in 0..ring_count(map, face) {
+    for place in 0..map.ring_count(*face) {
         shapes.add(placed_ring(alloc, map, face, place)?)?;
     }
     Ok(shapes)

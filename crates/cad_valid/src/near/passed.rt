@@ -37,7 +37,10 @@ pub(crate) fn is_move_clear<M: MapView>(map: &M, grid: &CellGrid, touched: &Touc
     ensures uncrossed { IsTrue result → Keeps (M.map map.now) V4 }
 {
     match touched.moved.as_ref() {
-        Some(moved) => touches_alone(map, touched, moved.point) && moves_clear(map, grid, moved),
+        Some(moved) => {
+            touches_alone(map, touched, moved.point)
+                && moves_clear(map, grid, touched.strings.as_slice(), moved)
+        }
         None => false,
     }
 }
@@ -59,21 +62,55 @@ fn are_this(points: &[PointNo], point: PointNo) -> bool
     points.iter().all(|other| other.get() == point.get())
 }
 
-/// Whether all of these strings that the map has have an end at a point.
+/// Whether the string at a place among those that have a point is the one with a number.
+fn is_string_at<M: MapView>(map: &M, point: PointNo, place: usize, string: StringNo) -> bool
+    requires { HasSoundRows (M.map map.now) }
+    ensures { IsTrue result
+        → OfString (M.map map.now) (λ s. IsTrue (is_end_of s point)) string }
+{
+    match map.span_with(point, place) {
+        Some(span) => span.string.get() == string.get(),
+        None => false,
+    }
+}
+
+/// Whether the string with a number, if the map has it, has an end at a point. It is looked up only
+/// where it isn't the one at a place among those that have the point.
+fn ends_at<M: MapView>(map: &M, string: StringNo, point: PointNo, place: usize) -> bool
+    requires { HasSoundRows (M.map map.now) }
+    ensures { IsTrue result
+        ↔ OfString (M.map map.now) (λ s. IsTrue (is_end_of s point)) string }
+{
+    if is_string_at(map, point, place, string) {
+        return true;
+    }
+    ends_there(map, string, point)
+}
+
+/// Whether all of these strings that the map has have an end at a point. Mostly they are those that
+/// have the point, in the order in which the map tells them, and so no string is looked up.
 fn end_there<M: MapView>(map: &M, strings: &[StringNo], point: PointNo) -> bool
     requires { HasSoundRows (M.map map.now) }
     ensures { IsTrue result ↔ AllByRecursion
         (OfString (M.map map.now) (λ s. IsTrue (is_end_of s point))) strings.now }
 {
-    strings.iter().all(|string| ends_there(map, *string, point))
+    for place in 0..strings.len() {
+        if !ends_at(map, strings[place], point, place) {
+            return false;
+        }
+    }
+    true
 }
 
 // ---- What the strings swept
 
-/// Whether a point of few strings went clear of all other points and strings.
-fn moves_clear<M: MapView>(map: &M, grid: &CellGrid, moved: &Moved) -> bool
+/// Whether a point of few strings went clear of all other points and strings. `own`: strings of the
+/// point.
+fn moves_clear<M: MapView>(map: &M, grid: &CellGrid, own: &[StringNo], moved: &Moved) -> bool
     requires sound { HasSoundRows (M.map map.now) }
     requires held { HoldsMap grid.now (M.map map.now) }
+    requires own { AllByRecursion
+        (OfString (M.map map.now) (λ s. IsTrue (is_end_of s moved.now.point))) own.now }
     ensures { IsTrue result → MovesClear (M.map map.now) moved.now }
 {
     let degree = map.degree(moved.point);
@@ -83,7 +120,7 @@ fn moves_clear<M: MapView>(map: &M, grid: &CellGrid, moved: &Moved) -> bool
     let rays = rays_at(map, moved.point);
     let at = position(map, moved.point);
     are_seen_clear(grid, moved, at, rays.as_slice())
-        && is_way_clear(map, grid, moved.point, moved.from, at)
+        && is_way_clear(map, grid, own, moved.point, moved.from, at)
 }
 
 /// Whether the rays of a moved point lead to different points, and their triangles have area and no

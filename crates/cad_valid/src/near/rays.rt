@@ -8,7 +8,7 @@ ghost use Rattle.cad_valid.specs.Rays.{AreRaysOf, IsPlacedRay, is_clear_of_ray a
 
 use crate::points::is_same;
 use arrayvec::ArrayVec;
-use cad_map::{MapView, position};
+use cad_map::{MapView, far_with, position};
 use cad_rows::PointNo;
 use geo_exact::{Pt, in_sector};
 
@@ -41,7 +41,7 @@ pub(crate) fn rays_at<M: MapView>(map: &M, point: PointNo) -> ArrayVec<Ray, 8>
 {
     let mut rays = ArrayVec::new();
     for place in 0..map.degree(point) {
-        let far = map.far_with(point, place).unwrap();
+        let far = far_with(map, point, place).unwrap();
         rays.push(Ray {
             far,
             position: position(map, far),

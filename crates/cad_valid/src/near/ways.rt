@@ -1,7 +1,7 @@
 //! Whether a moved point went clear of all but what it is on: then a ring has its place inside where it
 //! had it, also where the point is an anchor.
 ghost use Rattle.std.specs.Prelude.{◌≡◌, ◌≢◌, ◌≤◌, ◌↔◌, ℕ, false, count_by, IsTrue};
-ghost use Rattle.std.specs.List.{Contains};
+ghost use Rattle.std.specs.List.{AllByRecursion, Contains};
 ghost use Rattle.geo_exact.specs.Position.{Position};
 ghost use Rattle.geo_exact.specs.SignTest.{boxes_overlap};
 ghost use Rattle.cad_rows.specs.declared.rows.StringRow.{StringRow as StringOf};
@@ -53,22 +53,37 @@ pub(crate) fn ends_there<M: MapView>(map: &M, string: StringNo, point: PointNo) 
     }
 }
 
+/// The same, where all of these strings that the map has do: one of them isn't looked up.
+fn is_own<M: MapView>(map: &M, own: &[StringNo], string: StringNo, point: PointNo) -> bool
+    requires sound { HasSoundRows (M.map map.now) }
+    requires own { AllByRecursion
+        (OfString (M.map map.now) (λ s. IsTrue (is_end_of s point))) own.now }
+    ensures { IsTrue result
+        ↔ OfString (M.map map.now) (λ s. IsTrue (is_end_of s point)) string }
+{
+    own.contains(&string) || ends_there(map, string, point)
+}
+
 /// Whether no string that the grid holds comes near the way between two positions, but those of a point.
+/// `own`: strings of the point, which need not be looked up.
 pub(crate) fn is_way_clear<M: MapView>(
     map: &M,
     grid: &CellGrid,
+    own: &[StringNo],
     point: PointNo,
     from: Pt,
     to: Pt,
 ) -> bool
     requires sound { HasSoundRows (M.map map.now) }
     requires held { HoldsMap grid.now (M.map map.now) }
+    requires own { AllByRecursion
+        (OfString (M.map map.now) (λ s. IsTrue (is_end_of s point))) own.now }
     ensures { IsTrue result → (s : StringOf) → Contains (M.map map.now).strings s
         → is_end_of s point ≡ false → boxes_overlap from to
         (position_of (M.map map.now) s.from) (position_of (M.map map.now) s.to) ≡ false }
 {
     grid.candidates(from, to)
-        .all(|held| ends_there(map, held.string, point))
+        .all(|held| is_own(map, own, held.string, point))
 }
 
 /// Whether a face has the side that leaves a point along a ray.
@@ -127,5 +142,5 @@ pub(crate) fn goes_clear<M: MapView>(
     if !is_passed_once(map, face, moved.point, rays) || !has_left(grid, moved) {
         return false;
     }
-    is_way_clear(map, grid, moved.point, moved.from, at)
+    is_way_clear(map, grid, &[], moved.point, moved.from, at)
 }

@@ -25,5 +25,5 @@ pub returns-clause-does : goal.returns-clause-does
 returns-clause-does g c = if_some _ (λ input start.
     let (plan, read, opens) = c.in-Ok.ensures.ok (strip_bom input) start in
     let built = c.in-Ok-store_of.ensures.ok in
-    let (written, wrote, does) = c.run_script.ensures.does (strip_bom input) plan _ read opens in
-    (written, wrote, script_job c.run_script.result (strip_bom input) plan _ (map_of c.in-Ok-store_of.store) c.args.depth written opens built does)) c.records_of-reader.ensures
+    let (written, wrote, does) = c.run_on_map.ensures.does (strip_bom input) plan _ read opens in
+    (written, wrote, script_job c.run_on_map.result (strip_bom input) plan _ (map_of c.in-Ok-store_of.store) c.args.depth written opens built does)) c.records_of-reader.ensures

@@ -5,13 +5,9 @@ use Rattle.cad_map.specs.Map.{rings_at}
 use Rattle.cad_map.specs.Rings.{ring_at}
 use Rattle.cad_map.specs.Steps.{has_chain_along, IsFoundAlong}
 use Rattle.cad_map.proofs.Lists.EachElement.{any-goes, any-done}
-use Rattle.cad_map.proofs.Boundaries.RingsOfMap.{whole_valid}
 use Rattle.cad_map.proofs.SharedChains.ChainsOfMap.{chain-shared, shared_chain-none}
 use Rattle.cad_map.proofs.Lists.Elements.{Contains-at}
 use Rattle.cad_map.proofs.shared_chain.find_chain_of_sides.Goals as goal
-
-pub ring_count-place-end-requires : goal.ring_count-place-end-requires
-ring_count-place-end-requires g c = whole_valid (g.M.MapView.map c.args.map.now) c.requires.valid
 
 pub returns-in-Some-clause-some : goal.returns-in-Some-clause-some
 returns-in-Some-clause-some g c =

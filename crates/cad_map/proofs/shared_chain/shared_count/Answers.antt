@@ -5,9 +5,6 @@ use Rattle.cad_map.proofs.Boundaries.RingsOfMap.{whole_valid}
 use Rattle.cad_map.proofs.Boundaries.SideCounts.{count_up_to-few, count_up_to-next, count_up_to-all}
 use Rattle.cad_map.proofs.shared_chain.shared_count.Goals as goal
 
-pub ring_count-place-end-requires : goal.ring_count-place-end-requires
-ring_count-place-end-requires g c = whole_valid (g.M.MapView.map c.args.map.now) c.requires
-
 pub loop-place-preserved : goal.loop-place-preserved
 loop-place-preserved g c =
     let m = g.M.MapView.map c.args.map.now in

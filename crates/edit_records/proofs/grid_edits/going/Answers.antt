@@ -3,10 +3,10 @@ use Rattle.std.specs.Option.{option_copied}
 use Rattle.cad_rows.specs.declared.edits.Edit.{Edit}
 use Rattle.cad_rows.specs.declared.edits.Edit.TheVariants.{AddSource, AddPoint, DropPoint, Split, Join, Divide, Move, Attach, Detach, Rename, Enclose}
 use Rattle.cad_rows.specs.declared.rows.StringRow.{StringRow}
+use Rattle.cad_map.specs.declared.span.Span.{Span}
 use Rattle.cad_map.specs.Map.{string_of}
 use Rattle.cad_map.proofs.CallerLemmas.{found-number}
 use Rattle.cad_laws.specs.Tried.{IsTried}
-use Rattle.edit_records.specs.declared.grid_lists.Span.{Span}
 use Rattle.edit_records.specs.GridEdits.{gone_by}
 use Rattle.edit_records.specs.GridLists.{AreEntries}
 use Rattle.edit_records.proofs.GridEdits.{quiet-gone, if-ok, lent-found, beside, dropped-there, joined-there, split-there, lies-there, same_numbers, on_map, split-on}

@@ -1,10 +1,10 @@
 use Rattle.std.proofs.Common.{◌≡◌, ap, sym, refl, ◌∙◌, ◌++◌, ◌∷◌, [], map, take}
 use Rattle.std.proofs.lemmas.List.{take_all}
 use Rattle.std.proofs.lemmas.Option.{slice_get_read}
+use Rattle.cad_map.specs.declared.span.Span.{Span}
 use Rattle.cad_map.specs.Map.{position_of}
 use Rattle.cad_map.proofs.CallerLemmas.{take-more}
 use Rattle.cell_grid.specs.Grid.{entry_of}
-use Rattle.edit_records.specs.declared.grid_lists.Span.{Span}
 use Rattle.edit_records.proofs.GridLists.{entries-of, merge-gone}
 use Rattle.edit_records.proofs.GridRows.{map-last}
 use Rattle.edit_records.proofs.grid_lists.several_strings.Goals as goal

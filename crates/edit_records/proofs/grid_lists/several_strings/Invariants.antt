@@ -1,7 +1,7 @@
 use Rattle.std.proofs.Common.{◌≡◌, [], map, take}
+use Rattle.cad_map.specs.declared.span.Span.{Span}
 use Rattle.cad_map.specs.Map.{position_of}
 use Rattle.cell_grid.specs.Grid.{entry_of}
-use Rattle.edit_records.specs.declared.grid_lists.Span.{Span}
 use Rattle.edit_records.proofs.grid_lists.several_strings.Given as goal
 
 abbrev pub invariant-loop-span : goal.invariant-loop-span

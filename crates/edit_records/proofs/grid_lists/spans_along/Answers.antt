@@ -2,8 +2,8 @@ use Rattle.std.proofs.Common.{◌≡◌, ◌<◌, ◌+◌, ℕ, suc, add-one, ap
 use Rattle.std.proofs.lemmas.List.{take_all}
 use Rattle.std.proofs.lemmas.Option.{slice_get_read}
 use Rattle.cad_map.specs.Chain.{start_of}
+use Rattle.cad_map.specs.Spans.{span_of}
 use Rattle.edit_records.specs.declared.record.ChainString.{ChainString}
-use Rattle.edit_records.specs.GridLists.{span_of}
 use Rattle.edit_records.specs.HeldChains.{closed, row_between, rows_along}
 use Rattle.edit_records.proofs.ChainSpans.{rows-push}
 use Rattle.edit_records.proofs.GridLists.{closed-at}

@@ -1,5 +1,5 @@
 use Rattle.std.proofs.Common.{◌≡◌, map, take}
-use Rattle.edit_records.specs.GridLists.{span_of}
+use Rattle.cad_map.specs.Spans.{span_of}
 use Rattle.edit_records.specs.HeldChains.{closed, rows_along}
 use Rattle.edit_records.proofs.grid_lists.spans_along.Given as goal
 

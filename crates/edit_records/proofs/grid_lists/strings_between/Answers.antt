@@ -2,8 +2,8 @@ use Rattle.std.proofs.Common.{sym, subst, ◌∙◌, map}
 use Rattle.std.proofs.lemmas.List.Sorted.{IsPermutation-sym, IsPermutation-map}
 use Rattle.std.proofs.lemmas.Result.{IfOk-weaker}
 use Rattle.std.specs.Prelude.{IsPermutation}
+use Rattle.cad_map.specs.Spans.{span_of}
 use Rattle.cad_laws.specs.Counts.{shared_strings}
-use Rattle.edit_records.specs.GridLists.{span_of}
 use Rattle.edit_records.specs.HeldChains.{closed, rows_along}
 use Rattle.edit_records.proofs.grid_lists.strings_between.Goals as goal
 

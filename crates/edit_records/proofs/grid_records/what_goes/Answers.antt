@@ -5,10 +5,10 @@ use Rattle.cad_rows.specs.declared.edits.Edit.{Edit}
 use Rattle.cad_rows.specs.declared.edits.Edit.TheVariants as edit
 use Rattle.cad_rows.specs.declared.names.Face.TheVariants.{Parcel}
 use Rattle.cad_rows.specs.declared.rows.StringRow.{StringRow}
+use Rattle.cad_map.specs.declared.span.Span.{Span}
 use Rattle.cad_map.specs.Chain.{start_of}
 use Rattle.cad_map.specs.Map.{point_of, string_of}
 use Rattle.cad_laws.specs.Counts.{shared_strings}
-use Rattle.edit_records.specs.declared.grid_lists.Span.{Span}
 use Rattle.edit_records.specs.GridEdits.{gone_by}
 use Rattle.edit_records.specs.GridLists.{AreEntries, IsBeside}
 use Rattle.edit_records.specs.HeldChains.{closed, rows_along}

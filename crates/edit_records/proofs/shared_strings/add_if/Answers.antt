@@ -2,9 +2,9 @@ use Rattle.std.proofs.Common.{◌∷◌, ◌++◌, [], sym, subst, ◌∙◌, Li
 use Rattle.std.specs.List.{Contains}
 use Rattle.std.proofs.lemmas.List.Elements.{Contains-append_right}
 use Rattle.std.proofs.lemmas.Option.{same_Some}
+use Rattle.cad_map.specs.declared.span.Span.{Span}
+use Rattle.cad_map.specs.Spans.{span_of}
 use Rattle.cad_map.proofs.CallerLemmas.{Contains-first}
-use Rattle.edit_records.specs.declared.grid_lists.Span.{Span}
-use Rattle.edit_records.specs.GridLists.{span_of}
 use Rattle.edit_records.proofs.shared_strings.add_if.Goals as goal
 
 pub returns-in_ok-push-clause-string : goal.returns-in_ok-push-clause-string

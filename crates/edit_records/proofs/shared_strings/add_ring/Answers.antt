@@ -5,9 +5,10 @@ use Rattle.cad_rings.specs.Cycle.{Side, opposite, sides_of}
 use Rattle.cad_map.specs.Steps.{has_twin_in}
 use Rattle.cad_map.specs.Views.{HasSide}
 use Rattle.cad_map.specs.Rings.{ring_at}
+use Rattle.cad_map.specs.Spans.{span_of}
 use Rattle.cad_map.specs.Walk.{walking, sides_ahead}
 use Rattle.cad_map.proofs.CallerLemmas.{walked, walked-all, whole_valid, Contains-cases}
-use Rattle.edit_records.specs.GridLists.{LeadsBetween, span_of}
+use Rattle.edit_records.specs.GridLists.{LeadsBetween}
 use Rattle.edit_records.proofs.SharedStrings.{count-more}
 use Rattle.edit_records.proofs.shared_strings.add_ring.Goals.{After-next}
 use Rattle.edit_records.proofs.shared_strings.add_ring.Goals as goal

@@ -2,10 +2,11 @@ use Rattle.std.proofs.Common.{◌≤◌, ◌+◌, filter, length}
 use Rattle.std.specs.List.{Contains}
 use Rattle.cad_rings.specs.Cycle.{Side, opposite}
 use Rattle.cad_rows.specs.declared.rows.StringRow.{StringRow}
+use Rattle.cad_map.specs.declared.span.Span.{Span}
+use Rattle.cad_map.specs.Spans.{span_of}
 use Rattle.cad_map.specs.Steps.{has_twin_in}
 use Rattle.cad_map.specs.Views.{HasSide}
-use Rattle.edit_records.specs.declared.grid_lists.Span.{Span}
-use Rattle.edit_records.specs.GridLists.{LeadsBetween, span_of}
+use Rattle.edit_records.specs.GridLists.{LeadsBetween}
 use Rattle.edit_records.proofs.shared_strings.add_ring.Given as goal
 
 -- what was there, and the strings of those of the sides so far that the other face has behind them

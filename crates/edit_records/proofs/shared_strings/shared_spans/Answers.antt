@@ -4,15 +4,12 @@ use Rattle.std.specs.List.{Contains}
 use Rattle.std.proofs.lemmas.List.{take_all}
 use Rattle.cad_rings.specs.Cycle.{Ring, sides_of}
 use Rattle.cad_map.specs.Map.{rings_at}
+use Rattle.cad_map.specs.Spans.{span_of}
 use Rattle.cad_map.specs.Steps.{has_twin_in}
 use Rattle.cad_map.proofs.Boundaries.SideCounts.{count_up_to-next, count_up_to-all}
 use Rattle.cad_map.proofs.CallerLemmas.{whole_valid}
-use Rattle.edit_records.specs.GridLists.{span_of}
 use Rattle.edit_records.proofs.TouchedLists.{kept-side, up-to}
 use Rattle.edit_records.proofs.shared_strings.shared_spans.Goals as goal
-
-pub ring_count-place-end-requires : goal.ring_count-place-end-requires
-ring_count-place-end-requires g c = whole_valid (g.M.MapView.map c.args.map.now) c.requires
 
 pub add_ring-requires-clause-there : goal.add_ring-requires-clause-there
 add_ring-requires-clause-there g c =

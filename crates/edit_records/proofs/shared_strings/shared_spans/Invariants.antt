@@ -4,9 +4,10 @@ use Rattle.std.specs.List.{Contains}
 use Rattle.cad_rings.specs.Cycle.{Side, opposite, sides_of}
 use Rattle.cad_rows.specs.declared.rows.StringRow.{StringRow}
 use Rattle.cad_map.specs.Map.{rings_at}
+use Rattle.cad_map.specs.Spans.{span_of}
 use Rattle.cad_map.specs.Steps.{has_twin_in}
 use Rattle.cad_map.specs.Views.{HasSide}
-use Rattle.edit_records.specs.GridLists.{LeadsBetween, span_of}
+use Rattle.edit_records.specs.GridLists.{LeadsBetween}
 use Rattle.edit_records.proofs.shared_strings.shared_spans.Given as goal
 
 -- the shared strings of the rings so far

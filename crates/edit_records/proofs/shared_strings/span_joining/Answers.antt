@@ -3,8 +3,8 @@ use Rattle.std.specs.List.{AllByRecursion}
 use Rattle.std.proofs.lemmas.List.Sorted.{Contains-permutation, IsPermutation-sym}
 use Rattle.std.proofs.lemmas.Bool.{eqb-true, eq-eqb}
 use Rattle.cad_map.specs.Map.{far_end, is_end, strings_at}
+use Rattle.cad_map.specs.Spans.{span_of}
 use Rattle.cad_map.proofs.CallerLemmas.{All-at_each, All-push, Contains-at, Contains-filter, Joins, filter-Contains, joins-end, joins-far, joins-far_end, take-more, all-told}
-use Rattle.edit_records.specs.GridLists.{span_of}
 use Rattle.edit_records.proofs.SharedStrings.{joined-apart, leads-joins, one-between}
 use Rattle.edit_records.proofs.shared_strings.span_joining.Goals as goal
 

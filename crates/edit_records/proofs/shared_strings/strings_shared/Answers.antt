@@ -1,8 +1,8 @@
 use Rattle.std.proofs.Common.{map, subst, sym}
 use Rattle.std.specs.Prelude.{IsPermutation}
 use Rattle.cad_rows.specs.declared.edits.Edit.TheVariants.{Merge}
+use Rattle.cad_map.specs.Spans.{span_of}
 use Rattle.cad_laws.specs.Counts.{shared_strings}
-use Rattle.edit_records.specs.GridLists.{span_of}
 use Rattle.edit_records.proofs.GridEdits.{beside, if-ok}
 use Rattle.edit_records.proofs.SharedStrings.{all-shared}
 use Rattle.edit_records.proofs.shared_strings.strings_shared.Goals as goal

@@ -11,6 +11,6 @@ use Rattle.edit_records.proofs.touched.faces_at.Given as goal
 abbrev pub invariant-loop-place : goal.invariant-loop-place
 invariant-loop-place g l = record {
   faces : (s : StringRow) → Contains (take l.place (g.M.MapView.view_strings l.map l.point)) s → (b : Boundary)
-      → Contains (g.M.MapView.map l.map).boundaries b → Contains {X = Side} (sides_of b.ring) (l.point, far_end s l.point) → Contains l.faces.items b.face;
+      → Contains (g.M.MapView.map l.map).boundaries b → Contains {X = Side} (sides_of b.ring) (far_end s l.point, l.point) → Contains l.faces.items b.face;
   each : 0 < l.place → IsPermutation (strings_at (g.M.MapView.map l.map) l.point) (g.M.MapView.view_strings l.map l.point);
 }

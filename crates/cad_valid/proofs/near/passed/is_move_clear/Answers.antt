@@ -1,10 +1,20 @@
 use Rattle.std.proofs.Common.{◌∙◌, ap, subst, sym}
+use Rattle.std.specs.List.{AllByRecursion}
 use Rattle.std.specs.Option.{option_copied}
+use Rattle.std.specs.Prelude.{IsTrue}
+use Rattle.cad_map.specs.Map.{is_end}
 use Rattle.cad_map.specs.Touched.{Moved}
-use Rattle.cad_valid.specs.Near.{touched_of}
+use Rattle.cad_valid.specs.Near.{OfString, touched_of}
 use Rattle.cad_valid.specs.Triangles.{TouchesAlone}
 use Rattle.cad_valid.proofs.PassedTriangles.{points-apart, no-crossing}
 use Rattle.cad_valid.proofs.near.passed.is_move_clear.Goals as goal
+
+pub moves_clear-requires-clause-own : goal.moves_clear-requires-clause-own
+moves_clear-requires-clause-own g c =
+    let m = g.M.MapView.map c.args.map.now in
+    let t = touched_of c.args.touched.now in
+    let alone = subst (λ (w : Moved). TouchesAlone m t w.point) c.moved.view_is (c.touches_alone.ensures c.if-touches_alone.true) in
+    subst (AllByRecursion (OfString m (λ s. IsTrue (is_end s c.in-Some.moved.now.point)))) (sym c.as_slice.ensures.value) alone.strings
 
 pub returns-then-touches_alone-clause-distinct : goal.returns-then-touches_alone-clause-distinct
 returns-then-touches_alone-clause-distinct g c = λ clear.
