@@ -55,7 +55,8 @@ fn some_of_groups_are_tested(
     requires { length groups.now ≡ length sides.now }
 {
     let boxes = boxes(alloc, sides)?;
-    Ok(!all_of_two_groups_pass(alloc, &NonePass, &boxes, groups)?)
+    let groups = Vec::from_slice(alloc, groups)?;
+    Ok(!all_of_two_groups_pass(alloc, &NonePass, boxes, groups)?)
 }
 
 #[test]

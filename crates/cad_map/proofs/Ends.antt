@@ -7,3 +7,4 @@ pub mod StringEnds
 pub mod StarFacts
 pub mod StringsTold
 pub mod InTurn
+pub mod MarkedStars

@@ -1,5 +1,5 @@
 -- The strings of a map as their points see them.
-use Rattle.std.specs.Prelude.{ℕ, ◌==◌, List, [], ◌∷◌, filter, if◌then◌else◌}
+use Rattle.std.specs.Prelude.{ℕ, Bool, false, ◌==◌, ◌||◌, ◌%◌, List, [], ◌∷◌, length, filter, slice_index_or, if◌then◌else◌}
 use Rattle.std.specs.List.{flat_map, enumerate_from}
 use Rattle.cad_rows.specs.declared.rows.StringRow.{StringRow}
 use Rattle.cad_map.specs.declared.stars.Spoke.{Spoke}
@@ -27,3 +27,11 @@ spokes_of m = flat_map (λ e. spokes_at m e.0 e.1) (enumerate_from 0 m.strings)
 -- those of the point
 abbrev pub star : ℕ → List Spoke → List Spoke
 star p spokes = filter (λ s. s.at == p) spokes
+
+-- The point's number leaves the place of a mark by the count of marks. Where there are no marks every point is marked.
+abbrev pub is_marked : List Bool → ℕ → Bool
+is_marked marks p = (length marks == 0) || slice_index_or marks (p % length marks) false
+
+-- those of the point, if it is marked
+abbrev pub marked_star : List Bool → ℕ → List Spoke → List Spoke
+marked_star marks p spokes = if is_marked marks p then star p spokes else []

@@ -1,6 +1,7 @@
 //! The strings at each point of a map.
-ghost use Rattle.std.specs.Prelude.{◌≡◌, ◌++◌, ◌∷◌, [], ℕ, IfOk, OnOk};
+ghost use Rattle.std.specs.Prelude.{◌≡◌, ◌++◌, ◌∷◌, [], ℕ, IfOk, OnOk, if◌then◌else◌};
 ghost use Rattle.cad_map.specs.Stars.{spoke_of, spokes_at, spokes_of, star};
+ghost use Rattle.cad_map.specs.Stars.{is_marked as is_marked_of, marked_star};
 ghost use Rattle.key_lists.specs.Held.{items_at};
 
 use crate::look::far_end;
@@ -62,28 +63,39 @@ fn spoke_from<M: MapView>(map: &M, place: usize, string: &StringRow, at: PointNo
     }
 }
 
-// Puts a spoke last among those of its point.
-fn put_spoke(spokes: &mut KeyLists<Spoke>, spoke: Spoke) -> Result<(), Memory>
-    ensures { OnOk result
-        ((p : ℕ) → items_at spokes.new p ≡ items_at spokes.old p ++ star p (spoke ∷ [])) }
+// Whether a point is marked: its number leaves the place of a mark by the count of marks. Where there are no marks
+// every point is.
+fn is_marked(marks: &[bool], point: PointNo) -> bool
+    ensures { result ≡ is_marked_of marks.now point }
 {
-    spokes.push(u64::from(spoke.at.get()), spoke)?;
+    marks.is_empty() || marks[point.get() as usize % marks.len()]
+}
+
+// Puts a spoke last among those of its point, if that is marked.
+fn put_spoke(spokes: &mut KeyLists<Spoke>, marks: &[bool], spoke: Spoke) -> Result<(), Memory>
+    ensures { OnOk result ((p : ℕ) → items_at spokes.new p
+        ≡ items_at spokes.old p ++ marked_star marks.now p (spoke ∷ [])) }
+{
+    if is_marked(marks, spoke.at) {
+        spokes.push(u64::from(spoke.at.get()), spoke)?;
+    }
     Ok(())
 }
 
-// Puts the spokes of the string at a place last among those of its points.
+// Puts the spokes of the string at a place last among those of its points that are marked.
 fn put_spokes<M: MapView>(
     spokes: &mut KeyLists<Spoke>,
     map: &M,
+    marks: &[bool],
     place: usize,
     string: &StringRow,
 ) -> Result<(), Memory>
-    ensures { OnOk result ((p : ℕ) → items_at spokes.new p
-        ≡ items_at spokes.old p ++ star p (spokes_at (M.map map.now) place string.now)) }
+    ensures { OnOk result ((p : ℕ) → items_at spokes.new p ≡ items_at spokes.old p
+        ++ marked_star marks.now p (spokes_at (M.map map.now) place string.now)) }
 {
-    put_spoke(spokes, spoke_from(map, place, string, string.from))?;
+    put_spoke(spokes, marks, spoke_from(map, place, string, string.from))?;
     if string.from != string.to {
-        put_spoke(spokes, spoke_from(map, place, string, string.to))?;
+        put_spoke(spokes, marks, spoke_from(map, place, string, string.to))?;
     }
     Ok(())
 }
@@ -95,9 +107,38 @@ impl Stars {
         ensures { IfOk result
             (λ stars. (p : ℕ) → items_at stars p ≡ star p (spokes_of (M.map map.now))) }
     {
-        let mut spokes = KeyLists::with_room(alloc, hash, map.counts().points)?;
+        let room = map.counts().points;
+        Stars::with_room(alloc, hash, map, &[], room)
+    }
+
+    /// The strings of those points alone whose numbers leave the place of a mark, by the count of marks.
+    pub fn of_marked<M: MapView>(
+        alloc: Global,
+        hash: NumberHash,
+        map: &M,
+        marks: &[bool],
+    ) -> Result<Stars, Memory>
+        ensures { IfOk result
+            (λ stars. (p : ℕ) → items_at stars p ≡ marked_star marks.now p (spokes_of (M.map map.now))) }
+    {
+        Stars::with_room(alloc, hash, map, marks, 0)
+    }
+
+    // The strings of those points that are marked, in a table with room for so many points.
+    fn with_room<M: MapView>(
+        alloc: Global,
+        hash: NumberHash,
+        map: &M,
+        marks: &[bool],
+        room: usize,
+    ) -> Result<Stars, Memory>
+        ensures { IfOk result
+            (λ stars. (p : ℕ) → items_at stars p ≡ marked_star marks.now p (spokes_of (M.map map.now))) }
+    {
+        let mut spokes = KeyLists::with_room(alloc, hash, room)?;
         for place in 0..map.counts().strings {
-            put_spokes(&mut spokes, map, place, map.string_at(place).unwrap())?;
+            let string = map.string_at(place).unwrap();
+            put_spokes(&mut spokes, map, marks, place, string)?;
         }
         Ok(Stars { spokes })
     }

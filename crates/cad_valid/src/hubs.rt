@@ -14,30 +14,47 @@ pub(crate) const HUB: usize = 200;
 // Points whose numbers leave the same remainder by this are counted together.
 const REMAINDERS: usize = 65_536;
 
-// Counts an end of a string, and tells whether so many are counted as a hub has.
-fn counts_to_hub(counts: &mut Vec<usize>, point: PointNo) -> bool {
-    match counts.get_mut(point.get() as usize % REMAINDERS) {
-        Some(count) => {
-            *count = count.saturating_add(1);
-            *count >= HUB
-        }
-        None => false,
+// Counts an end of a string.
+fn count_end(counts: &mut [usize], point: PointNo) {
+    if let Some(count) = counts.get_mut(point.get() as usize % REMAINDERS) {
+        *count = count.saturating_add(1);
     }
 }
 
-/// Whether some point may be a hub. Takes a step or two for each string.
-pub(crate) fn may_have_hub(alloc: Global, map: &PlainMap) -> Result<bool, Memory> {
+// For each remainder nothing counted yet.
+fn no_counts(alloc: Global) -> Result<Vec<usize>, Memory> {
     let mut counts: Vec<usize> = Vec::with_capacity(alloc, REMAINDERS)?;
     for _ in 0..REMAINDERS {
         counts.push(0)?;
     }
+    Ok(counts)
+}
+
+// How many ends of strings lie at the points of each remainder. Takes two steps for each string.
+fn count_ends(alloc: Global, map: &PlainMap) -> Result<Vec<usize>, Memory> {
+    let mut counts = no_counts(alloc)?;
     for place in 0..map.counts().strings {
         let string = map.string_at(place).unwrap();
-        if counts_to_hub(&mut counts, string.from) || counts_to_hub(&mut counts, string.to) {
-            return Ok(true);
-        }
+        count_end(counts.as_mut_slice(), string.from);
+        count_end(counts.as_mut_slice(), string.to);
     }
-    Ok(false)
+    Ok(counts)
+}
+
+/// Whether some point may be a hub. Takes a step or two for each string.
+pub(crate) fn may_have_hub(alloc: Global, map: &PlainMap) -> Result<bool, Memory> {
+    let counts = count_ends(alloc, map)?;
+    Ok(counts.iter().any(|count| *count >= HUB))
+}
+
+// Marks the remainders of points that may be hubs.
+fn hub_marks(alloc: Global, map: &PlainMap) -> Result<Vec<bool>, Memory> {
+    let counts = count_ends(alloc, map)?;
+    let mut marks = Vec::with_capacity(alloc, counts.len())?;
+    for count in &counts {
+        marks.push(*count >= HUB)?;
+    }
+    Ok(marks)
 }
 
 // The number of the group that only the row at a place is of. It is no point's.
@@ -104,7 +121,8 @@ pub(crate) fn groups_of(alloc: Global, map: &PlainMap, count: usize) -> Result<V
     ensures count { IfOk result (λ groups. length groups.items ≡ count) }
     ensures groups { IfOk result (λ groups. AreGroupsOf map.now groups.items) }
 {
-    let stars = Stars::of(alloc, map.hash(), map)?;
+    let marks = hub_marks(alloc, map)?;
+    let stars = Stars::of_marked(alloc, map.hash(), map, marks.as_slice())?;
     let mut groups = each_alone(alloc, count)?;
     for place in 0..map.counts().points {
         let point = map.point_at(place).unwrap().number;

@@ -86,7 +86,7 @@ fn has_no_crossing_swept(alloc: Global, map: &PlainMap, hub: bool) -> Result<boo
 {
     let items = placed_rows(alloc, map)?;
     let boxes = boxes_of(alloc, &items)?;
-    are_uncrossed(alloc, map, hub, &items, &boxes)
+    are_uncrossed(alloc, map, hub, &items, boxes)
 }
 
 // Whether each two of the map's strings and points whose boxes overlap pass the test of V4. Where
@@ -97,24 +97,24 @@ fn are_uncrossed(
     map: &PlainMap,
     hub: bool,
     items: &[Placed],
-    boxes: &[Extent],
+    boxes: Vec<Extent>,
 ) -> Result<bool, Memory>
     requires rows { HasPlacedRows map.now }
     requires items { items.now ≡ placed_rows_of map.now }
-    requires boxes { boxes.now ≡ boxes_in items.now }
-    requires extents { HasExtents boxes.now }
+    requires boxes { boxes.items ≡ boxes_in items.now }
+    requires extents { HasExtents boxes.items }
     ensures passed { IfOk result (λ b. OnTrue b
-        (AllThatOverlapPass (passes_at have_no_crossing_of items.now) boxes.now)) }
+        (AllThatOverlapPass (passes_at have_no_crossing_of items.now) boxes.items)) }
     ensures failed { IfOk result (λ b. OnFalse b
-        (SomePairFails (passes_at have_no_crossing_of items.now) (length boxes.now))) }
+        (SomePairFails (passes_at have_no_crossing_of items.now) (length boxes.items))) }
 {
     let uncrossed = Uncrossed { items };
     if !hub {
-        let height = row_height(boxes);
-        return Ok(all_that_overlap_pass(alloc, &uncrossed, boxes, height)?);
+        let height = row_height(&boxes);
+        return Ok(all_that_overlap_pass(alloc, &uncrossed, &boxes, height)?);
     }
     let groups = groups_of(alloc, map, boxes.len())?;
-    Ok(all_of_two_groups_pass(alloc, &uncrossed, boxes, &groups)?)
+    Ok(all_of_two_groups_pass(alloc, &uncrossed, boxes, groups)?)
 }
 
 // The test of V3: two points have different positions.

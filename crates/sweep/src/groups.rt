@@ -128,22 +128,25 @@ fn by_groups(parts: Vec<Part>) -> Vec<Part>
 /// What is left is compared two by two, but for boxes of one group: so many that all overlap cost nothing where they are
 /// of one group. Where they aren't, each two of them are compared.
 ///
-/// Memory is some boxes' of 48 bytes each, for all and for the parts that wait.
+/// Memory is some boxes' of 48 bytes each, for all and for the parts that wait. The boxes and groups themselves end before
+/// they are parted.
 ///
 /// # Errors
 /// Memory ran out.
 pub fn all_of_two_groups_pass<T: PairTest>(
     alloc: Global,
     test: &T,
-    extents: &[Extent],
-    groups: &[u64],
+    extents: Vec<Extent>,
+    groups: Vec<u64>,
 ) -> Result<bool, AllocError>
-    requires { length groups.now ≡ length extents.now }
+    requires { length groups.items ≡ length extents.items }
     ensures passed { IfOk result (λ b. OnTrue b
-        (AllOfTwoGroupsPass (T.passes test.now) extents.now groups.now)) }
+        (AllOfTwoGroupsPass (T.passes test.now) extents.items groups.items)) }
     ensures failed { IfOk result (λ b. OnFalse b
-        (SomePairFails (T.passes test.now) (length extents.now))) }
+        (SomePairFails (T.passes test.now) (length extents.items))) }
 {
-    let parts = by_groups(parts_of(alloc, extents, groups)?);
-    passes_within(alloc, test, parts, MOST_LEVELS)
+    let parts = parts_of(alloc, extents.as_slice(), groups.as_slice())?;
+    drop(extents);
+    drop(groups);
+    passes_within(alloc, test, by_groups(parts), MOST_LEVELS)
 }

@@ -301,5 +301,5 @@ fn pass_in_groups<M: MapView>(
 {
     let boxes = boxes_of(alloc, items).ok()?;
     let groups = groups_of(alloc, map, points, items)?;
-    all_of_two_groups_pass(alloc, &Uncrossed { items }, &boxes, &groups).ok()
+    all_of_two_groups_pass(alloc, &Uncrossed { items }, boxes, groups).ok()
 }
