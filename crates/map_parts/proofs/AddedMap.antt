@@ -1,6 +1,6 @@
 -- A map with strings and a parcel more, however the strings lie: what it has, what its halves are, and
 -- the map without them again.
-use Rattle.std.proofs.Common.{◌≡◌, ◌≢◌, ℕ, true, sym, ap, subst, ◌∙◌, List, [], ◌∷◌, ◌++◌, map, length, None, is_some, nat_eq, arith}
+use Rattle.std.proofs.Common.{◌≡◌, ◌≢◌, ℕ, ◌+◌, true, false, sym, ap, subst, ◌∙◌, List, [], ◌∷◌, ◌++◌, map, length, None, is_some, nat_eq, arith}
 use Rattle.std.specs.Prelude.{IsSome}
 use Rattle.std.specs.List.{AllByRecursion, Contains, IsDistinct}
 use Rattle.cad_rows.specs.declared.names.Face.{Face}
@@ -8,19 +8,21 @@ use Rattle.cad_rows.specs.declared.names.Face.TheVariants.{Parcel}
 use Rattle.cad_rows.specs.declared.rows.ParcelRow.{ParcelRow}
 use Rattle.cad_rows.specs.declared.rows.StringRow.{StringRow}
 use Rattle.cad_rings.specs.Cycle.{Side}
+use Rattle.cad_rings.specs.Surgery.{sides_of_chain}
 use Rattle.cad_map.specs.declared.boundary.Boundary.{Boundary}
 use Rattle.cad_map.specs.Boundaries.{face_place}
-use Rattle.cad_map.specs.Map.{Map, string_of, parcel_of, side_of}
+use Rattle.cad_map.specs.Chain.{are_distinct, strings_along}
+use Rattle.cad_map.specs.Map.{Map, string_of, parcel_of, side_of, has_face}
 use Rattle.cad_map.specs.Rings.{HasWholeRings}
 use Rattle.cad_map.specs.Table.{without_row}
 use Rattle.cad_map.specs.Valid.{EachPair}
-use Rattle.cad_map.proofs.CallerLemmas.{All-append, All-follows, All-join}
+use Rattle.cad_map.proofs.CallerLemmas.{All-append, All-follows, All-join, numbers-strings_along, sides-strings_along, pairs-from_distinct}
 use Rattle.half_table.specs.declared.half.Half.{Half}
 use Rattle.half_table.specs.Half.{forward_of}
 use Rattle.half_table.specs.Rows.{HalfRows, has}
 use Rattle.half_paths.specs.Path.{AreIn, AreDifferent, strings_of}
 use Rattle.half_paths.specs.Loose.{numbers_of}
-use Rattle.key_lists.specs.Held.{Held, items_at, HasRoomAt}
+use Rattle.key_lists.specs.Held.{Held, items_at, capacity_at, HasRoomAt}
 use Rattle.map_parts.specs.declared.map_rows.MapRows.{MapRows}
 use Rattle.map_parts.specs.declared.stars.Spoke.{Spoke}
 use Rattle.map_parts.specs.Rows.{map_in}
@@ -51,6 +53,28 @@ pub record HaveCome (m now : Map) (numbers : List ℕ) (added : List StringRow) 
   pub path_is : path ≡ map forward_of numbers
   pub rows_now : record now { boundaries = [] } ≡ record m { strings = m.strings ++ added; parcels = m.parcels ++ row ∷ []; boundaries = [] }
 
+-- They are the strings along a chain, of one source.
+module _ (numbers chain : List ℕ) (source : ℕ) (as_many : length numbers + 1 ≡ length chain) {added : List StringRow} (are : added ≡ strings_along (source ∷ []) numbers chain) where
+  pub numbers-come : numbers_of added ≡ numbers
+  numbers-come = ap numbers_of are ∙ numbers-strings_along (source ∷ []) numbers chain as_many
+
+  pub sides-come : map side_of added ≡ sides_of_chain chain
+  sides-come = ap (map side_of) are ∙ sides-strings_along (source ∷ []) numbers chain as_many
+
+  pub chain-come : {m now : Map} {row : ParcelRow} {path : List Half} → HasWholeRings m → HasWholeRings now → AllByRecursion (λ n. string_of m n ≡ None) numbers → parcel_of m row.number ≡ None → are_distinct numbers ≡ true
+      → path ≡ map forward_of numbers → record now { boundaries = [] } ≡ record m { strings = m.strings ++ strings_along (source ∷ []) numbers chain; parcels = m.parcels ++ row ∷ []; boundaries = [] }
+      → HaveCome m now numbers added row path
+  chain-come {m} {row = row} whole parts strings_new parcel_new distinct path_is rows_now = record {
+    whole = whole;
+    parts = parts;
+    strings_new = strings_new;
+    parcel_new = parcel_new;
+    distinct = pairs-from_distinct numbers distinct;
+    numbered = numbers-come;
+    path_is = path_is;
+    rows_now = rows_now ∙ (λ i. record m { strings = m.strings ++ sym are i; parcels = m.parcels ++ row ∷ []; boundaries = [] });
+  }
+
 module _ {m now : Map} {numbers : List ℕ} {added : List StringRow} {row : ParcelRow} {path : List Half} (come : HaveCome m now numbers added row path) where
   -- so it is with the row as it is given
   pub given-come : (given : ParcelRow) → given.number ≡ row.number → given.label ≡ row.label → given.sources ≡ row.sources → HaveCome m now numbers added given path
@@ -68,6 +92,9 @@ module _ {m now : Map} {numbers : List ℕ} {added : List StringRow} {row : Parc
 
   pub named : strings_of path ≡ numbers_of added
   named = ap strings_of come.path_is ∙ strings-path numbers ∙ sym come.numbered
+
+  pub none : has_face m (Parcel row.number) ≡ false
+  none = ap is_some come.parcel_new
 
   pub numbers-differ : IsDistinct nat_eq (numbers_of added)
   numbers-differ = subst (IsDistinct nat_eq) (sym come.numbered) (numbers-distinct numbers come.distinct)
@@ -175,6 +202,21 @@ module _ {m now : Map} {numbers : List ℕ} {added : List StringRow} {row : Parc
 
     pub made-keeps : KeepsEach m table held
     made-keeps = fits.each-of m come.whole table held stars ready.fits.are_stars ready.fits.fits
+
+    pub made-none : items_at held (face_place inner) ≡ []
+    made-none = made-keeps.none inner (none come)
+
+    -- where so many halves more are kept of the two faces' rings there is room to hand them over, there and back
+    pub made-rooms : (put : Held Half) (more spare : ℕ) → more + spare ≡ 2 → ((n : ℕ) → capacity_at put n ≡ capacity_at held n)
+        → length (items_at put (face_place inner)) + length (items_at put (face_place face)) ≡ length (items_at held (face_place inner)) + length (items_at held (face_place face)) + more
+        → HasRoomAt put (face_place inner) (length (items_at put (face_place face))) × HasRoomAt put (face_place face) (length (items_at put (face_place inner)) + spare)
+    made-rooms put more spare two capacity count =
+        let own = capacity (face_place inner) in
+        let other = capacity (face_place face) in
+        let inner_had = ready.inner_room in
+        let outer_had = ready.outer_room in
+        let none = ap length made-none in
+        (omega (arith, two, count, own, inner_had), omega (arith, two, count, other, outer_had, none))
 
     pub made-ends : AllByRecursion (HasHalves table) now.strings
     made-ends = all-ends come table ready.there made-table.ends

@@ -46,20 +46,26 @@ use Rattle.map_parts.proofs.KeptEach.{is_boundary, boundary-same, boundary-self,
 use Rattle.map_parts.proofs.Handed.{placed-yes, placed-is}
 use Rattle.map_parts.proofs.HomesHanded.{handed-face, inner-never, homes-handed}
 use Rattle.map_parts.proofs.KeptIsland.{other_faces, under, halves-whole, halves-parted, other-differs, others-same}
+use Rattle.map_parts.proofs.ChainAcross.{first-along, last-along}
 use Rattle.map_parts.proofs.ChainRings.{HasRings, has-rings, one-in, handed-in, parted-cases, hands-differ, not-left, not-right, first-on, back-on, one-ring, other-shown}
 
-module _ (whole parted : Map) (outer inner : Face) (chain : List ℕ) (fc lc : Corner) (one left right : Boundary) (others : List Boundary)
+module _ {whole parted : Map} {outer inner : Face} {chain : List ℕ} {fc lc : Corner} {one left right : Boundary} {others : List Boundary}
     (it : IsChainOf whole parted outer inner chain fc lc one left right others) (rings : HasWholeRings whole) (parts : HasWholeRings parted) (long : 2 ≤ length chain)
-    (first : Half) (rest : List Half) (more : HasStringsMore whole parted (first ∷ rest)) (moved : List Half) (old new : HalfRows)
+    {first : Half} {rest : List Half} (more : HasStringsMore whole parted (first ∷ rest)) {moved : List Half} {old : HalfRows} (new : HalfRows)
     (origins : (g : Half) → origin_of new g ≡ origin_of old g) (fits : FitsTable parted old) (of : AreOfRings parted old moved inner others)
-    (along : AreAlong old (first ∷ rest) (sides_of_chain chain)) (first_side : side_by old first ≡ (start_of chain, next_of chain))
-    (last_side : side_by old (last_of first rest) ≡ (last_but_one chain, end_of chain))
+    (along : AreAlong old (first ∷ rest) (sides_of_chain chain))
     (faces_new : (g : Half) → face new g ≡ (if is_of (strings_of (first ∷ rest)) g then inner else if holds (cycle old first) g then outer else if on_cycles old moved g then outer else face old g)) where
   abbrev handed : Boundary → Boundary
   handed = handed_over outer inner
 
   abbrev path : List Half
   path = first ∷ rest
+
+  first_side : side_by old first ≡ (start_of chain, next_of chain)
+  first_side = first-along (side_by old) first rest chain long along
+
+  last_side : side_by old (last_of first rest) ≡ (last_but_one chain, end_of chain)
+  last_side = last-along (side_by old) first rest chain long along
 
   pub two-old : (h : Half) → IsShown parted h → origin_of old h ≢ origin_of old (twin h)
   two-old h shown = half-two (bare parted old) fits.ends (two-ends parted parts) h shown

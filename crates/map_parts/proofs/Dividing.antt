@@ -1,5 +1,5 @@
 -- A division of a map on half-edges that is made in place, and taken back.
-use Rattle.std.proofs.Common.{◌≡◌, ◌≢◌, ℕ, ◌≤◌, false, refl, sym, ap, arith, ◌∙◌, List, [], ◌∷◌, ◌++◌, map, length, is_some}
+use Rattle.std.proofs.Common.{◌≡◌, ◌≢◌, ℕ, ◌≤◌, false, refl, arith, List, [], ◌∷◌, ◌++◌, map, length}
 use Rattle.std.specs.List.{AllByRecursion}
 use Rattle.cad_rows.specs.declared.edits.Edit.TheVariants.{Divide}
 use Rattle.cad_rows.specs.declared.names.Face.{Face}
@@ -13,17 +13,17 @@ use Rattle.cad_map.specs.Chain.{start_of, end_of, leaving}
 use Rattle.cad_map.specs.Effects.{after}
 use Rattle.cad_map.specs.Map.{Map, side_of, has_face}
 use Rattle.cad_map.specs.Rings.{HasWholeRings}
-use Rattle.cad_map.proofs.CallerLemmas.{CanDivide as IsAllowed, can-divide, allowed, whole_valid, ends-differ, numbers-strings_along, sides-strings_along, pairs-from_distinct}
+use Rattle.cad_map.proofs.CallerLemmas.{CanDivide as IsAllowed, can-divide, allowed, whole_valid, ends-differ, pairs-from_distinct}
 use Rattle.half_table.specs.declared.half.Half.{Half}
-use Rattle.half_table.specs.Rows.{HalfRows, IsLinked}
+use Rattle.half_table.specs.Rows.{HalfRows}
 use Rattle.half_paths.specs.Path.{AreDifferent}
-use Rattle.half_paths.specs.Loose.{AddsStrings, numbers_of}
-use Rattle.key_lists.specs.Held.{Held, IsSame, items_at}
+use Rattle.half_paths.specs.Loose.{numbers_of}
+use Rattle.key_lists.specs.Held.{Held, IsSame}
 use Rattle.cad_laws.specs.Faces.{left_of_chain, right_of_chain}
 use Rattle.cad_laws.proofs.CallerLemmas.{whole-after}
 use Rattle.map_parts.specs.declared.map_rows.MapRows.{MapRows}
 use Rattle.map_parts.specs.declared.stars.Spoke.{Spoke}
-use Rattle.map_parts.specs.Adding.{HasRoomToCome, HasRoomToExchange, IsSeenAs}
+use Rattle.map_parts.specs.Adding.{AreAdded, HasRoomToExchange}
 use Rattle.map_parts.specs.Parts.{HasHalves}
 use Rattle.map_parts.specs.Paths.{AreAlong, HasStringsMore}
 use Rattle.map_parts.specs.Islands.{AreOfRings}
@@ -69,9 +69,6 @@ module _ (m : Map) (face : Face) (numbers : List ℕ) (added : List StringRow) (
   pub two : HaveTwoFaces m now face inner
   two = tried-faces m face is.chain numbers parcel is.label is.source is.tried
 
-  pub none : has_face m inner ≡ false
-  none = ap is_some can.rows.parcel_new
-
   pub places-differ : face_place face ≢ face_place inner
   places-differ same = chain-of.differ (place-same face inner same)
 
@@ -82,26 +79,20 @@ module _ (m : Map) (face : Face) (numbers : List ℕ) (added : List StringRow) (
   chain-apart = ends-differ m is.tried.valid face is.chain numbers parcel is.label is.source can
 
   pub numbered : numbers_of added ≡ numbers
-  numbered = ap numbers_of is.added_are ∙ numbers-strings_along (is.source ∷ []) numbers is.chain can.as_many
+  numbered = added_map.numbers-come numbers is.chain is.source can.as_many is.added_are
 
   abbrev row : ParcelRow
   row = record { number = parcel; label = is.label; sources = is.source ∷ [] }
 
   pub come : HaveCome m now numbers added row path
   unfolding after
-  come = record {
-    whole = whole;
-    parts = parts;
-    strings_new = can.rows.strings_new;
-    parcel_new = can.rows.parcel_new;
-    distinct = pairs-from_distinct numbers can.rows.strings_distinct;
-    numbered = numbered;
-    path_is = is.path_is;
-    rows_now = λ i. record m { strings = m.strings ++ sym is.added_are i; parcels = m.parcels ++ row ∷ []; boundaries = [] };
-  }
+  come = added_map.chain-come numbers is.chain is.source can.as_many is.added_are whole parts can.rows.strings_new can.rows.parcel_new can.rows.strings_distinct is.path_is refl
 
   pub strings-are : now.strings ≡ m.strings ++ added
   strings-are = added_map.strings-are come
+
+  pub none : has_face m inner ≡ false
+  none = added_map.none come
 
   pub more : HasStringsMore m now path
   more = added_map.more come
@@ -110,7 +101,7 @@ module _ (m : Map) (face : Face) (numbers : List ℕ) (added : List StringRow) (
   different = added_map.different come
 
   pub sides-added : map side_of added ≡ sides_of_chain is.chain
-  sides-added = ap (map side_of) is.added_are ∙ sides-strings_along (is.source ∷ []) numbers is.chain can.as_many
+  sides-added = added_map.sides-come numbers is.chain is.source can.as_many is.added_are
 
   pub along : (rows : HalfRows) → AllByRecursion (HasHalves rows) added → AreAlong rows path (sides_of_chain is.chain)
   along rows ends = added_map.along come rows ends (sides_of_chain is.chain) sides-added
@@ -142,95 +133,68 @@ module _ (m : Map) (face : Face) (numbers : List ℕ) (added : List StringRow) (
 
 module _ {face : Face} {added : List StringRow} {parcel : ParcelRow} {first : Half} {rest : List Half} {start end : Half} {moved : List Half} {rows : MapRows} {table : HalfRows}
     {held : Held Half} {stars : Held Spoke} (c : CanBeginDivide face added parcel (first ∷ rest) start end moved rows table held stars) where
-  abbrev m : Map
-  m = c.map
-
-  abbrev path : List Half
-  path = first ∷ rest
-
-  abbrev new_face : Face
-  new_face = Parcel parcel.number
-
-  abbrev ns : List ℕ
-  ns = c.numbers
-
   long : 2 ≤ length c.is.chain
-  long = chain-long m face ns added parcel.number path c.is
+  long = chain-long c.map face c.numbers added parcel.number (first ∷ rest) c.is
 
-  pub made-come : HaveCome m (divided c.is) ns added parcel path
-  made-come = added_map.given-come (come m face ns added parcel.number path c.is) parcel refl c.label_is c.sources_are
+  pub made-come : HaveCome c.map (divided c.is) c.numbers added parcel (first ∷ rest)
+  made-come = added_map.given-come (come c.map face c.numbers added parcel.number (first ∷ rest) c.is) parcel refl c.label_is c.sources_are
 
-  module _ {more_rows : MapRows} {new : HalfRows} {wide : Held Half} {filled : Held Spoke} (seen : IsSeenAs rows more_rows held wide stars filled)
-      (room : HasRoomToCome added face parcel.number more_rows wide filled) (adds : AddsStrings added table new) (linked : IsLinked new) where
-    pub made-ready : AreReady m added face parcel.number path more_rows new wide filled
+  module _ {more_rows : MapRows} {new : HalfRows} {wide : Held Half} {filled : Held Spoke}
+      (grown : AreAdded added face parcel.number rows more_rows table new held wide stars filled) where
+    pub made-ready : AreReady c.map added face parcel.number (first ∷ rest) more_rows new wide filled
     made-ready =
-        ready m added face parcel.number path c.fits c.new (added_map.named made-come)
-        (chain_ends-room added c.is.chain long (pairs-from_distinct c.is.chain (can m face ns added parcel.number path c.is).points_distinct) (sides-added m face ns added parcel.number path c.is) filled room.ends)
-        seen room adds linked
+        ready c.map added face parcel.number (first ∷ rest) c.fits c.new (added_map.named made-come)
+        (chain_ends-room added c.is.chain long (pairs-from_distinct c.is.chain (can c.map face c.numbers added parcel.number (first ∷ rest) c.is).points_distinct) (sides-added c.map face c.numbers added parcel.number (first ∷ rest) c.is) filled grown.room.ends)
+        grown
 
-    pub made-moved : AreOfRings (divided c.is) new moved new_face (rings_beside c.is)
-    made-moved = of-still c.new adds (divided c.is) moved new_face (rings_beside c.is) c.moved_in c.moved_are
+    pub made-moved : AreOfRings (divided c.is) new moved (Parcel parcel.number) (rings_beside c.is)
+    made-moved = of-still c.new grown.adds (divided c.is) moved (Parcel parcel.number) (rings_beside c.is) c.moved_in c.moved_are
 
-    start_on : IsAlong m new (leaving c.is.first) start
-    start_on = along-still c.new adds m (leaving c.is.first) start c.start_on
+    start_on : IsAlong c.map new (leaving c.is.first) start
+    start_on = along-still c.new grown.adds c.map (leaving c.is.first) start c.start_on
 
-    end_on : IsAlong m new (leaving c.is.last) end
-    end_on = along-still c.new adds m (leaving c.is.last) end c.end_on
+    end_on : IsAlong c.map new (leaving c.is.last) end
+    end_on = along-still c.new grown.adds c.map (leaving c.is.last) end c.end_on
 
-    abbrev with_chain : HasChainMore m (divided c.is) face new_face path moved new
-    with_chain = across m face ns added parcel.number path c.is new moved (along m face ns added parcel.number path c.is new made-ready.there) made-moved
+    abbrev with_chain : HasChainMore c.map (divided c.is) face (Parcel parcel.number) (first ∷ rest) moved new
+    with_chain = across c.map face c.numbers added parcel.number (first ∷ rest) c.is new moved (along c.map face c.numbers added parcel.number (first ∷ rest) c.is new made-ready.there) made-moved
 
-    pub made-can : CanBringAcross first rest start end face new_face moved new wide
+    pub made-can : CanBringAcross first rest start end face (Parcel parcel.number) moved new wide
     made-can = record {
-      path = added_map.can-bring made-come made-ready moved (rings_beside c.is) made-moved (places-differ m face ns added parcel.number path c.is);
-      place = place-across with_chain (chain-apart m face ns added parcel.number path c.is) start_on end_on;
+      path = added_map.can-bring made-come made-ready moved (rings_beside c.is) made-moved (places-differ c.map face c.numbers added parcel.number (first ∷ rest) c.is);
+      place = place-across with_chain (chain-apart c.map face c.numbers added parcel.number (first ∷ rest) c.is) start_on end_on;
     }
 
-    pub made-none : items_at wide (face_place new_face) ≡ []
-    made-none = (added_map.made-keeps made-come made-ready).none new_face (none m face ns added parcel.number path c.is)
-
     -- so the table goes with the map after it
-    pub made-table : (done : HalfRows) (put : Held Half) → GoesWithChain path start end face new_face moved new wide done put → GoesWith (divided c.is) done put
+    pub made-table : (done : HalfRows) (put : Held Half) → GoesWithChain (first ∷ rest) start end face (Parcel parcel.number) moved new wide done put → GoesWith (divided c.is) done put
     made-table done put brings =
-        brings m (divided c.is) with_chain (none m face ns added parcel.number path c.is)
+        brings c.map (divided c.is) with_chain (none c.map face c.numbers added parcel.number (first ∷ rest) c.is)
         (added_map.made-ends made-come made-ready) start_on end_on (added_map.made-table made-come made-ready, added_map.made-keeps made-come made-ready)
 
 -- ---- It is taken back
 
 module _ {face : Face} {ns : List ℕ} {parcel : ℕ} {first : Half} {rest moved : List Half} {rows : MapRows} {table : HalfRows}
     {held : Held Half} {stars : Held Spoke} (c : CanUndivide face ns parcel (first ∷ rest) moved rows table held stars) where
-  abbrev gone_path : List Half
-  gone_path = first ∷ rest
+  pub gone-come : HaveCome c.map (divided c.is) ns c.added (row c.map face ns c.added parcel (first ∷ rest) c.is) (first ∷ rest)
+  gone-come = come c.map face ns c.added parcel (first ∷ rest) c.is
 
-  abbrev old : Map
-  old = c.map
-
-  abbrev last : Map
-  last = divided c.is
-
-  abbrev gone_face : Face
-  gone_face = Parcel parcel
-
-  pub gone-come : HaveCome old last ns c.added (row old face ns c.added parcel gone_path c.is) gone_path
-  gone-come = come old face ns c.added parcel gone_path c.is
-
-  chain_gone : HasChainMore old last face gone_face gone_path moved table
+  chain_gone : HasChainMore c.map (divided c.is) face (Parcel parcel) (first ∷ rest) moved table
   chain_gone =
-      across old face ns c.added parcel gone_path c.is table moved (along old face ns c.added parcel gone_path c.is table (added_map.gone-ends gone-come c.fits).1) c.moved_are
+      across c.map face ns c.added parcel (first ∷ rest) c.is table moved (along c.map face ns c.added parcel (first ∷ rest) c.is table (added_map.gone-ends gone-come c.fits).1) c.moved_are
 
-  pub gone-can : CanTakeAcross first rest face gone_face moved table held
+  pub gone-can : CanTakeAcross first rest face (Parcel parcel) moved table held
   gone-can = record {
     path =
-        added_map.can-take gone-come c.fits face moved (rings_beside c.is) c.moved_are (places-differ old face ns c.added parcel gone_path c.is) c.inner_room
+        added_map.can-take gone-come c.fits face moved (rings_beside c.is) c.moved_are (places-differ c.map face ns c.added parcel (first ∷ rest) c.is) c.inner_room
         (let more = c.outer_room in omega (arith, more));
     tied = tied-across chain_gone c.fits.fits.local;
     one_more = c.outer_room;
   }
 
   -- the table goes with the map before it
-  pub gone-table : (wide : HalfRows) (put : Held Half) → GoesWithoutChain gone_path face gone_face moved table held wide put → GoesWith old wide put
+  pub gone-table : (wide : HalfRows) (put : Held Half) → GoesWithoutChain (first ∷ rest) face (Parcel parcel) moved table held wide put → GoesWith c.map wide put
   gone-table wide put takes =
-      takes old last chain_gone
+      takes c.map (divided c.is) chain_gone
       (added_map.gone-ends gone-come c.fits).0 (added_map.gone-table gone-come c.fits, added_map.gone-keeps gone-come c.fits)
 
 -- room to exchange kept halves is room for the way back

@@ -1,5 +1,5 @@
 -- An enclosure of a map on half-edges that is made in place, and taken back.
-use Rattle.std.proofs.Common.{◌≡◌, ◌≢◌, ℕ, ◌+◌, ◌≤◌, false, refl, sym, ap, ◌∙◌, List, [], ◌∷◌, ◌++◌, map, reverse, length, is_some, arith}
+use Rattle.std.proofs.Common.{◌≡◌, ◌≢◌, ℕ, ◌+◌, ◌≤◌, false, refl, ◌∙◌, List, [], ◌∷◌, ◌++◌, map, reverse, length, arith}
 use Rattle.std.specs.List.{AllByRecursion}
 use Rattle.std.proofs.lemmas.List.{length-append}
 use Rattle.cad_rows.specs.declared.edits.Edit.TheVariants.{Enclose}
@@ -15,17 +15,17 @@ use Rattle.cad_map.specs.Chain.{start_of}
 use Rattle.cad_map.specs.Effects.{after}
 use Rattle.cad_map.specs.Map.{Map, side_of, has_face}
 use Rattle.cad_map.specs.Rings.{HasWholeRings}
-use Rattle.cad_map.proofs.CallerLemmas.{CanEnclose as IsAllowed, can-enclose, allowed, whole_valid, numbers-strings_along, sides-strings_along, pairs-from_distinct}
+use Rattle.cad_map.proofs.CallerLemmas.{CanEnclose as IsAllowed, can-enclose, allowed, whole_valid, pairs-from_distinct}
 use Rattle.half_table.specs.declared.half.Half.{Half}
-use Rattle.half_table.specs.Rows.{HalfRows, IsLinked}
+use Rattle.half_table.specs.Rows.{HalfRows}
 use Rattle.half_paths.specs.Path.{AreDifferent}
-use Rattle.half_paths.specs.Loose.{AddsStrings, numbers_of}
-use Rattle.key_lists.specs.Held.{Held, IsSame, items_at}
+use Rattle.half_paths.specs.Loose.{numbers_of}
+use Rattle.key_lists.specs.Held.{Held, IsSame}
 use Rattle.cad_laws.specs.Local.{IsShown, side_by}
 use Rattle.cad_laws.proofs.CallerLemmas.{whole-after}
 use Rattle.map_parts.specs.declared.map_rows.MapRows.{MapRows}
 use Rattle.map_parts.specs.declared.stars.Spoke.{Spoke}
-use Rattle.map_parts.specs.Adding.{HasRoomToCome, HasRoomToExchange, IsSeenAs}
+use Rattle.map_parts.specs.Adding.{AreAdded, HasRoomToExchange}
 use Rattle.map_parts.specs.Parts.{HasHalves}
 use Rattle.map_parts.specs.Paths.{AreAlong, HasStringsMore}
 use Rattle.map_parts.specs.Islands.{AreOfRings, IsIslandOf}
@@ -72,9 +72,6 @@ module _ (m : Map) (face : Face) (numbers : List ℕ) (added : List StringRow) (
   pub two : HaveTwoFaces m now face inner
   two = tried-faces m face is.points numbers parcel is.label is.source is.tried
 
-  pub none : has_face m inner ≡ false
-  none = ap is_some can.rows.parcel_new
-
   pub places-differ : face_place face ≢ face_place inner
   places-differ same = island.differ (place-same face inner same)
 
@@ -85,23 +82,18 @@ module _ (m : Map) (face : Face) (numbers : List ℕ) (added : List StringRow) (
       omega (arith, e, as_many)
 
   pub numbered : numbers_of added ≡ numbers
-  numbered = ap numbers_of is.added_are ∙ numbers-strings_along (is.source ∷ []) numbers (is.points ++ start_of is.points ∷ []) closed_long
+  numbered = added_map.numbers-come numbers (is.points ++ start_of is.points ∷ []) is.source closed_long is.added_are
 
   abbrev row : ParcelRow
   row = record { number = parcel; label = is.label; sources = is.source ∷ [] }
 
   pub come : HaveCome m now numbers added row path
   unfolding after
-  come = record {
-    whole = whole;
-    parts = parts;
-    strings_new = can.rows.strings_new;
-    parcel_new = can.rows.parcel_new;
-    distinct = pairs-from_distinct numbers can.rows.strings_distinct;
-    numbered = numbered;
-    path_is = is.path_is;
-    rows_now = λ i. record m { strings = m.strings ++ sym is.added_are i; parcels = m.parcels ++ row ∷ []; boundaries = [] };
-  }
+  come =
+      added_map.chain-come numbers (is.points ++ start_of is.points ∷ []) is.source closed_long is.added_are whole parts can.rows.strings_new can.rows.parcel_new can.rows.strings_distinct is.path_is refl
+
+  pub none : has_face m inner ≡ false
+  none = added_map.none come
 
   pub more : HasStringsMore m now path
   more = added_map.more come
@@ -111,7 +103,7 @@ module _ (m : Map) (face : Face) (numbers : List ℕ) (added : List StringRow) (
 
   sides-added : map side_of added ≡ sides_of is.points
   sides-added =
-      ap (map side_of) is.added_are ∙ sides-strings_along (is.source ∷ []) numbers (is.points ++ start_of is.points ∷ []) closed_long
+      added_map.sides-come numbers (is.points ++ start_of is.points ∷ []) is.source closed_long is.added_are
       ∙ closed-sides is.points (let long = can.long in omega (arith, long))
 
   pub along : (rows : HalfRows) → AllByRecursion (HasHalves rows) added → AreAlong rows path (sides_of is.points)
@@ -140,87 +132,60 @@ module _ (m : Map) (face : Face) (numbers : List ℕ) (added : List StringRow) (
 
 module _ {face : Face} {added : List StringRow} {parcel : ParcelRow} {first : Half} {rest moved : List Half} {rows : MapRows} {table : HalfRows}
     {held : Held Half} {stars : Held Spoke} (c : CanBeginEnclose face added parcel (first ∷ rest) moved rows table held stars) where
-  abbrev all_path : List Half
-  all_path = first ∷ rest
+  pub made-come : HaveCome c.map (enclosed c.is) c.numbers added parcel (first ∷ rest)
+  made-come = added_map.given-come (come c.map face c.numbers added parcel.number (first ∷ rest) c.is) parcel refl c.label_is c.sources_are
 
-  abbrev m : Map
-  m = c.map
-
-  abbrev new_face : Face
-  new_face = Parcel parcel.number
-
-  abbrev ns : List ℕ
-  ns = c.numbers
-
-  pub made-come : HaveCome m (enclosed c.is) ns added parcel all_path
-  made-come = added_map.given-come (come m face ns added parcel.number all_path c.is) parcel refl c.label_is c.sources_are
-
-  module _ {more_rows : MapRows} {new : HalfRows} {wide : Held Half} {filled : Held Spoke} (seen : IsSeenAs rows more_rows held wide stars filled)
-      (room : HasRoomToCome added face parcel.number more_rows wide filled) (adds : AddsStrings added table new) (linked : IsLinked new) where
-    pub made-ready : AreReady m added face parcel.number all_path more_rows new wide filled
+  module _ {more_rows : MapRows} {new : HalfRows} {wide : Held Half} {filled : Held Spoke}
+      (grown : AreAdded added face parcel.number rows more_rows table new held wide stars filled) where
+    pub made-ready : AreReady c.map added face parcel.number (first ∷ rest) more_rows new wide filled
     made-ready =
-        ready m added face parcel.number all_path c.fits c.new (added_map.named made-come)
-        (ring_ends-room added c.is.points (pairs-from_distinct c.is.points (can m face ns added parcel.number all_path c.is).points_distinct) (sides-added m face ns added parcel.number all_path c.is) filled room.ends)
-        seen room adds linked
+        ready c.map added face parcel.number (first ∷ rest) c.fits c.new (added_map.named made-come)
+        (ring_ends-room added c.is.points (pairs-from_distinct c.is.points (can c.map face c.numbers added parcel.number (first ∷ rest) c.is).points_distinct) (sides-added c.map face c.numbers added parcel.number (first ∷ rest) c.is) filled grown.room.ends)
+        grown
 
     -- old halves lead along the sides along which they led
-    pub made-side : (h : Half) → IsShown m h → side_by new h ≡ side_by table h
-    made-side h shown = still-side c.new adds h (c.fits.fits.local.there h shown)
+    pub made-side : (h : Half) → IsShown c.map h → side_by new h ≡ side_by table h
+    made-side h shown = still-side c.new grown.adds h (c.fits.fits.local.there h shown)
 
-    pub made-moved : AreOfRings (enclosed c.is) new moved new_face (rings_placed c.is)
+    pub made-moved : AreOfRings (enclosed c.is) new moved (Parcel parcel.number) (rings_placed c.is)
     made-moved =
-        holes-placed m (enclosed c.is) made-come.whole face new_face c.is.points (none m face ns added parcel.number all_path c.is)
-        (λ h there. more-old m (enclosed c.is) all_path (added_map.more made-come) h there) table new made-side moved c.holes
+        holes-placed c.map (enclosed c.is) made-come.whole face (Parcel parcel.number) c.is.points (none c.map face c.numbers added parcel.number (first ∷ rest) c.is)
+        (λ h there. more-old c.map (enclosed c.is) (first ∷ rest) (added_map.more made-come) h there) table new made-side moved c.holes
 
-    pub made-can : CanBring first rest face new_face moved new wide
-    made-can = added_map.can-bring made-come made-ready moved (rings_placed c.is) made-moved (places-differ m face ns added parcel.number all_path c.is)
-
-    pub made-none : items_at wide (face_place new_face) ≡ []
-    made-none = (added_map.made-keeps made-come made-ready).none new_face (none m face ns added parcel.number all_path c.is)
+    pub made-can : CanBring first rest face (Parcel parcel.number) moved new wide
+    made-can = added_map.can-bring made-come made-ready moved (rings_placed c.is) made-moved (places-differ c.map face c.numbers added parcel.number (first ∷ rest) c.is)
 
     -- so the table goes with the map after it
-    pub made-table : (done : HalfRows) (put : Held Half) → GoesWithIsland all_path face new_face moved new wide done put → GoesWith (enclosed c.is) done put
+    pub made-table : (done : HalfRows) (put : Held Half) → GoesWithIsland (first ∷ rest) face (Parcel parcel.number) moved new wide done put → GoesWith (enclosed c.is) done put
     made-table done put brings =
-        brings m (enclosed c.is)
-        (inside m face ns added parcel.number all_path c.is new moved (along m face ns added parcel.number all_path c.is new made-ready.there) made-moved)
-        (none m face ns added parcel.number all_path c.is) (added_map.made-ends made-come made-ready)
+        brings c.map (enclosed c.is)
+        (inside c.map face c.numbers added parcel.number (first ∷ rest) c.is new moved (along c.map face c.numbers added parcel.number (first ∷ rest) c.is new made-ready.there) made-moved)
+        (none c.map face c.numbers added parcel.number (first ∷ rest) c.is) (added_map.made-ends made-come made-ready)
         (added_map.made-table made-come made-ready, added_map.made-keeps made-come made-ready)
 
 -- ---- It is taken back
 
 module _ {face : Face} {ns : List ℕ} {parcel : ℕ} {first : Half} {rest moved : List Half} {rows : MapRows} {table : HalfRows}
     {held : Held Half} {stars : Held Spoke} (c : CanOpen face ns parcel (first ∷ rest) moved rows table held stars) where
-  abbrev path : List Half
-  path = first ∷ rest
+  pub gone-come : HaveCome c.map (enclosed c.is) ns c.added (row c.map face ns c.added parcel (first ∷ rest) c.is) (first ∷ rest)
+  gone-come = come c.map face ns c.added parcel (first ∷ rest) c.is
 
-  abbrev old : Map
-  old = c.map
-
-  abbrev last : Map
-  last = enclosed c.is
-
-  abbrev gone_face : Face
-  gone_face = Parcel parcel
-
-  pub gone-come : HaveCome old last ns c.added (row old face ns c.added parcel path c.is) path
-  gone-come = come old face ns c.added parcel path c.is
-
-  abbrev island_gone : HasIslandMore old last face gone_face path moved table
-  island_gone = inside old face ns c.added parcel path c.is table moved (along old face ns c.added parcel path c.is table (added_map.gone-ends gone-come c.fits).1) c.moved_are
+  abbrev island_gone : HasIslandMore c.map (enclosed c.is) face (Parcel parcel) (first ∷ rest) moved table
+  island_gone = inside c.map face ns c.added parcel (first ∷ rest) c.is table moved (along c.map face ns c.added parcel (first ∷ rest) c.is table (added_map.gone-ends gone-come c.fits).1) c.moved_are
 
   long : 2 ≤ length c.is.points
-  long = let three = (can old face ns c.added parcel path c.is).long in omega (arith, three)
+  long = let three = (can c.map face ns c.added parcel (first ∷ rest) c.is).long in omega (arith, three)
 
-  pub gone-can : CanTakeOut first rest face gone_face moved table held
+  pub gone-can : CanTakeOut first rest face (Parcel parcel) moved table held
   gone-can = record {
-    path = added_map.can-take gone-come c.fits face moved (rings_placed c.is) c.moved_are (places-differ old face ns c.added parcel path c.is) c.inner_room c.outer_room;
+    path = added_map.can-take gone-come c.fits face moved (rings_placed c.is) c.moved_are (places-differ c.map face ns c.added parcel (first ∷ rest) c.is) c.inner_room c.outer_room;
     round = round-inside island_gone long c.fits.fits.local;
   }
 
   -- the table goes with the map before it
-  pub gone-table : (wide : HalfRows) (put : Held Half) → GoesWithoutIsland path face gone_face moved table held wide put → GoesWith old wide put
+  pub gone-table : (wide : HalfRows) (put : Held Half) → GoesWithoutIsland (first ∷ rest) face (Parcel parcel) moved table held wide put → GoesWith c.map wide put
   gone-table wide put takes =
-      takes old last island_gone long
+      takes c.map (enclosed c.is) island_gone long
       (added_map.gone-ends gone-come c.fits).0 (added_map.gone-table gone-come c.fits, added_map.gone-keeps gone-come c.fits)
 
 -- room to exchange kept halves is room for the way back

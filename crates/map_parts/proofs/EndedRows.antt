@@ -1,7 +1,6 @@
 -- A parcel and strings that went from the rows of a map come back.
-use Rattle.std.proofs.Common.{◌≡◌, ◌≢◌, ℕ, ◌≤◌, ◌==◌, true, false, refl, sym, ap, subst, ◌∙◌, List, [], ◌∷◌, ◌++◌, map, length, insert, None, arith}
-use Rattle.std.specs.Prelude.{IsSome}
-use Rattle.std.specs.List.{AllByRecursion, list_any}
+use Rattle.std.proofs.Common.{◌≡◌, ◌≢◌, ℕ, ◌≤◌, ◌==◌, true, false, refl, ap, subst, ◌∙◌, List, [], ◌∷◌, ◌++◌, length, insert, None, arith}
+use Rattle.std.specs.List.{list_any}
 use Rattle.std.proofs.lemmas.Cmp.{nat_eq_equiv}
 use Rattle.std.proofs.lemmas.List.Elements.{Contains-append_right}
 use Rattle.std.proofs.lemmas.List.Sorted.{length_permutation}
@@ -9,8 +8,7 @@ use Rattle.std.proofs.lemmas.Option.{slice_get_within}
 use Rattle.cad_rows.specs.declared.rows.ParcelRow.{ParcelRow}
 use Rattle.cad_rows.specs.declared.rows.StringRow.{StringRow}
 use Rattle.cad_map.specs.Map.{Map, parcel_of, is_retired}
-use Rattle.cad_map.specs.Table.{row_with, without_row}
-use Rattle.cad_map.specs.Valid.{EachPair}
+use Rattle.cad_map.specs.Table.{without_row}
 use Rattle.cad_map.proofs.CallerLemmas.{All-from_each, All-at_each, list_any-Contains, Contains-first}
 use Rattle.key_lists.specs.Held.{Held}
 use Rattle.cad_laws.proofs.CallerLemmas.{found-at}
@@ -21,22 +19,9 @@ use Rattle.map_parts.specs.Merging.{CanComeBack}
 use Rattle.map_parts.specs.PlacedStrings.{CanPutPlaced}
 use Rattle.map_parts.specs.Rows.{map_in}
 use Rattle.map_parts.specs.Splitting.{AreStarsOf}
-use Rattle.map_parts.specs.StringRows.{CanTakeStrings}
 use Rattle.map_parts.proofs.MergedRows.{stood-there}
 use Rattle.map_parts.proofs.Passing.SplitBetween.{row-first}
 use Rattle.map_parts.proofs.Passing.SplitUndone.{insert-back, none-without}
-
--- strings can go from rows that have the same strings
-pub take-same : {numbers : List ℕ} {rows : MapRows} {stars : Held Spoke} (left : MapRows) → (map_in left).strings ≡ (map_in rows).strings → CanTakeStrings numbers rows stars → CanTakeStrings numbers left stars
-take-same {numbers = numbers} {stars = stars} left same can =
-    let back = sym same in
-    record {
-      there = subst (λ (l : List StringRow). AllByRecursion (λ n. IsSome (row_with (λ (s : StringRow). s.number) n l)) numbers) back can.there;
-      differ = can.differ;
-      numbers_differ = subst (λ (l : List StringRow). EachPair (λ a b. a ≢ b) (map (λ (s : StringRow). s.number) l)) back can.numbers_differ;
-      two = subst (AllByRecursion (λ (s : StringRow). s.from ≢ s.to)) back can.two;
-      are = subst (λ (l : List StringRow). AreStarsOf l stars) back can.are;
-    }
 
 module _ {row : ParcelRow} {place : ℕ} {gone : List PlacedString} {rows : MapRows} {stars : Held Spoke} (can : CanComeBack row place gone rows stars) where
   abbrev pub put-can : CanPutPlaced gone rows stars

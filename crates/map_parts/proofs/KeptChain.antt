@@ -38,10 +38,10 @@ use Rattle.map_parts.proofs.HomesHanded.{handed-face, homes-back}
 use Rattle.map_parts.proofs.KeptIsland.{other_faces, under, halves-whole, halves-parted, others-same}
 use Rattle.map_parts.proofs.ChainRings.{HasRings, has-rings, one-in, whole-cases, hands-differ, not-one, not-left, first-on, back-on, two-rings}
 
-module _ (whole parted : Map) (outer inner : Face) (chain : List ℕ) (fc lc : Corner) (one left right : Boundary) (others : List Boundary)
+module _ {whole parted : Map} {outer inner : Face} {chain : List ℕ} {fc lc : Corner} {one left right : Boundary} {others : List Boundary}
     (it : IsChainOf whole parted outer inner chain fc lc one left right others) (rings : HasWholeRings whole) (parts : HasWholeRings parted) (long : 2 ≤ length chain)
-    (two : HaveTwoFaces whole parted outer inner) (none : has_face whole inner ≡ false) (first : Half) (rest : List Half) (more : HasStringsMore whole parted (first ∷ rest))
-    (old mid new : HalfRows) (origins_mid : (g : Half) → origin_of mid g ≡ origin_of old g) (origins : (g : Half) → origin_of new g ≡ origin_of mid g)
+    (two : HaveTwoFaces whole parted outer inner) (none : has_face whole inner ≡ false) {first : Half} {rest : List Half} (more : HasStringsMore whole parted (first ∷ rest))
+    {old mid new : HalfRows} (origins_mid : (g : Half) → origin_of mid g ≡ origin_of old g) (origins : (g : Half) → origin_of new g ≡ origin_of mid g)
     (fits : FitsTable whole old) (local : IsLocal parted mid) (apart : (h : Half) → IsShown parted h → origin_of mid h ≢ origin_of mid (twin h)) (fits_new : FitsTable parted new)
     (along : AreAlong mid (first ∷ rest) (sides_of_chain chain))
     (faces_mid : (g : Half) → face mid g ≡ (if holds (cycle mid first) g then inner else if is_of (strings_of (first ∷ rest)) g then outer else face old g))

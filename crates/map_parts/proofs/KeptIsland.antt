@@ -235,6 +235,13 @@ items-of key n old new keeps away = ap (λ (o : Option (Kept _)). unwrap_or (opt
 pub capacity-of : {X : Type 0} (key n : ℕ) (old new : Held X) → KeepsOthers key old new → ¬ (key ≡ n) → capacity_at new n ≡ capacity_at old n
 capacity-of key n old new keeps away = ap (λ (o : Option (Kept _)). unwrap_or (option_map (λ list. list.capacity) o) 0) (keeps n away)
 
+-- once the list under a key is cleared there is none, and as many are under another as were
+pub cleared : {X : Type 0} (key k n : ℕ) (old new : Held X) → key ≡ k → n ≢ k → KeepsOthers key old new → items_at new key ≡ []
+    → (items_at new n ≡ items_at old n) × (length (items_at new n) ≡ length (items_at old n)) × (length (items_at new k) ≡ 0)
+cleared key k n old new is apart keeps none =
+    let same = items-of key n old new keeps (λ e. apart (sym e ∙ is)) in
+    (same, ap length same, ap length (subst (λ (j : ℕ). items_at new j ≡ []) is none))
+
 -- a call that keeps the room under one key, and the lists under others, keeps the room under all
 pub put-capacity : {X : Type 0} (key n : ℕ) (old new : Held X) → KeepsOthers key old new → capacity_at new key ≡ capacity_at old key → capacity_at new n ≡ capacity_at old n
 put-capacity key n old new keeps own = by (key == n) refl

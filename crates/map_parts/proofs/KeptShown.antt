@@ -76,6 +76,11 @@ module _ (m : Map) (old new : HalfRows) (has_same : (h : Half) → IsShown m h �
     all = kept.all;
   }
 
+-- so a table that goes with a map does so still where every half is as it was
+pub local-same : (m : Map) (old new : HalfRows) → ((h : Half) → has new h ≡ has old h) → ((h : Half) → next new h ≡ next old h) → ((h : Half) → origin_of new h ≡ origin_of old h)
+    → IsLinked new → IsLocal m old → IsLocal m new
+local-same m old new halves links origins = local-kept m old new (λ h shown. halves h) (λ h shown. links h) (λ h shown. origins h)
+
 -- ---- A whole map with another table
 
 module _ (d : Parts) (table : Table) (linked : IsLinked table.rows) (keeps : KeepsShown (map_of d) d.table.rows table.rows) where

@@ -17,6 +17,7 @@ pub mod KeptShown
 pub mod AlongPaths
 pub mod IslandTable
 pub mod RelabelledEach
+pub mod TicksAdded
 pub mod RingCycles
 pub mod IslandFaces
 pub mod IslandFits

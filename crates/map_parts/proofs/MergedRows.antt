@@ -21,7 +21,6 @@ use Rattle.half_table.specs.declared.half.Half.{Half}
 use Rattle.half_table.specs.Rows.{HalfRows, has, next}
 use Rattle.half_paths.specs.Path.{AreIn, AreDifferent, strings_of}
 use Rattle.half_paths.specs.Loose.{AreLoose, numbers_of}
-use Rattle.entry_list.specs.Slots.{HasSlot}
 use Rattle.key_lists.specs.Held.{Held, items_at, HasRoomAt}
 use Rattle.cad_laws.specs.Counts.{shared_strings}
 use Rattle.cad_laws.specs.Tried.{IsTried}
@@ -210,13 +209,12 @@ module _ (m : Map) (keeper : Face) (ended : ℕ) (path : List Half) (tried : IsT
 
   module _ {rows : MapRows} {table : HalfRows} {held : Held Half} {stars : Held Spoke} (fit : FitMap m rows table held stars) where
     -- the parcel and the strings can go from the rows
-    pub made-end : {strings : List ℕ} → strings ≡ strings_of path → HasSlot rows.retired ended → CanEnd ended strings rows stars
-    made-end are slot =
+    pub made-end : {strings : List ℕ} → strings ≡ strings_of path → CanEnd ended strings rows stars
+    made-end are =
         let back : m.strings ≡ (map_in rows).strings = sym (ap (λ (q : Map). q.strings) fit.rows_are) in
         record {
           there = ap (λ (q : Map). has_parcel q ended) fit.rows_are ∙ parcel-there;
           fresh = ap (λ (q : Map). is_retired q ended) fit.rows_are ∙ not-retired;
-          slot = slot;
           take = record {
             there =
                 subst (λ (t : List ℕ × List StringRow). AllByRecursion (λ n. IsSome (row_with (λ (s : StringRow). s.number) n t.1)) t.0) (λ i. (sym are i, back i)) named;

@@ -138,61 +138,43 @@ module _ (m : Map) (keeper : Face) (ended : ℕ) (path : List Half) (is : IsMerg
 module _ {keeper : Face} {ended : ℕ} {strings : List ℕ} {first : Half} {rest moved : List Half} {rows : MapRows} {table : HalfRows}
     {held : Held Half} {stars : Held Spoke} (c : CanBeginMerge keeper ended strings (first ∷ rest) moved rows table held stars)
     {wide : Held Half} (alike : IsSame held wide) (room : HasRoomToExchange keeper ended wide) where
-  abbrev m : Map
-  m = c.map
+  fit : FitMap c.map rows table wide stars
+  fit = fit-grown c.map c.fits refl alike
 
-  abbrev path : List Half
-  path = first ∷ rest
-
-  fit : FitMap m rows table wide stars
-  fit = fit-grown m c.fits refl alike
-
-  chain_there : HasChainMore (merged c.is) m keeper (Parcel ended) path moved table
-  chain_there = across m keeper ended path c.is table moved c.leads c.moved_are
+  chain_there : HasChainMore (merged c.is) c.map keeper (Parcel ended) (first ∷ rest) moved table
+  chain_there = across c.map keeper ended (first ∷ rest) c.is table moved c.leads c.moved_are
 
   pub made-can : CanTakeAcross first rest keeper (Parcel ended) moved table wide
   made-can = record {
-    path = rows_of.can-take m keeper ended first rest c.is.tried c.is.shared fit moved (rings_past c.is) c.moved_are room;
+    path = rows_of.can-take c.map keeper ended first rest c.is.tried c.is.shared fit moved (rings_past c.is) c.moved_are room;
     tied = tied-across chain_there c.fits.fits.local;
     one_more = room.outer;
   }
 
   -- the table goes with the map after it
-  pub made-table : (done : HalfRows) (put : Held Half) → GoesWithoutChain path keeper (Parcel ended) moved table wide done put → GoesWith (merged c.is) done put
+  pub made-table : (done : HalfRows) (put : Held Half) → GoesWithoutChain (first ∷ rest) keeper (Parcel ended) moved table wide done put → GoesWith (merged c.is) done put
   made-table done put takes =
-      takes (merged c.is) m chain_there
-      (rows_of.ends-left m keeper ended path c.is.tried c.is.shared table c.fits.fits.ends)
-      (rows_of.made-table m keeper ended first rest c.is.tried c.is.shared fit, rows_of.made-keeps m keeper ended first rest c.is.tried c.is.shared fit)
+      takes (merged c.is) c.map chain_there
+      (rows_of.ends-left c.map keeper ended (first ∷ rest) c.is.tried c.is.shared table c.fits.fits.ends)
+      (rows_of.made-table c.map keeper ended first rest c.is.tried c.is.shared fit, rows_of.made-keeps c.map keeper ended first rest c.is.tried c.is.shared fit)
 
 -- ---- It is taken back
 
 module _ {keeper : Face} {row : ParcelRow} {place : ℕ} {first : Half} {rest : List Half} {start end : Half} {moved : List Half} {gone : List PlacedString} {rows : MapRows} {table : HalfRows}
     {held : Held Half} {stars : Held Spoke} (c : CanUnmerge keeper row place (first ∷ rest) start end moved gone rows table held stars) where
-  abbrev gone_path : List Half
-  gone_path = first ∷ rest
+  abbrev chain_back : HasChainMore (merged c.is) c.map keeper (Parcel row.number) (first ∷ rest) moved table
+  chain_back = across c.map keeper row.number (first ∷ rest) c.is table moved c.leads c.moved_are
 
-  abbrev old : Map
-  old = c.map
-
-  abbrev last : Map
-  last = merged c.is
-
-  abbrev gone_face : Face
-  gone_face = Parcel row.number
-
-  abbrev chain_back : HasChainMore last old keeper gone_face gone_path moved table
-  chain_back = across old keeper row.number gone_path c.is table moved c.leads c.moved_are
-
-  pub back-can : CanBringAcross first rest start end keeper gone_face moved table held
+  pub back-can : CanBringAcross first rest start end keeper (Parcel row.number) moved table held
   back-can = record {
     path =
-        rows_of.can-bring old keeper first rest c.is.tried c.is.shared c.went c.fits c.there moved (rings_past c.is) c.moved_are c.loose c.inner_room c.outer_room;
-    place = place-across chain_back (chain-open old keeper row.number gone_path c.is).apart c.start_on c.end_on;
+        rows_of.can-bring c.map keeper first rest c.is.tried c.is.shared c.went c.fits c.there moved (rings_past c.is) c.moved_are c.loose c.inner_room c.outer_room;
+    place = place-across chain_back (chain-open c.map keeper row.number (first ∷ rest) c.is).apart c.start_on c.end_on;
   }
 
   -- the table goes with the map before it
-  pub back-table : (wide : HalfRows) (put : Held Half) → GoesWithChain gone_path start end keeper gone_face moved table held wide put → GoesWith old wide put
+  pub back-table : (wide : HalfRows) (put : Held Half) → GoesWithChain (first ∷ rest) start end keeper (Parcel row.number) moved table held wide put → GoesWith c.map wide put
   back-table wide put brings =
-      brings last old chain_back (rows_of.none old keeper row.number gone_path c.is.tried c.is.shared)
-      (rows_of.all-back old keeper first rest c.is.tried c.is.shared c.went c.fits c.there) c.start_on c.end_on
-      (rows_of.last-table old keeper first rest c.is.tried c.is.shared c.went c.fits c.there, rows_of.last-keeps old keeper first rest c.is.tried c.is.shared c.went c.fits c.there)
+      brings (merged c.is) c.map chain_back (rows_of.none c.map keeper row.number (first ∷ rest) c.is.tried c.is.shared)
+      (rows_of.all-back c.map keeper first rest c.is.tried c.is.shared c.went c.fits c.there) c.start_on c.end_on
+      (rows_of.last-table c.map keeper first rest c.is.tried c.is.shared c.went c.fits c.there, rows_of.last-keeps c.map keeper first rest c.is.tried c.is.shared c.went c.fits c.there)

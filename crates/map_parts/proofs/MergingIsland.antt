@@ -65,53 +65,35 @@ module _ (m : Map) (keeper : Face) (ended : ℕ) (points : List ℕ) (path : Lis
 module _ {keeper : Face} {ended : ℕ} {strings : List ℕ} {first : Half} {rest moved : List Half} {rows : MapRows} {table : HalfRows}
     {held : Held Half} {stars : Held Spoke} (c : CanBeginMergeIsland keeper ended strings (first ∷ rest) moved rows table held stars)
     {wide : Held Half} (alike : IsSame held wide) (room : HasRoomToExchange keeper ended wide) where
-  abbrev m : Map
-  m = c.map
+  fit : FitMap c.map rows table wide stars
+  fit = fit-grown c.map c.fits refl alike
 
-  abbrev path : List Half
-  path = first ∷ rest
-
-  fit : FitMap m rows table wide stars
-  fit = fit-grown m c.fits refl alike
-
-  abbrev island_there : HasIslandMore (without_island c.is) m keeper (Parcel ended) path moved table
-  island_there = inside m keeper ended c.points path c.is table moved c.along c.moved_are
+  abbrev island_there : HasIslandMore (without_island c.is) c.map keeper (Parcel ended) (first ∷ rest) moved table
+  island_there = inside c.map keeper ended c.points (first ∷ rest) c.is table moved c.along c.moved_are
 
   pub made-can : CanTakeOut first rest keeper (Parcel ended) moved table wide
   made-can = record {
-    path = rows_of.can-take m keeper ended first rest c.is.tried c.is.shared fit moved (rings_apart c.is) c.moved_are room;
-    round = round-inside island_there (long m keeper ended c.points path c.is) c.fits.fits.local;
+    path = rows_of.can-take c.map keeper ended first rest c.is.tried c.is.shared fit moved (rings_apart c.is) c.moved_are room;
+    round = round-inside island_there (long c.map keeper ended c.points (first ∷ rest) c.is) c.fits.fits.local;
   }
 
   -- the table goes with the map after it
-  pub made-table : (done : HalfRows) (put : Held Half) → GoesWithoutIsland path keeper (Parcel ended) moved table wide done put → GoesWith (without_island c.is) done put
+  pub made-table : (done : HalfRows) (put : Held Half) → GoesWithoutIsland (first ∷ rest) keeper (Parcel ended) moved table wide done put → GoesWith (without_island c.is) done put
   made-table done put takes =
-      takes (without_island c.is) m island_there (long m keeper ended c.points path c.is)
-      (rows_of.ends-left m keeper ended path c.is.tried c.is.shared table c.fits.fits.ends)
-      (rows_of.made-table m keeper ended first rest c.is.tried c.is.shared fit, rows_of.made-keeps m keeper ended first rest c.is.tried c.is.shared fit)
+      takes (without_island c.is) c.map island_there (long c.map keeper ended c.points (first ∷ rest) c.is)
+      (rows_of.ends-left c.map keeper ended (first ∷ rest) c.is.tried c.is.shared table c.fits.fits.ends)
+      (rows_of.made-table c.map keeper ended first rest c.is.tried c.is.shared fit, rows_of.made-keeps c.map keeper ended first rest c.is.tried c.is.shared fit)
 
 -- ---- It is taken back
 
 module _ {keeper : Face} {row : ParcelRow} {place : ℕ} {first : Half} {rest moved : List Half} {gone : List PlacedString} {rows : MapRows} {table : HalfRows}
     {held : Held Half} {stars : Held Spoke} (c : CanUnmergeIsland keeper row place (first ∷ rest) moved gone rows table held stars) where
-  abbrev gone_path : List Half
-  gone_path = first ∷ rest
-
-  abbrev old : Map
-  old = c.map
-
-  abbrev last : Map
-  last = without_island c.is
-
-  abbrev gone_face : Face
-  gone_face = Parcel row.number
-
-  pub back-can : CanBring first rest keeper gone_face moved table held
-  back-can = rows_of.can-bring old keeper first rest c.is.tried c.is.shared c.went c.fits c.there moved (rings_apart c.is) c.moved_are c.loose c.inner_room c.outer_room
+  pub back-can : CanBring first rest keeper (Parcel row.number) moved table held
+  back-can = rows_of.can-bring c.map keeper first rest c.is.tried c.is.shared c.went c.fits c.there moved (rings_apart c.is) c.moved_are c.loose c.inner_room c.outer_room
 
   -- the table goes with the map before it
-  pub back-table : (wide : HalfRows) (put : Held Half) → GoesWithIsland gone_path keeper gone_face moved table held wide put → GoesWith old wide put
+  pub back-table : (wide : HalfRows) (put : Held Half) → GoesWithIsland (first ∷ rest) keeper (Parcel row.number) moved table held wide put → GoesWith c.map wide put
   back-table wide put brings =
-      brings last old (inside old keeper row.number c.points gone_path c.is table moved c.along c.moved_are) (rows_of.none old keeper row.number gone_path c.is.tried c.is.shared)
-      (rows_of.all-back old keeper first rest c.is.tried c.is.shared c.went c.fits c.there)
-      (rows_of.last-table old keeper first rest c.is.tried c.is.shared c.went c.fits c.there, rows_of.last-keeps old keeper first rest c.is.tried c.is.shared c.went c.fits c.there)
+      brings (without_island c.is) c.map (inside c.map keeper row.number c.points (first ∷ rest) c.is table moved c.along c.moved_are) (rows_of.none c.map keeper row.number (first ∷ rest) c.is.tried c.is.shared)
+      (rows_of.all-back c.map keeper first rest c.is.tried c.is.shared c.went c.fits c.there)
+      (rows_of.last-table c.map keeper first rest c.is.tried c.is.shared c.went c.fits c.there, rows_of.last-keeps c.map keeper first rest c.is.tried c.is.shared c.went c.fits c.there)

@@ -5,8 +5,9 @@ use Rattle.cad_rows.specs.declared.names.Face.{Face}
 use Rattle.half_table.specs.declared.half.Half.{Half}
 use Rattle.half_table.specs.Cycle.{holds, orbit}
 use Rattle.half_table.specs.Rows.{HalfRows, strings, halves_of, has, next, face, cycle}
-use Rattle.half_table.specs.Surgery.{Relabels}
+use Rattle.half_table.specs.Surgery.{KeepsHalves, Relabels}
 use Rattle.half_paths.specs.Path.{AreIn}
+use Rattle.map_parts.specs.Handing.{KeepsEnds}
 use Rattle.map_parts.specs.Relabelled.{on_cycles, cycles_length, RelabelsEach}
 
 -- where the strings and what follows what are the same, so are the cycles
@@ -37,6 +38,18 @@ each-more h hs to old mid new one all = record {
     either true false x = refl
     either false true x = refl
     either false false x = refl
+
+-- all halves stay, each with its origin, where two cycles get a face after a change of what follows what
+pub both-ends : {h k : List Half} {f e : Face} {old new mid done : HalfRows} → KeepsHalves old new → Relabels h f new mid → Relabels k e mid done → KeepsEnds old done
+both-ends halves one two = record { has = λ g. two.has g ∙ one.has g ∙ halves.has g; origin = λ g. two.origin g ∙ one.origin g ∙ halves.origin g }
+
+-- where many cycles do
+pub each-ends : {hs : List Half} {to : Face} {old new : HalfRows} → RelabelsEach hs to old new → KeepsEnds old new
+each-ends all = record { has = all.has; origin = all.origin }
+
+-- and after two changes that keep them
+pub ends-then : {old mid new : HalfRows} → KeepsEnds old mid → KeepsEnds mid new → KeepsEnds old new
+ends-then one two = record { has = λ g. two.has g ∙ one.has g; origin = λ g. two.origin g ∙ one.origin g }
 
 pub in-relabelled : (old new : HalfRows) (hs : List Half) → ((g : Half) → has new g ≡ has old g) → AreIn old hs → AreIn new hs
 in-relabelled old new [] same all = tt

@@ -20,7 +20,8 @@ use Rattle.key_lists.specs.Held.{Held, IsSame, items_at, HasRoomAt}
 use Rattle.cad_laws.specs.Local.{side_by}
 use Rattle.map_parts.specs.declared.map_rows.MapRows.{MapRows}
 use Rattle.map_parts.specs.declared.stars.Spoke.{Spoke}
-use Rattle.map_parts.specs.Adding.{IsSeenAs, HasRoomToCome}
+use Rattle.map_parts.specs.Adding.{AreAdded, IsSeenAs}
+use Rattle.map_parts.specs.Handing.{KeepsEnds}
 use Rattle.map_parts.specs.Islands.{AreOfRings}
 use Rattle.map_parts.specs.KeptRings.{KeepsRings}
 use Rattle.map_parts.specs.Labels.{IsAlong, IsOnRing}
@@ -30,6 +31,7 @@ use Rattle.map_parts.specs.Passing.{FitTable}
 use Rattle.map_parts.specs.Splitting.{FitMap}
 use Rattle.map_parts.specs.Stars.{spokes_at}
 use Rattle.map_parts.specs.StringRows.{HasRoomFor}
+use Rattle.map_parts.specs.TableGrown.{HasBesides, KeepsOrigins}
 use Rattle.map_parts.proofs.AlongPaths.{is-on_path}
 use Rattle.map_parts.proofs.HiddenStrings.{fit-shown, added-halves, added-loose}
 use Rattle.map_parts.proofs.KeptShown.{adds-hidden, new-apart}
@@ -133,16 +135,24 @@ pub record AreReady (m : Map) (added : List StringRow) (face : Face) (parcel : �
 
 pub ready : (m : Map) (added : List StringRow) (face : Face) (parcel : ℕ) (path : List Half) {rows more : MapRows} {table new : HalfRows} {held wide : Held Half} {stars filled : Held Spoke}
     → FitMap m rows table held stars → AreNew table added → strings_of path ≡ numbers_of added → HasRoomFor added filled
-    → IsSeenAs rows more held wide stars filled → HasRoomToCome added face parcel more wide filled → AddsStrings added table new → IsLinked new
-    → AreReady m added face parcel path more new wide filled
-ready m added face parcel path {table = table} {new = new} fits fresh named star_room seen room adds linked = record {
-  fits = added-fit m (fit-seen m fits seen) added new fresh adds linked;
-  there = added-halves added table new adds;
+    → AreAdded added face parcel rows more table new held wide stars filled → AreReady m added face parcel path more new wide filled
+ready m added face parcel path {table = table} {new = new} fits fresh named star_room it = record {
+  fits = added-fit m (fit-seen m fits it.seen) added new fresh it.adds it.linked;
+  there = added-halves added table new it.adds;
   loose = All-from_each (λ h. (next new h ≡ twin h) × (next new (twin h) ≡ h)) path (λ h among.
-      added-loose added table new adds h (subst (λ (l : List ℕ). is_of l h ≡ true) named (is-on_path path h among)));
-  slots = room.slots;
-  parcel_slot = room.parcel_slot;
+      added-loose added table new it.adds h (subst (λ (l : List ℕ). is_of l h ≡ true) named (is-on_path path h among)));
+  slots = it.room.slots;
+  parcel_slot = it.room.parcel_slot;
   room = star_room;
-  inner_room = room.inner_room;
-  outer_room = room.outer_room;
+  inner_room = it.room.inner_room;
+  outer_room = it.room.outer_room;
 }
+
+-- Strings were added, and the ends of all halves stay then.
+module _ {added : List StringRow} {face : Face} {parcel : ℕ} {rows more : MapRows} {table new last : HalfRows} {held wide : Held Half} {stars filled : Held Spoke}
+    (it : AreAdded added face parcel rows more table new held wide stars filled) (stay : KeepsEnds new last) where
+  pub grown-has : HasBesides (numbers_of added) table last
+  grown-has = λ h. stay.has h ∙ it.adds.has h
+
+  pub grown-origins : AreNew table added → KeepsOrigins table last
+  grown-origins fresh = λ h there. stay.origin h ∙ still-origin fresh it.adds h there

@@ -16,7 +16,7 @@ use Rattle.cad_laws.specs.Counts.{shared_strings}
 use Rattle.cad_map.specs.Valid.{EachPair}
 use Rattle.half_table.specs.declared.half.Half.{Half}
 use Rattle.half_table.specs.Half.{twin, half_of}
-use Rattle.half_table.specs.Rows.{HalfRows, IsLinked, face, has, has_halves, next, origin_of, prev, strings}
+use Rattle.half_table.specs.Rows.{HalfRows, face, has, has_halves, next, origin_of, prev, strings}
 use Rattle.half_paths.specs.Path.{strings_of}
 use Rattle.half_paths.specs.Loose.{AddsStrings, AreNew, HasEnds, numbers_of, is_of}
 use Rattle.entry_list.specs.Slots.{HasSlot}
@@ -26,7 +26,7 @@ use Rattle.cad_laws.specs.Tried.{IsTried}
 use Rattle.map_parts.specs.declared.edits.placed_strings.PlacedString.{PlacedString}
 use Rattle.map_parts.specs.declared.map_rows.MapRows.{MapRows}
 use Rattle.map_parts.specs.declared.stars.Spoke.{Spoke}
-use Rattle.map_parts.specs.Adding.{HasRoomAtEnds, HasRoomToCome, IsSeenAs}
+use Rattle.map_parts.specs.Adding.{AreAdded, HasRoomAtEnds, HasRoomToCome}
 use Rattle.map_parts.specs.Merging.{merged, shared_chain, first_corner, last_corner, rings_past, rows_gone, bare_row, sides_led, HaveRoomBack, CanBeginUnmerge, CanUnmerge}
 use Rattle.map_parts.specs.Parts.{HasHalves}
 use Rattle.map_parts.specs.PlacedStrings.{numbers_placed}
@@ -66,7 +66,7 @@ bare-distinct gone each = subst (IsDistinct nat_eq) (sym (bare-numbers (rows_gon
 pub bare-many : (gone : List PlacedString) → length (map bare_row (rows_gone gone)) ≡ length gone
 bare-many gone = length-map (rows_gone gone) bare_row ∙ length-map gone (λ (g : PlacedString). g.row)
 
-pub bare-adds : (rows : List StringRow) (old new : HalfRows) → AddsStrings (map bare_row rows) old new → AddsStrings rows old new
+bare-adds : (rows : List StringRow) (old new : HalfRows) → AddsStrings (map bare_row rows) old new → AddsStrings rows old new
 bare-adds rows old new it =
     let same = bare-numbers rows in
     record {
@@ -79,7 +79,7 @@ bare-adds rows old new it =
       origin = subst (λ (l : List ℕ). (g : Half) → is_of l g ≡ false → origin_of new g ≡ origin_of old g) same it.origin;
     }
 
-pub bare-room : {rows : List StringRow} {face : Face} {parcel : ℕ} {more : MapRows} {held : Held Half} {stars : Held Spoke}
+bare-room : {rows : List StringRow} {face : Face} {parcel : ℕ} {more : MapRows} {held : Held Half} {stars : Held Spoke}
     → HasRoomToCome (map bare_row rows) face parcel more held stars → HasRoomToCome rows face parcel more held stars
 bare-room {rows} {more = more} {stars = stars} it = record {
   slots = of-bare (λ (s : StringRow). HasSlot more.strings s.number) (λ (s : StringRow). HasSlot more.strings s.number) (λ r h. h) rows it.slots;
@@ -88,6 +88,10 @@ bare-room {rows} {more = more} {stars = stars} it = record {
   inner_room = it.inner_room;
   outer_room = it.outer_room;
 }
+
+pub bare-added : {rows : List StringRow} {face : Face} {parcel : ℕ} {had more : MapRows} {table new : HalfRows} {held wide : Held Half} {stars filled : Held Spoke}
+    → AreAdded (map bare_row rows) face parcel had more table new held wide stars filled → AreAdded rows face parcel had more table new held wide stars filled
+bare-added {rows} {table = table} {new = new} it = record { seen = it.seen; room = bare-room it.room; adds = bare-adds rows table new it.adds; linked = it.linked }
 
 -- ---- Rows as a path leads along them
 
@@ -212,15 +216,14 @@ module _ {keeper : Face} {row : ParcelRow} {place : ℕ} {path : List Half} {sta
   abbrev pub last : Map
   last = merged c.is
 
-  abbrev pub undo-can : {more : MapRows} {new : HalfRows} {wide : Held Half} {filled : Held Spoke} → IsSeenAs rows more held wide stars filled
-      → HasRoomToCome (rows_gone gone) keeper row.number more wide filled → AddsStrings (rows_gone gone) table new → IsLinked new
-      → CanUnmerge keeper row place path start end moved gone more new wide filled
-  undo-can {new = new} {filled = filled} seen room adds linked =
+  abbrev pub undo-can : {more : MapRows} {new : HalfRows} {wide : Held Half} {filled : Held Spoke}
+      → AreAdded (rows_gone gone) keeper row.number rows more table new held wide stars filled → CanUnmerge keeper row place path start end moved gone more new wide filled
+  undo-can {new = new} {filled = filled} grown =
       let named = gone-named path gone c.numbers_are in
       let chain = merging.chain-open c.map keeper row.number path c.is in
       let it =
       ready last (rows_gone gone) keeper row.number path c.fits c.new named
-      (ends-room path (rows_gone gone) (shared_chain c.is) chain.long chain.differ (as-many path gone named) c.sides filled room.ends) seen room adds linked in
+      (ends-room path (rows_gone gone) (shared_chain c.is) chain.long chain.differ (as-many path gone named) c.sides filled grown.room.ends) grown in
       record {
         map = c.map;
         is = c.is;
@@ -228,11 +231,11 @@ module _ {keeper : Face} {row : ParcelRow} {place : ℕ} {path : List Half} {sta
         there = ready-there row gone it;
         loose = it.loose;
         leads = rows-led new path (rows_gone gone) (sym named) it.there ∙ c.sides;
-        start_on = along-still c.new adds last (leaving (first_corner c.is)) start c.start_on;
-        end_on = along-still c.new adds last (leaving (last_corner c.is)) end c.end_on;
-        moved_are = of-still c.new adds c.map moved (Parcel row.number) (rings_past c.is) c.moved_in c.moved_are;
+        start_on = along-still c.new grown.adds last (leaving (first_corner c.is)) start c.start_on;
+        end_on = along-still c.new grown.adds last (leaving (last_corner c.is)) end c.end_on;
+        moved_are = of-still c.new grown.adds c.map moved (Parcel row.number) (rings_past c.is) c.moved_in c.moved_are;
         went = record { row = c.at; numbers = c.numbers_are; stood = c.stood };
         room = ready-room row gone it;
-        inner_room = let more = room.inner_room in omega (arith, more);
-        outer_room = let more = room.outer_room in omega (arith, more);
+        inner_room = let more = grown.room.inner_room in omega (arith, more);
+        outer_room = let more = grown.room.outer_room in omega (arith, more);
       }

@@ -6,13 +6,12 @@ use Rattle.cad_rows.specs.declared.rows.ParcelRow.{ParcelRow}
 use Rattle.cad_map.specs.Boundaries.{bounding}
 use Rattle.cad_map.specs.Map.{Map}
 use Rattle.half_table.specs.declared.half.Half.{Half}
-use Rattle.half_table.specs.Rows.{HalfRows, IsLinked}
-use Rattle.half_paths.specs.Loose.{AddsStrings}
+use Rattle.half_table.specs.Rows.{HalfRows}
 use Rattle.key_lists.specs.Held.{Held}
 use Rattle.map_parts.specs.declared.edits.placed_strings.PlacedString.{PlacedString}
 use Rattle.map_parts.specs.declared.map_rows.MapRows.{MapRows}
 use Rattle.map_parts.specs.declared.stars.Spoke.{Spoke}
-use Rattle.map_parts.specs.Adding.{HasRoomToCome, IsSeenAs}
+use Rattle.map_parts.specs.Adding.{AreAdded}
 use Rattle.map_parts.specs.Merging.{rows_gone}
 use Rattle.map_parts.specs.MergingIsland.{without_island, rings_apart, CanBeginUnmergeIsland, CanUnmergeIsland}
 use Rattle.map_parts.proofs.IslandPoints.{points-differ}
@@ -25,17 +24,16 @@ module _ {keeper : Face} {row : ParcelRow} {place : ℕ} {path moved : List Half
   abbrev pub last : Map
   last = without_island c.is
 
-  abbrev pub undo-can : {more : MapRows} {new : HalfRows} {wide : Held Half} {filled : Held Spoke} → IsSeenAs rows more held wide stars filled
-      → HasRoomToCome (rows_gone gone) keeper row.number more wide filled → AddsStrings (rows_gone gone) table new → IsLinked new
-      → CanUnmergeIsland keeper row place path moved gone more new wide filled
-  undo-can {new = new} {filled = filled} seen room adds linked =
+  abbrev pub undo-can : {more : MapRows} {new : HalfRows} {wide : Held Half} {filled : Held Spoke}
+      → AreAdded (rows_gone gone) keeper row.number rows more table new held wide stars filled → CanUnmergeIsland keeper row place path moved gone more new wide filled
+  undo-can {new = new} {filled = filled} grown =
       let named = gone-named path gone c.numbers_are in
       let law = merging.island c.map keeper row.number c.points path c.is in
       let long = merging.long c.map keeper row.number c.points path c.is in
       let each = points-differ last c.map c.is.tried.valid keeper (Parcel row.number) c.points (bounding (Parcel row.number) c.is.ended_ring) (bounding keeper c.is.kept_ring) (rings_apart c.is) law long in
       let it =
       ready last (rows_gone gone) keeper row.number path c.fits c.new named
-      (ring-ends_room path (rows_gone gone) c.points each (as-many path gone named) c.sides filled room.ends) seen room adds linked in
+      (ring-ends_room path (rows_gone gone) c.points each (as-many path gone named) c.sides filled grown.room.ends) grown in
       record {
         map = c.map;
         points = c.points;
@@ -44,9 +42,9 @@ module _ {keeper : Face} {row : ParcelRow} {place : ℕ} {path moved : List Half
         there = ready-there row gone it;
         loose = it.loose;
         along = rows-led new path (rows_gone gone) (sym named) it.there ∙ c.sides;
-        moved_are = of-still c.new adds c.map moved (Parcel row.number) (rings_apart c.is) c.moved_in c.moved_are;
+        moved_are = of-still c.new grown.adds c.map moved (Parcel row.number) (rings_apart c.is) c.moved_in c.moved_are;
         went = record { row = c.at; numbers = c.numbers_are; stood = c.stood };
         room = ready-room row gone it;
-        inner_room = let more = room.inner_room in omega (arith, more);
-        outer_room = let more = room.outer_room in omega (arith, more);
+        inner_room = let more = grown.room.inner_room in omega (arith, more);
+        outer_room = let more = grown.room.outer_room in omega (arith, more);
       }

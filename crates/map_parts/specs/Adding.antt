@@ -6,6 +6,8 @@ use Rattle.cad_rows.specs.declared.names.Face.TheVariants.{Parcel}
 use Rattle.cad_rows.specs.declared.rows.StringRow.{StringRow}
 use Rattle.cad_map.specs.Boundaries.{face_place}
 use Rattle.half_table.specs.declared.half.Half.{Half}
+use Rattle.half_table.specs.Rows.{HalfRows, IsLinked}
+use Rattle.half_paths.specs.Loose.{AddsStrings}
 use Rattle.entry_list.specs.Slots.{HasSlot}
 use Rattle.key_lists.specs.Held.{Held, IsSame, items_at, HasRoomAt}
 use Rattle.map_parts.specs.declared.map_rows.MapRows.{MapRows}
@@ -35,6 +37,13 @@ pub record HasRoomToCome (strings : List StringRow) (face : Face) (parcel : ℕ)
   pub inner_room : HasRoomAt held (face_place (Parcel parcel)) (length (items_at held (face_place face)) + 2)
   -- the face's has room for two
   pub outer_room : HasRoomAt held (face_place face) 2
+
+-- Room was made for strings and a parcel to come into a face, and the table has the strings more, loose.
+pub record AreAdded (strings : List StringRow) (face : Face) (parcel : ℕ) (rows more : MapRows) (table new : HalfRows) (held wide : Held Half) (stars filled : Held Spoke) : Type 0 where
+  pub seen : IsSeenAs rows more held wide stars filled
+  pub room : HasRoomToCome strings face parcel more wide filled
+  pub adds : AddsStrings strings table new
+  pub linked : IsLinked new
 
 -- The halves that are kept for a face and for a parcel, and one more, can be kept for either without
 -- memory.

@@ -8,6 +8,8 @@ pub mod Fits
 pub mod Shown
 pub mod Paths
 pub mod Relabelled
+pub mod FaceTicks
+pub mod TableGrown
 pub mod Islands
 pub mod Chains
 pub mod Handing

@@ -133,13 +133,12 @@ without_ended ended strings m = record m {
   boundaries = [];
 }
 
--- a parcel that can go from the rows, and whose number can be retired, and strings that can go
+-- a parcel that can go from the rows, and strings that can
 pub record CanEnd (ended : ℕ) (strings : List ℕ) (rows : MapRows) (stars : Held Spoke) : Type 0 where
   -- the parcel is there
   pub there : IsSome (parcel_of (map_in rows) ended)
-  -- its number isn't retired yet, and can be without memory
+  -- its number isn't retired yet
   pub fresh : is_retired (map_in rows) ended ≡ false
-  pub slot : HasSlot rows.retired ended
   -- the strings can go, with their spokes
   pub take : CanTakeStrings strings rows stars
 

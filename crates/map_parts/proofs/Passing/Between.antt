@@ -88,7 +88,7 @@ pub record LeadBetween (rows : HalfRows) (p a b : ℕ) (passing : Passing) : Typ
   pub second_back : side_by rows (twin passing.second) ≡ (b, p)
   pub whole_back : side_by rows (twin passing.whole) ≡ (b, a)
 
-module _ (through past : Map) (p a b : ℕ) (passing : Passing)
+module _ {through past : Map} {p a b : ℕ} {passing : Passing}
     (it : HasBetween through past p a b passing) where
   -- ---- The strings differ
 

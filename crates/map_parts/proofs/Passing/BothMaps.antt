@@ -93,7 +93,7 @@ module _ (through past : Map) (p a b : ℕ) (passing : Passing)
       ∙ (λ i. nat_eq n (sym it.whole_along.string i) || rest n)
 
   -- a string of both maps is none of the three
-  rest-not : (n k : ℕ) → ((h : Half) → between.IsOther through past p a b passing it h → h.string ≡ k → ⊥)
+  rest-not : (n k : ℕ) → ((h : Half) → between.IsOther it h → h.string ≡ k → ⊥)
       → nat_eq n k ≡ true → rest n ≡ false
   rest-not n k apart same =
       false_from_ne_true (rest n) (λ there.
@@ -112,12 +112,12 @@ module _ (through past : Map) (p a b : ℕ) (passing : Passing)
       ap (λ (b : Bool). if is_of (strings_of (passing.first ∷ passing.second ∷ [])) h then false else (if is_of (passing.whole.string ∷ []) h then true else b)) (in-through n)
       ∙ past-test (nat_eq n passing.first.string) (nat_eq n passing.second.string) (nat_eq n passing.whole.string) (rest n)
       (λ e. (
-        other-number n passing.first.string passing.whole.string (λ k. between.zx through past p a b passing it (sym k)) e,
-        rest-not n passing.first.string (between.not-first through past p a b passing it) e,
+        other-number n passing.first.string passing.whole.string (λ k. between.zx it (sym k)) e,
+        rest-not n passing.first.string (between.not-first it) e,
       ))
       (λ e. (
-        other-number n passing.second.string passing.whole.string (λ k. between.zy through past p a b passing it (sym k)) e,
-        rest-not n passing.second.string (between.not-second through past p a b passing it) e,
+        other-number n passing.second.string passing.whole.string (λ k. between.zy it (sym k)) e,
+        rest-not n passing.second.string (between.not-second it) e,
       ))
       ∙ sym (in-past n)
 
@@ -129,9 +129,9 @@ module _ (through past : Map) (p a b : ℕ) (passing : Passing)
       ap (λ (b : Bool). if is_of (strings_of (passing.whole ∷ [])) h then false else (if is_of (passing.first.string ∷ passing.second.string ∷ []) h then true else b)) (in-past n)
       ∙ through-test (nat_eq n passing.first.string) (nat_eq n passing.second.string) (nat_eq n passing.whole.string) (rest n)
       (λ e. (
-        other-number n passing.whole.string passing.first.string (between.zx through past p a b passing it) e,
-        other-number n passing.whole.string passing.second.string (between.zy through past p a b passing it) e,
-        rest-not n passing.whole.string (between.not-whole through past p a b passing it) e,
+        other-number n passing.whole.string passing.first.string (between.zx it) e,
+        other-number n passing.whole.string passing.second.string (between.zy it) e,
+        rest-not n passing.whole.string (between.not-whole it) e,
       ))
       ∙ sym (in-through n)
 
@@ -155,14 +155,14 @@ module _ (through past : Map) (p a b : ℕ) (passing : Passing)
   pub first-gone : has_string past passing.first.string ≡ false
   first-gone =
       in-past passing.first.string
-      ∙ (λ i. other-number passing.first.string passing.first.string passing.whole.string (λ k. between.zx through past p a b passing it (sym k)) (nat_eq_equiv.refl passing.first.string) i
-      || rest-not passing.first.string passing.first.string (between.not-first through past p a b passing it) (nat_eq_equiv.refl passing.first.string) i)
+      ∙ (λ i. other-number passing.first.string passing.first.string passing.whole.string (λ k. between.zx it (sym k)) (nat_eq_equiv.refl passing.first.string) i
+      || rest-not passing.first.string passing.first.string (between.not-first it) (nat_eq_equiv.refl passing.first.string) i)
 
   pub second-gone : has_string past passing.second.string ≡ false
   second-gone =
       in-past passing.second.string
-      ∙ (λ i. other-number passing.second.string passing.second.string passing.whole.string (λ k. between.zy through past p a b passing it (sym k)) (nat_eq_equiv.refl passing.second.string) i
-      || rest-not passing.second.string passing.second.string (between.not-second through past p a b passing it) (nat_eq_equiv.refl passing.second.string) i)
+      ∙ (λ i. other-number passing.second.string passing.second.string passing.whole.string (λ k. between.zy it (sym k)) (nat_eq_equiv.refl passing.second.string) i
+      || rest-not passing.second.string passing.second.string (between.not-second it) (nat_eq_equiv.refl passing.second.string) i)
 
   pub path-different : AreDifferent (passing.first ∷ passing.second ∷ [])
   unfolding IsDistinct
@@ -185,12 +185,12 @@ module _ (through past : Map) (p a b : ℕ) (passing : Passing)
       → ((h : Half) → has rows h ≡ (if is_of (passing.whole.string ∷ []) h then true else has_string through h.string))
       → AreIn rows (passing.first ∷ passing.second ∷ [])
   path-in rows all = (
-    shown-in rows (is_of (passing.whole.string ∷ [])) through all passing.first (between.first-shown through past p a b passing it passing.first refl),
-    (shown-in rows (is_of (passing.whole.string ∷ [])) through all passing.second (between.second-shown through past p a b passing it passing.second refl), tt),
+    shown-in rows (is_of (passing.whole.string ∷ [])) through all passing.first (between.first-shown it passing.first refl),
+    (shown-in rows (is_of (passing.whole.string ∷ [])) through all passing.second (between.second-shown it passing.second refl), tt),
   )
 
   pub whole-in : (rows : HalfRows)
       → ((h : Half) → has rows h ≡ (if is_of (passing.first.string ∷ passing.second.string ∷ []) h then true else has_string past h.string))
       → AreIn rows (passing.whole ∷ [])
   whole-in rows all =
-      (shown-in rows (is_of (passing.first.string ∷ passing.second.string ∷ [])) past all passing.whole (between.whole-shown through past p a b passing it passing.whole refl), tt)
+      (shown-in rows (is_of (passing.first.string ∷ passing.second.string ∷ [])) past all passing.whole (between.whole-shown it passing.whole refl), tt)

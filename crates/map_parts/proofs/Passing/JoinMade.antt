@@ -178,8 +178,8 @@ module _ {p first second : ℕ} {row : StringRow} {before : MapRows} {old : Half
 
   abbrev pub join-meet : CanMeet row s t stars
   join-meet =
-      let a-p = between.a-p m (after_join can) p (far_end s p) (far_end t p) (path_at p s t row.number) it in
-      let b-p = between.b-p m (after_join can) p (far_end s p) (far_end t p) (path_at p s t row.number) it in
+      let a-p = between.a-p it in
+      let b-p = between.b-p it in
       let from : row.from ≡ far_end s p = ap (λ (r : StringRow). r.from) can.row_is in
       let to : row.to ≡ far_end t p = ap (λ (r : StringRow). r.to) can.row_is in
       let one = made.join-first m p row.number s t can.tried can.are can.apart in

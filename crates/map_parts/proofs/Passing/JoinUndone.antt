@@ -144,7 +144,7 @@ module _ {joined : JoinedRows} {new : ℕ} {rows : MapRows} {table : HalfRows} {
   undo-whole =
       ap (λ (q : Map). string_of q new) can.fits.rows_are
       ∙ row-found now.strings whole it.rings_past.v1.strings.distinct
-      (between.whole-in m now p (far_end s p) (far_end t p) (path_at p s t new) it)
+      (between.whole-in it)
 
   abbrev left : List StringRow
   left = made.others m p new s t can.tried can.are can.apart
@@ -156,11 +156,11 @@ module _ {joined : JoinedRows} {new : ℕ} {rows : MapRows} {table : HalfRows} {
       record {
         strings = now.strings;
         are = can.fits.are_stars;
-        there = between.whole-in m now p (far_end s p) (far_end t p) (path_at p s t new) it;
+        there = between.whole-in it;
         point = p;
         two = it.joined.apart;
-        from_apart = between.a-p m now p (far_end s p) (far_end t p) (path_at p s t new) it;
-        to_apart = between.b-p m now p (far_end s p) (far_end t p) (path_at p s t new) it;
+        from_apart = between.a-p it;
+        to_apart = between.b-p it;
         before = end-connects s p one.1;
         behind = end-connects t p other.1;
         room = can.room;

@@ -7,15 +7,23 @@ use Rattle.std.proofs.lemmas.List.Sorted.{IsPermutation-refl, IsPermutation-sym,
 use Rattle.indexmap.proofs.ReorderLemmas.{map-swap}
 use Rattle.cad_rows.specs.declared.names.Face.{Face}
 use Rattle.cad_rings.specs.Cycle.{sides_of}
+use Rattle.cad_rings.specs.Surgery.{without}
 use Rattle.cad_map.specs.declared.boundary.Boundary.{Boundary}
+use Rattle.cad_map.specs.Boundaries.{bounding, canonical_form}
 use Rattle.cad_map.specs.Map.{Map}
 use Rattle.cad_map.specs.Rings.{HasWholeRings}
+use Rattle.cad_map.specs.Views.{HasSide}
 use Rattle.cad_map.proofs.CallerLemmas.{Contains-first, Contains-later}
 use Rattle.half_table.specs.declared.half.Half.{Half}
 use Rattle.half_table.specs.Rows.{HalfRows}
 use Rattle.cad_laws.specs.Local.{IsShown, side_by}
 use Rattle.map_parts.specs.KeptRings.{IsKept, KeepsRings}
 use Rattle.map_parts.proofs.KeptHalves.{home_of, home-is}
+use Rattle.map_parts.proofs.Passing.OneHand.{ring-face_has}
+
+-- a ring without a point
+abbrev pub without_point : ℕ → Boundary → Boundary
+without_point p r = canonical_form (bounding r.face (without p r.ring))
 
 -- a permutation of what f makes of a list is what it makes of a permutation
 pub permuted-before : {X Y : Type 0} (f : X → Y) (xs : List X) (ys : List Y)
@@ -37,6 +45,10 @@ permuted-before {X} {Y} f xs ys moved =
               (IsPermutation-swap zs (swap zs i j) i j low too refl),
           map-swap f zs i j ∙ ap (λ (l : List Y). swap l i j) is,
         )
+
+-- a half that is kept has the side of its face
+pub kept-face : (m : Map) (rows : HalfRows) (homes : Half → Boundary) (k : Face × Half) → IsKept m rows homes k → HasSide m k.0 (side_by rows k.1)
+kept-face m rows homes k it = subst (λ (f : Face). HasSide m f (side_by rows k.1)) it.face (ring-face_has m (homes k.1) it.there (side_by rows k.1) it.has)
 
 module _ (m : Map) (rows : HalfRows) (whole : HasWholeRings m) where
   -- the half is along the ring, and kept for its face

@@ -132,17 +132,17 @@ module _ (through past : Map) (p a b : ℕ) (passing : Passing) (it : HasBetween
   pub path-length : (rows : HalfRows) (held : Held Half) → FitTable through rows held
       → length (cycle rows passing.first) + length (cycle rows (twin passing.second)) ≤ sides_through p through
   path-length rows held fits =
-      let first = All-at_each (HasHalves rows) through.strings it.first_row fits.ends (between.first-in through past p a b passing it) in
-      let second = All-at_each (HasHalves rows) through.strings it.second_row fits.ends (between.second-in through past p a b passing it) in
+      let first = All-at_each (HasHalves rows) through.strings it.first_row fits.ends (between.first-in it) in
+      let second = All-at_each (HasHalves rows) through.strings it.second_row fits.ends (between.second-in it) in
       let X = (along-side rows it.first_row passing.first (a, p) first it.first_along).1 in
       let Y = (along-side rows it.second_row passing.second (p, b) second it.second_along).1 in
       let TY : side_by rows (twin passing.second) ≡ (b, p) = twin-side rows passing.second ∙ ap (λ (s : Side). (s.1, s.0)) Y in
       let e =
-      cycle-length through rows it.rings fits.local passing.first (between.first-shown through past p a b passing it passing.first refl)
+      cycle-length through rows it.rings fits.local passing.first (between.first-shown it passing.first refl)
       one.ring one.there (subst (Contains (sides_of one.ring.ring)) (sym X) one.to) in
       let f =
       cycle-length through rows it.rings fits.local (twin passing.second)
-      (between.second-shown through past p a b passing it (twin passing.second) refl)
+      (between.second-shown it (twin passing.second) refl)
       other.ring other.there (subst (Contains (sides_of other.ring.ring)) (sym TY) other.to) in
       let all = both in
       omega (arith, e, f, all)
@@ -163,29 +163,23 @@ module _ (through past : Map) (p a b : ℕ) (passing : Passing) (it : HasBetween
       let few = fewer (λ q. not (q == p)) r.ring in
       omega (arith, same, few)
 
-  a-p : a ≡ p → ⊥
-  a-p = between.a-p through past p a b passing it
-
-  b-p : b ≡ p → ⊥
-  b-p = between.b-p through past p a b passing it
-
   -- the rings along the string past it
   pub whole-length : (rows : HalfRows) (held : Held Half) → FitTable past rows held
       → length (cycle rows passing.whole) + length (cycle rows (twin passing.whole)) ≤ sides_through p through
   whole-length rows held fits =
-      let whole = All-at_each (HasHalves rows) past.strings it.whole_row fits.ends (between.whole-in through past p a b passing it) in
+      let whole = All-at_each (HasHalves rows) past.strings it.whole_row fits.ends (between.whole-in it) in
       let Z = (along-side rows it.whole_row passing.whole (a, b) whole it.whole_along).1 in
       let TZ : side_by rows (twin passing.whole) ≡ (b, a) = twin-side rows passing.whole ∙ ap (λ (s : Side). (s.1, s.0)) Z in
       let e =
-      cycle-length past rows it.rings_past fits.local passing.whole (between.whole-shown through past p a b passing it passing.whole refl)
+      cycle-length past rows it.rings_past fits.local passing.whole (between.whole-shown it passing.whole refl)
       (drop one.ring) (made-there one.ring one.there)
       (subst (Contains (sides_of (drop one.ring).ring)) (sym Z)
-      (rings.first-past through past p a b it.joined it.rings a-p b-p one.ring one.there (inl one.to))) in
+      (rings.first-past it.joined it.rings (between.a-p it) (between.b-p it) one.ring one.there (inl one.to))) in
       let f =
-      cycle-length past rows it.rings_past fits.local (twin passing.whole) (between.whole-shown through past p a b passing it (twin passing.whole) refl)
+      cycle-length past rows it.rings_past fits.local (twin passing.whole) (between.whole-shown it (twin passing.whole) refl)
       (drop other.ring) (made-there other.ring other.there)
       (subst (Contains (sides_of (drop other.ring).ring)) (sym TZ)
-      (rings.second-past through past p a b it.joined it.rings a-p b-p other.ring other.there (inl other.to))) in
+      (rings.second-past it.joined it.rings (between.a-p it) (between.b-p it) other.ring other.there (inl other.to))) in
       let g = no-longer one.ring in
       let h = no-longer other.ring in
       let all = both in

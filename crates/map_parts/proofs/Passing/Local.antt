@@ -1,5 +1,5 @@
 -- A table in which other halves follow than before, half by half.
-use Rattle.std.proofs.Common.{◌≡◌, ℕ, refl, sym, ap, subst, ◌∙◌, Bool, true, false}
+use Rattle.std.proofs.Common.{◌≡◌, ◌≢◌, ℕ, refl, sym, ap, subst, ◌∙◌, Bool, true, false}
 use Rattle.std.specs.List.{AllByRecursion, Contains}
 use Rattle.cad_rows.specs.declared.rows.StringRow.{StringRow}
 use Rattle.cad_rings.specs.Cycle.{Side, opposite}
@@ -12,9 +12,11 @@ use Rattle.half_table.specs.declared.half.Half.{Half}
 use Rattle.half_table.specs.Half.{twin, half_of, forward_of, backward_of}
 use Rattle.half_table.specs.Rows.{HalfRows, IsLinked, has, next, origin_of}
 use Rattle.half_table.specs.Surgery.{KeepsHalves}
+use Rattle.half_table.proofs.Halves.{twin-twin}
 use Rattle.cad_laws.specs.Local.{IsShown, IsLocal, side_by}
 use Rattle.map_parts.specs.Parts.{HasHalves}
 use Rattle.map_parts.proofs.PartsRings.{found-row}
+use Rattle.map_parts.proofs.Passing.OneHand.{no-return}
 use Rattle.map_parts.proofs.WholeStrings.{two-ends}
 
 -- the half of a string has a side of the map's rings
@@ -43,17 +45,15 @@ string-half_in rows row e h number = by h.forward refl
     by true is = ap (has rows) (λ i. half_of (sym number i) (is i)) ∙ e.there
     by false is = ap (has rows) (λ i. half_of (sym number i) (is i)) ∙ e.back
 
+-- a half isn't followed by its twin
+pub never-twin : (rows : HalfRows) (m : Map) → HasWholeRings m → IsLocal m rows → (h : Half) → IsShown m h → next rows h ≢ twin h
+never-twin rows m whole local h shown e =
+    no-return m whole (side_by rows h)
+    (subst (ComesAfter m (side_by rows h)) (ap (λ (q : Half). origin_of rows (twin q)) e ∙ ap (origin_of rows) (twin-twin h)) (local.corners h shown))
+
 module _ (rows new : HalfRows) (keeps : KeepsHalves rows new) where
   pub same-side : (g : Half) → side_by new g ≡ side_by rows g
   same-side g = λ i. (keeps.origin g i, keeps.origin (twin g) i)
-
-  pub halves-kept : (s : StringRow) → HasHalves rows s → HasHalves new s
-  halves-kept s e = record {
-    there = keeps.has (forward_of s.number) ∙ e.there;
-    back = keeps.has (backward_of s.number) ∙ e.back;
-    from = keeps.origin (forward_of s.number) ∙ e.from;
-    to = keeps.origin (backward_of s.number) ∙ e.to;
-  }
 
   module _ (m : Map) where
     -- what a half goes on to in the new table is in order

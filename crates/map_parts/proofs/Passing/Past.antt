@@ -2,13 +2,12 @@
 -- the path through it.
 use Rattle.std.proofs.Common.{◌≡◌, ◌≢◌, ℕ, ◌⊎◌, inl, inr, refl, sym, ap, subst, ◌∙◌, ◌∷◌}
 use Rattle.std.specs.List.{AllByRecursion, Contains}
-use Rattle.std.proofs.lemmas.List.Sorted.{Contains-permutation}
-use Rattle.cad_rows.specs.declared.rows.StringRow.{StringRow}
+use Rattle.std.proofs.lemmas.List.Sorted.{IsPermutation-sym}
 use Rattle.cad_rings.specs.Cycle.{Side, Corner}
 use Rattle.cad_rings.specs.Surgery.{corner}
 use Rattle.cad_map.specs.Map.{Map, all_sides}
 use Rattle.cad_map.specs.Views.{ComesAfter}
-use Rattle.cad_map.proofs.CallerLemmas.{Contains-cases, All-at_each, All-from_each}
+use Rattle.cad_map.proofs.CallerLemmas.{All-at_each, All-permuted}
 use Rattle.half_table.specs.declared.half.Half.{Half}
 use Rattle.half_table.specs.Half.{twin}
 use Rattle.half_table.specs.Rows.{HalfRows, IsLinked, next, origin_of}
@@ -21,13 +20,13 @@ use Rattle.cad_laws.proofs.CallerLemmas.{goes-on_joined, to-point}
 use Rattle.map_parts.specs.Parts.{HasHalves}
 use Rattle.map_parts.specs.Passing.{HasBetween}
 use Rattle.map_parts.specs.declared.edits.passing.Passing.{Passing}
-use Rattle.map_parts.proofs.Passing.OneHand.{no-return}
+use Rattle.map_parts.proofs.IslandFits.{ends-same}
 use Rattle.map_parts.proofs.Passing.Routes.{IsPastNow}
-use Rattle.map_parts.proofs.Passing.Local.{GoesOn, goes-on, halves-kept, local-from, string-half_side}
+use Rattle.map_parts.proofs.Passing.Local.{never-twin, GoesOn, goes-on, local-from, string-half_side}
 use Rattle.map_parts.proofs.Passing.Between as between
 use Rattle.map_parts.proofs.Passing.Between.{LeadBetween, IsThrough, IsPast, IsOther, twin-side}
 
-module _ (through past : Map) (p a b : ℕ) (passing : Passing)
+module _ {through past : Map} {p a b : ℕ} {passing : Passing}
     (it : HasBetween through past p a b passing) (rows : HalfRows) (local : IsLocal through rows)
     (ends : AllByRecursion (HasHalves rows) through.strings)
     (whole_there : HasHalves rows it.whole_row) where
@@ -37,33 +36,30 @@ module _ (through past : Map) (p a b : ℕ) (passing : Passing)
   abbrev o : Half → ℕ
   o = origin_of rows
 
-  abbrev Other : Half → Type 0
-  Other h = IsOther through past p a b passing it h
-
   pub first_there : HasHalves rows it.first_row
   first_there =
       All-at_each (HasHalves rows) through.strings it.first_row ends
-      (between.first-in through past p a b passing it)
+      (between.first-in it)
 
   pub second_there : HasHalves rows it.second_row
   second_there =
       All-at_each (HasHalves rows) through.strings it.second_row ends
-      (between.second-in through past p a b passing it)
+      (between.second-in it)
 
-  ways : LeadBetween rows p a b passing
-  ways = between.ways through past p a b passing it rows first_there second_there whole_there
+  pub ways : LeadBetween rows p a b passing
+  ways = between.ways it rows first_there second_there whole_there
 
   x-shown : IsShown through passing.first
-  x-shown = between.first-shown through past p a b passing it passing.first refl
+  x-shown = between.first-shown it passing.first refl
 
   tx-shown : IsShown through (twin passing.first)
-  tx-shown = between.first-shown through past p a b passing it (twin passing.first) refl
+  tx-shown = between.first-shown it (twin passing.first) refl
 
   y-shown : IsShown through passing.second
-  y-shown = between.second-shown through past p a b passing it passing.second refl
+  y-shown = between.second-shown it passing.second refl
 
   ty-shown : IsShown through (twin passing.second)
-  ty-shown = between.second-shown through past p a b passing it (twin passing.second) refl
+  ty-shown = between.second-shown it (twin passing.second) refl
 
   -- ---- The path leads on, there and back
 
@@ -100,16 +96,7 @@ module _ (through past : Map) (p a b : ℕ) (passing : Passing)
   begins h g shown e = sym (ap o e) ∙ local.meets h shown
 
   turns : (h : Half) → IsShown through h → f h ≢ twin h
-  turns h shown e =
-      no-return through it.rings (side_by rows h)
-      (subst (λ (w : ℕ). ComesAfter through (side_by rows h) w)
-      (ap (λ (q : Half). o (twin q)) e ∙ ap o (twin-twin h)) (local.corners h shown))
-
-  a-p : a ≢ p
-  a-p = between.a-p through past p a b passing it
-
-  b-p : b ≢ p
-  b-p = between.b-p through past p a b passing it
+  turns = never-twin rows through it.rings local
 
   not-y_x : f passing.second ≢ passing.first
   not-y_x e = it.joined.apart (sym (ap (λ (s : Side). s.0) ways.first) ∙ begins passing.second passing.first y-shown e ∙ ap (λ (s : Side). s.1) ways.second)
@@ -130,33 +117,33 @@ module _ (through past : Map) (p a b : ℕ) (passing : Passing)
 
   -- ---- A half elsewhere has nothing of the point
 
-  module _ (h : Half) (k : Other h) where
+  module _ (h : Half) (k : IsOther it h) where
     shown : IsShown through h
-    shown = between.other-through through past p a b passing it h k
+    shown = between.other-through it h k
 
     among : Contains (all_sides through) (side_by rows h)
     among =
         string-half_side through it.rings rows k.row
-        (between.other-in_through through past p a b passing it k.row k.there)
+        (between.other-in_through it k.row k.there)
         (All-at_each (HasHalves rows) through.strings k.row ends
-        (between.other-in_through through past p a b passing it k.row k.there)) h k.number
+        (between.other-in_through it k.row k.there)) h k.number
 
     pub ends-elsewhere : (side_by rows h).1 ≢ p
     ends-elsewhere e =
         let s : side_by rows h ≡ (o h, p) = λ i. (o h, e i) in
         elim (to-point through past p a b it.joined it.rings (o h) (subst (Contains (all_sides through)) s among)) [
           | inl is ↦
-              between.not-first through past p a b passing it h k
+              between.not-first it h k
               (ap (λ (q : Half). q.string) (local.apart h passing.first shown x-shown (s ∙ (λ i. (is i, p)) ∙ sym ways.first)))
           | inr is ↦
-              between.not-second through past p a b passing it h k
+              between.not-second it h k
               (ap (λ (q : Half). q.string) (local.apart h (twin passing.second) shown ty-shown (s ∙ (λ i. (is i, p)) ∙ sym ways.second_back)))
         ]
 
-  other-twin : (h : Half) → Other h → Other (twin h)
+  other-twin : (h : Half) → IsOther it h → IsOther it (twin h)
   other-twin h k = record { row = k.row; there = k.there; number = k.number }
 
-  pub begins-elsewhere : (h : Half) → Other h → (side_by rows h).0 ≢ p
+  pub begins-elsewhere : (h : Half) → IsOther it h → (side_by rows h).0 ≢ p
   begins-elsewhere h k e =
       ends-elsewhere (twin h) (other-twin h k) (ap (λ (s : Side). s.1) (twin-side rows h) ∙ e)
 
@@ -171,24 +158,24 @@ module _ (through past : Map) (p a b : ℕ) (passing : Passing)
     Goes h = GoesOn rows new keeps past h
 
     -- what comes after the path
-    after-y : Other (f passing.second)
-    after-y = elim (between.through-half through past p a b passing it (f passing.second) (local.inside passing.second y-shown)) [
+    after-y : IsOther it (f passing.second)
+    after-y = elim (between.through-half it (f passing.second) (local.inside passing.second y-shown)) [
       | IsThrough.is_first e ↦ absurd (not-y_x e)
       | IsThrough.is_first_back e ↦
-          absurd (b-p (sym (ap (λ (s : Side). s.1) ways.second) ∙ sym (begins passing.second (twin passing.first) y-shown e) ∙ ap (λ (s : Side). s.0) ways.first_back))
+          absurd (between.b-p it (sym (ap (λ (s : Side). s.1) ways.second) ∙ sym (begins passing.second (twin passing.first) y-shown e) ∙ ap (λ (s : Side). s.0) ways.first_back))
       | IsThrough.is_second e ↦
-          absurd (b-p (sym (ap (λ (s : Side). s.1) ways.second) ∙ sym (begins passing.second passing.second y-shown e) ∙ ap (λ (s : Side). s.0) ways.second))
+          absurd (between.b-p it (sym (ap (λ (s : Side). s.1) ways.second) ∙ sym (begins passing.second passing.second y-shown e) ∙ ap (λ (s : Side). s.0) ways.second))
       | IsThrough.is_second_back e ↦ absurd (turns passing.second y-shown e)
       | IsThrough.is_other k ↦ k
     ]
 
-    after-tx : Other (f (twin passing.first))
-    after-tx = elim (between.through-half through past p a b passing it (f (twin passing.first)) (local.inside (twin passing.first) tx-shown)) [
+    after-tx : IsOther it (f (twin passing.first))
+    after-tx = elim (between.through-half it (f (twin passing.first)) (local.inside (twin passing.first) tx-shown)) [
       | IsThrough.is_first e ↦ absurd (not-tx_x e)
       | IsThrough.is_first_back e ↦
-          absurd (a-p (sym (ap (λ (s : Side). s.1) ways.first_back) ∙ sym (begins (twin passing.first) (twin passing.first) tx-shown e) ∙ ap (λ (s : Side). s.0) ways.first_back))
+          absurd (between.a-p it (sym (ap (λ (s : Side). s.1) ways.first_back) ∙ sym (begins (twin passing.first) (twin passing.first) tx-shown e) ∙ ap (λ (s : Side). s.0) ways.first_back))
       | IsThrough.is_second e ↦
-          absurd (a-p (sym (ap (λ (s : Side). s.1) ways.first_back) ∙ sym (begins (twin passing.first) passing.second tx-shown e) ∙ ap (λ (s : Side). s.0) ways.second))
+          absurd (between.a-p it (sym (ap (λ (s : Side). s.1) ways.first_back) ∙ sym (begins (twin passing.first) passing.second tx-shown e) ∙ ap (λ (s : Side). s.0) ways.second))
       | IsThrough.is_second_back e ↦ absurd (not-tx_ty e)
       | IsThrough.is_other k ↦ k
     ]
@@ -196,23 +183,23 @@ module _ (through past : Map) (p a b : ℕ) (passing : Passing)
     goes-whole : Goes passing.whole
     goes-whole =
         goes-on rows new keeps past passing.whole (f passing.second) now.whole
-        (between.other-past through past p a b passing it (f passing.second) after-y)
+        (between.other-past it (f passing.second) after-y)
         (local.meets passing.second y-shown ∙ ap (λ (s : Side). s.1) ways.second ∙ sym (ap (λ (s : Side). s.1) ways.whole))
         (subst (λ (s : Side). ComesAfter past s (beyond rows passing.second)) (sym ways.whole) (gone.from_second passing.second y-shown ways.second))
 
     goes-whole_back : Goes (twin passing.whole)
     goes-whole_back =
         goes-on rows new keeps past (twin passing.whole) (f (twin passing.first)) now.whole_back
-        (between.other-past through past p a b passing it (f (twin passing.first)) after-tx)
+        (between.other-past it (f (twin passing.first)) after-tx)
         (local.meets (twin passing.first) tx-shown ∙ ap (λ (s : Side). s.1) ways.first_back ∙ sym (ap (λ (s : Side). s.1) ways.whole_back))
         (subst (λ (s : Side). ComesAfter past s (beyond rows (twin passing.first))) (sym ways.whole_back)
         (gone.from_first (twin passing.first) tx-shown ways.first_back))
 
-    module _ (h : Half) (k : Other h) where
+    module _ (h : Half) (k : IsOther it h) where
       to-string : f h ≡ passing.first → Goes h
       to-string e =
           goes-on rows new keeps past h passing.whole (now.enters h e)
-          (between.whole-shown through past p a b passing it passing.whole refl)
+          (between.whole-shown it passing.whole refl)
           (ap (λ (s : Side). s.0) ways.whole ∙ sym (ap (λ (s : Side). s.0) ways.first) ∙ begins h passing.first (shown h k) e)
           (subst (λ (w : ℕ). ComesAfter past (side_by rows h) w) (sym (ap (λ (s : Side). s.1) ways.whole))
           (gone.to_first h (shown h k) (ap (side_by rows) e ∙ ways.first)))
@@ -220,27 +207,27 @@ module _ (through past : Map) (p a b : ℕ) (passing : Passing)
       to-string_back : f h ≡ twin passing.second → Goes h
       to-string_back e =
           goes-on rows new keeps past h (twin passing.whole) (now.returns h e)
-          (between.whole-shown through past p a b passing it (twin passing.whole) refl)
+          (between.whole-shown it (twin passing.whole) refl)
           (ap (λ (s : Side). s.0) ways.whole_back ∙ sym (ap (λ (s : Side). s.0) ways.second_back) ∙ begins h (twin passing.second) (shown h k) e)
           (subst (λ (w : ℕ). ComesAfter past (side_by rows h) w) (sym (ap (λ (s : Side). s.1) ways.whole_back))
           (gone.to_second h (shown h k) (ap (side_by rows) e ∙ ways.second_back)))
 
-      to-other : Other (f h) → Goes h
+      to-other : IsOther it (f h) → Goes h
       to-other far =
-          let not-x = between.not-first through past p a b passing it (f h) far in
-          let not-y = between.not-second through past p a b passing it (f h) far in
+          let not-x = between.not-first it (f h) far in
+          let not-y = between.not-second it (f h) far in
           goes-on rows new keeps past h (f h)
-          (now.others h (between.not-first through past p a b passing it h k)
-          (between.not-second through past p a b passing it h k)
-          (between.not-whole through past p a b passing it h k)
+          (now.others h (between.not-first it h k)
+          (between.not-second it h k)
+          (between.not-whole it h k)
           (λ e. not-x (ap (λ (q : Half). q.string) e)) (λ e. not-y (ap (λ (q : Half). q.string) e)))
-          (between.other-past through past p a b passing it (f h) far) (local.meets h (shown h k))
+          (between.other-past it (f h) far) (local.meets h (shown h k))
           (gone.stays h (shown h k) (begins-elsewhere h k) (ends-elsewhere h k)
           (ends-elsewhere (f h) far))
 
       goes-other : Goes h
       goes-other =
-          elim (between.through-half through past p a b passing it (f h) (local.inside h (shown h k))) [
+          elim (between.through-half it (f h) (local.inside h (shown h k))) [
             | IsThrough.is_first e ↦ to-string e
             | IsThrough.is_first_back e ↦
                 absurd (ends-elsewhere h k (sym (begins h (twin passing.first) (shown h k) e) ∙ ap (λ (s : Side). s.0) ways.first_back))
@@ -251,26 +238,17 @@ module _ (through past : Map) (p a b : ℕ) (passing : Passing)
           ]
 
     goes : (h : Half) → IsShown past h → Goes h
-    goes h shown = elim (between.past-half through past p a b passing it h shown) [
+    goes h shown = elim (between.past-half it h shown) [
       | IsPast.is_whole e ↦ subst Goes (sym e) goes-whole
       | IsPast.is_whole_back e ↦ subst Goes (sym e) goes-whole_back
       | IsPast.is_elsewhere k ↦ goes-other h k
     ]
 
-    ends-row : (s : StringRow) → Contains past.strings s → HasHalves rows s
-    ends-row s among =
-        elim (Contains-cases it.whole_row it.others s
-        (Contains-permutation past.strings (it.whole_row ∷ it.others) s it.strings_past among)) [
-          | inl e ↦ subst (HasHalves rows) e whole_there
-          | inr later ↦
-              All-at_each (HasHalves rows) through.strings s ends
-              (between.other-in_through through past p a b passing it s later)
-        ]
-
     pub past-ends : AllByRecursion (HasHalves new) past.strings
     past-ends =
-        All-from_each (HasHalves new) past.strings
-        (λ s among. halves-kept rows new keeps s (ends-row s among))
+        ends-same rows new keeps.origin keeps.has past.strings
+        (All-permuted (HasHalves rows) (it.whole_row ∷ it.others) past.strings (IsPermutation-sym past.strings (it.whole_row ∷ it.others) it.strings_past)
+        (whole_there, (All-permuted (HasHalves rows) through.strings (it.first_row ∷ it.second_row ∷ it.others) it.strings ends).1.1))
 
     pub past-local : IsLocal past new
     past-local = local-from rows new keeps past it.rings_past linked past-ends goes

@@ -7,9 +7,9 @@ use Rattle.cad_rings.specs.Cycle.{Side, opposite}
 use Rattle.cad_map.specs.Map.{Map, side_of}
 use Rattle.cad_map.specs.Rings.{HasWholeRings}
 use Rattle.cad_map.specs.Views.{HasSide}
-use Rattle.cad_map.proofs.CallerLemmas.{All-at_each, All-from_each, IsBeside, beside, has_side-Contains, list_any-Contains}
+use Rattle.cad_map.proofs.CallerLemmas.{All-at_each, IsBeside, beside, has_side-Contains, list_any-Contains}
 use Rattle.half_table.specs.declared.half.Half.{Half}
-use Rattle.half_table.specs.Half.{twin, is_half, forward_of, backward_of}
+use Rattle.half_table.specs.Half.{twin, is_half}
 use Rattle.half_table.specs.Cycle.{holds}
 use Rattle.half_table.specs.Rows.{HalfRows, IsLinked, origin_of, face, cycle}
 use Rattle.half_table.specs.Surgery.{Relabels}
@@ -20,6 +20,7 @@ use Rattle.map_parts.specs.Labels.{IsOnRing}
 use Rattle.map_parts.specs.Passing.{IsHalfAlong}
 use Rattle.map_parts.proofs.PartsRings.{found-row}
 use Rattle.map_parts.proofs.WholeStrings.{two-ends}
+use Rattle.map_parts.proofs.IslandFits.{ends-same}
 use Rattle.map_parts.proofs.Labels.{any-there, cycle-on, label-local}
 use Rattle.map_parts.proofs.Passing.OneHand.{ring-face_has}
 use Rattle.map_parts.proofs.Passing.Between.{along-side, along-two}
@@ -55,15 +56,7 @@ module _ (m : Map) (whole : HasWholeRings m) (rows : HalfRows) (local : IsLocal 
       (subst (λ (k : Face). Relabels (cycle rows h) k rows new) home.face labels)
 
   pub relabelled-ends : AllByRecursion (HasHalves new) m.strings
-  relabelled-ends =
-      All-from_each (HasHalves new) m.strings
-      (λ s among. let e = All-at_each (HasHalves rows) m.strings s ends among in
-      record {
-        there = labels.has (forward_of s.number) ∙ e.there;
-        back = labels.has (backward_of s.number) ∙ e.back;
-        from = labels.origin (forward_of s.number) ∙ e.from;
-        to = labels.origin (backward_of s.number) ∙ e.to;
-      })
+  relabelled-ends = ends-same rows new labels.origin labels.has m.strings ends
 
   -- a half on the cycle has the face, and it is that of its side
   pub on-cycle_faced : (g : Half) → Contains (cycle rows h) g → HasSide m (face new g) (side_by new g)

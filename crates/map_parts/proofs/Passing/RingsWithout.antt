@@ -18,7 +18,7 @@ use Rattle.cad_laws.specs.Joining.{IsJoinedAt}
 use Rattle.cad_laws.proofs.CallerLemmas.{two-whole}
 use Rattle.map_parts.proofs.Passing.OneHand.{one-hand}
 
-module _ (m after : Map) (p a b : ℕ) (it : IsJoinedAt m after p a b) (whole : HasWholeRings m) where
+module _ {m after : Map} {p a b : ℕ} (it : IsJoinedAt m after p a b) (whole : HasWholeRings m) where
   two : (r : Boundary) → Contains m.boundaries r → 2 ≤ length r.ring
   two r there = All-at_each (λ b. 2 ≤ length b.ring) m.boundaries r (two-whole m whole) there
 

@@ -112,8 +112,8 @@ module _ {string : ℕ} {point : PointRow} {first second : StringRow} {before : 
 
   pub split-part : HasRoomAt stars p 2 → CanPart row first second stars
   split-part room =
-      let a-p = between.a-p (after_split can) m p row.from row.to (path_of string first.number second.number) it in
-      let b-p = between.b-p (after_split can) m p row.from row.to (path_of string first.number second.number) it in
+      let a-p = between.a-p it in
+      let b-p = between.b-p it in
       record {
         strings = m.strings;
         are = ready.fits.are_stars;

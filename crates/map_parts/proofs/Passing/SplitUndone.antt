@@ -149,13 +149,13 @@ module _ {row : StringRow} {place p first second : ℕ} {rows : MapRows} {table 
   undo-first =
       ap (λ (q : Map). string_of q first) can.fits.rows_are
       ∙ row-found now.strings one it.rings.v1.strings.distinct
-      (between.first-in now m p row.from row.to (path_of row.number first second) it)
+      (between.first-in it)
 
   pub undo-second : string_of (map_in rows) second ≡ Some other
   undo-second =
       ap (λ (q : Map). string_of q second) can.fits.rows_are
       ∙ row-found now.strings other it.rings.v1.strings.distinct
-      (between.second-in now m p row.from row.to (path_of row.number first second) it)
+      (between.second-in it)
 
   pub undo-meet : CanMeet row one other stars
   undo-meet = record {
@@ -165,8 +165,8 @@ module _ {row : StringRow} {place p first second : ℕ} {rows : MapRows} {table 
     parts = parts;
     two = All-at_each (λ (s : StringRow). s.from ≢ s.to) m.strings row can.tried.valid.sound.v2 there;
     point = p;
-    from_apart = between.a-p now m p row.from row.to (path_of row.number first second) it;
-    to_apart = between.b-p now m p row.from row.to (path_of row.number first second) it;
+    from_apart = between.a-p it;
+    to_apart = between.b-p it;
     before = inl (refl, refl);
     behind = inr (refl, refl);
   }

@@ -1,13 +1,12 @@
 -- The table of a map without a point, and then with it: the path through the point is in the place
 -- of the string past it.
-use Rattle.std.proofs.Common.{◌≡◌, ◌≢◌, ℕ, inl, inr, refl, sym, ap, subst, ◌∙◌, ◌∷◌}
+use Rattle.std.proofs.Common.{◌≡◌, ◌≢◌, ℕ, refl, sym, ap, subst, ◌∙◌, ◌∷◌}
 use Rattle.std.specs.List.{AllByRecursion, Contains}
-use Rattle.std.proofs.lemmas.List.Sorted.{Contains-permutation}
-use Rattle.cad_rows.specs.declared.rows.StringRow.{StringRow}
+use Rattle.std.proofs.lemmas.List.Sorted.{IsPermutation-sym}
 use Rattle.cad_rings.specs.Cycle.{Side}
 use Rattle.cad_map.specs.Map.{Map, all_sides}
 use Rattle.cad_map.specs.Views.{ComesAfter}
-use Rattle.cad_map.proofs.CallerLemmas.{Contains-cases, All-at_each, All-from_each}
+use Rattle.cad_map.proofs.CallerLemmas.{All-at_each, All-permuted}
 use Rattle.half_table.specs.declared.half.Half.{Half}
 use Rattle.half_table.specs.Half.{twin}
 use Rattle.half_table.specs.Rows.{HalfRows, IsLinked, next, origin_of}
@@ -20,13 +19,13 @@ use Rattle.cad_laws.proofs.CallerLemmas.{goes-on_split}
 use Rattle.map_parts.specs.Parts.{HasHalves}
 use Rattle.map_parts.specs.Passing.{HasBetween}
 use Rattle.map_parts.specs.declared.edits.passing.Passing.{Passing}
-use Rattle.map_parts.proofs.Passing.OneHand.{no-return}
+use Rattle.map_parts.proofs.IslandFits.{ends-same}
 use Rattle.map_parts.proofs.Passing.Routes.{IsThroughNow}
-use Rattle.map_parts.proofs.Passing.Local.{GoesOn, goes-on, halves-kept, local-from, string-half_side}
+use Rattle.map_parts.proofs.Passing.Local.{never-twin, GoesOn, goes-on, local-from, string-half_side}
 use Rattle.map_parts.proofs.Passing.Between as between
 use Rattle.map_parts.proofs.Passing.Between.{LeadBetween, IsThrough, IsPast, IsOther}
 
-module _ (through past : Map) (p a b : ℕ) (passing : Passing)
+module _ {through past : Map} {p a b : ℕ} {passing : Passing}
     (it : HasBetween through past p a b passing) (rows : HalfRows) (local : IsLocal past rows)
     (ends : AllByRecursion (HasHalves rows) past.strings) (first_there : HasHalves rows it.first_row)
     (second_there : HasHalves rows it.second_row) where
@@ -36,30 +35,24 @@ module _ (through past : Map) (p a b : ℕ) (passing : Passing)
   abbrev o : Half → ℕ
   o = origin_of rows
 
-  abbrev Other : Half → Type 0
-  Other h = IsOther through past p a b passing it h
-
   pub whole_there : HasHalves rows it.whole_row
   whole_there =
       All-at_each (HasHalves rows) past.strings it.whole_row ends
-      (between.whole-in through past p a b passing it)
+      (between.whole-in it)
 
-  ways : LeadBetween rows p a b passing
-  ways = between.ways through past p a b passing it rows first_there second_there whole_there
+  pub ways : LeadBetween rows p a b passing
+  ways = between.ways it rows first_there second_there whole_there
 
   z-shown : IsShown past passing.whole
-  z-shown = between.whole-shown through past p a b passing it passing.whole refl
+  z-shown = between.whole-shown it passing.whole refl
 
   tz-shown : IsShown past (twin passing.whole)
-  tz-shown = between.whole-shown through past p a b passing it (twin passing.whole) refl
+  tz-shown = between.whole-shown it (twin passing.whole) refl
 
   -- ---- The string past the point leads on to others
 
   turns : (h : Half) → IsShown past h → f h ≢ twin h
-  turns h shown e =
-      no-return past it.rings_past (side_by rows h)
-      (subst (λ (w : ℕ). ComesAfter past (side_by rows h) w)
-      (ap (λ (q : Half). o (twin q)) e ∙ ap o (twin-twin h)) (local.corners h shown))
+  turns = never-twin rows past it.rings_past local
 
   stands : (h : Half) → IsShown past h → (side_by rows h).0 ≢ (side_by rows h).1 → f h ≢ h
   stands h shown two e = two (sym (ap o e) ∙ local.meets h shown)
@@ -89,9 +82,9 @@ module _ (through past : Map) (p a b : ℕ) (passing : Passing)
     Goes h = GoesOn rows new keeps through h
 
     -- what comes after the string, one way or the other, is elsewhere
-    elsewhere : (h : Half) → (f h ≡ passing.whole → ⊥) → (f h ≡ twin passing.whole → ⊥) → IsShown past h → Other (f h)
+    elsewhere : (h : Half) → (f h ≡ passing.whole → ⊥) → (f h ≡ twin passing.whole → ⊥) → IsShown past h → IsOther it (f h)
     elsewhere h not_z not_tz shown =
-        elim (between.past-half through past p a b passing it (f h) (local.inside h shown)) [
+        elim (between.past-half it (f h) (local.inside h shown)) [
           | IsPast.is_whole e ↦ absurd (not_z e)
           | IsPast.is_whole_back e ↦ absurd (not_tz e)
           | IsPast.is_elsewhere k ↦ k
@@ -100,7 +93,7 @@ module _ (through past : Map) (p a b : ℕ) (passing : Passing)
     goes-first : Goes passing.first
     goes-first =
         goes-on rows new keeps through passing.first passing.second now.first
-        (between.second-shown through past p a b passing it passing.second refl)
+        (between.second-shown it passing.second refl)
         (ap (λ (s : Side). s.0) ways.second ∙ sym (ap (λ (s : Side). s.1) ways.first))
         (subst (λ (t : Side × ℕ). ComesAfter through t.0 t.1)
         (λ i. (sym ways.first i, sym (ap (λ (s : Side). s.1) ways.second) i)) it.joined.first_there)
@@ -108,7 +101,7 @@ module _ (through past : Map) (p a b : ℕ) (passing : Passing)
     goes-second_back : Goes (twin passing.second)
     goes-second_back =
         goes-on rows new keeps through (twin passing.second) (twin passing.first) now.second_back
-        (between.first-shown through past p a b passing it (twin passing.first) refl)
+        (between.first-shown it (twin passing.first) refl)
         (ap (λ (s : Side). s.0) ways.first_back ∙ sym (ap (λ (s : Side). s.1) ways.second_back))
         (subst (λ (t : Side × ℕ). ComesAfter through t.0 t.1)
         (λ i. (sym ways.second_back i, sym (ap (λ (s : Side). s.1) ways.first_back) i)) it.joined.second_there)
@@ -119,7 +112,7 @@ module _ (through past : Map) (p a b : ℕ) (passing : Passing)
         elsewhere passing.whole (λ e. other-is_half (f passing.whole) passing.whole leads.no_ring e)
         (λ e. other-is_half (f passing.whole) (twin passing.whole) leads.goes_on e) z-shown in
         goes-on rows new keeps through passing.second (f passing.whole) now.second
-        (between.other-through through past p a b passing it (f passing.whole) k)
+        (between.other-through it (f passing.whole) k)
         (local.meets passing.whole z-shown ∙ ap (λ (s : Side). s.1) ways.whole ∙ sym (ap (λ (s : Side). s.1) ways.second))
         (subst (λ (s : Side). ComesAfter through s (beyond rows passing.whole)) (sym ways.second) (gone.from_second passing.whole z-shown ways.whole))
 
@@ -129,26 +122,26 @@ module _ (through past : Map) (p a b : ℕ) (passing : Passing)
         elsewhere (twin passing.whole) (λ e. other-is_half (f (twin passing.whole)) passing.whole leads.goes_back e)
         (λ e. other-is_half (f (twin passing.whole)) (twin passing.whole) leads.no_ring_back e) tz-shown in
         goes-on rows new keeps through (twin passing.first) (f (twin passing.whole)) now.first_back
-        (between.other-through through past p a b passing it (f (twin passing.whole)) k)
+        (between.other-through it (f (twin passing.whole)) k)
         (local.meets (twin passing.whole) tz-shown ∙ ap (λ (s : Side). s.1) ways.whole_back ∙ sym (ap (λ (s : Side). s.1) ways.first_back))
         (subst (λ (s : Side). ComesAfter through s (beyond rows (twin passing.whole))) (sym ways.first_back)
         (gone.from_first (twin passing.whole) tz-shown ways.whole_back))
 
-    module _ (h : Half) (k : Other h) where
+    module _ (h : Half) (k : IsOther it h) where
       shown : IsShown past h
-      shown = between.other-past through past p a b passing it h k
+      shown = between.other-past it h k
 
       there : Contains (all_sides through) (side_by rows h)
       there =
           string-half_side through it.rings rows k.row
-          (between.other-in_through through past p a b passing it k.row k.there)
+          (between.other-in_through it k.row k.there)
           (All-at_each (HasHalves rows) past.strings k.row ends
-          (between.other-in_past through past p a b passing it k.row k.there)) h k.number
+          (between.other-in_past it k.row k.there)) h k.number
 
       to-path : f h ≡ passing.whole → Goes h
       to-path e =
           goes-on rows new keeps through h passing.first (now.enters h e)
-          (between.first-shown through past p a b passing it passing.first refl)
+          (between.first-shown it passing.first refl)
           (ap (λ (s : Side). s.0) ways.first ∙ sym (ap (λ (s : Side). s.0) ways.whole) ∙ sym (ap o e) ∙ local.meets h shown)
           (subst (λ (w : ℕ). ComesAfter through (side_by rows h) w) (sym (ap (λ (s : Side). s.1) ways.first))
           (gone.to_first h shown there (ap (side_by rows) e ∙ ways.whole)))
@@ -156,36 +149,36 @@ module _ (through past : Map) (p a b : ℕ) (passing : Passing)
       to-path_back : f h ≡ twin passing.whole → Goes h
       to-path_back e =
           goes-on rows new keeps through h (twin passing.second) (now.returns h e)
-          (between.second-shown through past p a b passing it (twin passing.second) refl)
+          (between.second-shown it (twin passing.second) refl)
           (ap (λ (s : Side). s.0) ways.second_back ∙ sym (ap (λ (s : Side). s.0) ways.whole_back) ∙ sym (ap o e) ∙ local.meets h shown)
           (subst (λ (w : ℕ). ComesAfter through (side_by rows h) w) (sym (ap (λ (s : Side). s.1) ways.second_back))
           (gone.to_second h shown there (ap (side_by rows) e ∙ ways.whole_back)))
 
-      to-other : Other (f h) → Goes h
+      to-other : IsOther it (f h) → Goes h
       to-other far =
-          let apart = between.not-whole through past p a b passing it (f h) far in
+          let apart = between.not-whole it (f h) far in
           let not_z : f h ≢ passing.whole = λ e. apart (ap (λ (q : Half). q.string) e) in
           let not_tz : f h ≢ twin passing.whole = λ e. apart (ap (λ (q : Half). q.string) e) in
           let inside = local.inside h shown in
           goes-on rows new keeps through h (f h)
-          (now.others h (between.not-first through past p a b passing it h k)
-          (between.not-second through past p a b passing it h k)
-          (between.not-whole through past p a b passing it h k) not_z not_tz)
-          (between.other-through through past p a b passing it (f h) far) (local.meets h shown)
+          (now.others h (between.not-first it h k)
+          (between.not-second it h k)
+          (between.not-whole it h k) not_z not_tz)
+          (between.other-through it (f h) far) (local.meets h shown)
           (gone.stays h shown there
           (λ e. not_z (local.apart (f h) passing.whole inside z-shown (e ∙ sym ways.whole)))
           (λ e. not_tz (local.apart (f h) (twin passing.whole) inside tz-shown (e ∙ sym ways.whole_back))))
 
       goes-other : Goes h
       goes-other =
-          elim (between.past-half through past p a b passing it (f h) (local.inside h shown)) [
+          elim (between.past-half it (f h) (local.inside h shown)) [
             | IsPast.is_whole e ↦ to-path e
             | IsPast.is_whole_back e ↦ to-path_back e
             | IsPast.is_elsewhere far ↦ to-other far
           ]
 
     goes : (h : Half) → IsShown through h → Goes h
-    goes h shown = elim (between.through-half through past p a b passing it h shown) [
+    goes h shown = elim (between.through-half it h shown) [
       | IsThrough.is_first e ↦ subst Goes (sym e) goes-first
       | IsThrough.is_first_back e ↦ subst Goes (sym e) goes-first_back
       | IsThrough.is_second e ↦ subst Goes (sym e) goes-second
@@ -193,23 +186,11 @@ module _ (through past : Map) (p a b : ℕ) (passing : Passing)
       | IsThrough.is_other k ↦ goes-other h k
     ]
 
-    ends-row : (s : StringRow) → Contains through.strings s → HasHalves rows s
-    ends-row s among =
-        elim (Contains-cases it.first_row (it.second_row ∷ it.others) s
-        (Contains-permutation through.strings (it.first_row ∷ it.second_row ∷ it.others) s it.strings among)) [
-          | inl e ↦ subst (HasHalves rows) e first_there
-          | inr later ↦ elim (Contains-cases it.second_row it.others s later) [
-            | inl e ↦ subst (HasHalves rows) e second_there
-            | inr last ↦
-                All-at_each (HasHalves rows) past.strings s ends
-                (between.other-in_past through past p a b passing it s last)
-          ]
-        ]
-
     pub through-ends : AllByRecursion (HasHalves new) through.strings
     through-ends =
-        All-from_each (HasHalves new) through.strings
-        (λ s among. halves-kept rows new keeps s (ends-row s among))
+        ends-same rows new keeps.origin keeps.has through.strings
+        (All-permuted (HasHalves rows) (it.first_row ∷ it.second_row ∷ it.others) through.strings (IsPermutation-sym through.strings (it.first_row ∷ it.second_row ∷ it.others) it.strings)
+        (first_there, (second_there, (All-permuted (HasHalves rows) past.strings (it.whole_row ∷ it.others) it.strings_past ends).1)))
 
     pub through-local : IsLocal through new
     through-local = local-from rows new keeps through it.rings linked through-ends goes

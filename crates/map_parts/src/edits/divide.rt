@@ -7,13 +7,13 @@ ghost use Rattle.half_table.specs.Cycle.{holds};
 ghost use Rattle.half_table.specs.Rows.{IsLinked, next, face, cycle};
 ghost use Rattle.half_paths.specs.Path.{strings_of};
 ghost use Rattle.half_paths.specs.Loose.{is_of, AreLoose};
-ghost use Rattle.map_parts.specs.Relabelled.{cycles_length};
 ghost use Rattle.map_parts.specs.FaceChanges.{CanBringChain, CanTakeChain};
 ghost use Rattle.map_parts.specs.FaceChanges.{CanBringAcross, CanTakeAcross};
 ghost use Rattle.map_parts.specs.FaceChanges.{IsLocalWithChain, IsLocalWithoutChain};
 ghost use Rattle.map_parts.specs.FaceChanges.{GoesWithChain, GoesWithoutChain};
 ghost use Rattle.map_parts.specs.Handing.{KeepsEnds, KeepsNoMore};
 ghost use Rattle.key_lists.specs.Held.{items_at, capacity_at};
+ghost use Rattle.map_parts.specs.FaceTicks.{ticks_to_bring_across, ticks_to_take_across};
 
 use crate::edits::chain::{bring_chain, take_chain};
 use crate::edits::faces::{relabel_each, relabel_path};
@@ -109,8 +109,8 @@ pub(crate) fn bring_across<T: Tally>(
 
     ensures halves { KeepsEnds table.old.rows table.new.rows }
     ensures linked { IsLinked table.new.rows }
-    ensures work { table.new.work ≡ ticked (2 + 2 * length rest.now + (length rest.now + 2)
-        + (length (cycle table.new.rows first.now) + cycles_length table.new.rows moved.now))
+    ensures work { table.new.work
+        ≡ ticked (ticks_to_bring_across table.new.rows first.now rest.now moved.now)
         table.old.work }
     ensures count { length (items_at kept.new (face_place_of inner.now))
         + length (items_at kept.new (face_place_of outer.now))
@@ -150,9 +150,8 @@ pub(crate) fn take_across<T: Tally>(
     ensures loose { AreLoose (next table.new.rows) (first.now ∷ rest.now) }
     ensures halves { KeepsEnds table.old.rows table.new.rows }
     ensures linked { IsLinked table.new.rows }
-    ensures work { table.new.work ≡ ticked (cycles_length table.old.rows moved.now
-        + (length (cycle table.old.rows first.now) + (length rest.now + 2)
-        + (2 + 2 * length rest.now)))
+    ensures work { table.new.work
+        ≡ ticked (ticks_to_take_across table.old.rows first.now rest.now moved.now)
         table.old.work }
     ensures kept { KeepsNoMore (face_place_of inner.now) (face_place_of outer.now) kept.old
         kept.new }

@@ -1,19 +1,20 @@
 //! A face divided in place, with the room that it takes, and the division taken back: rows, stars,
 //! table and kept halves.
-ghost use Rattle.std.specs.Prelude.{◌≡◌, ◌+◌, ◌*◌, ◌≤◌, ◌∷◌, ℕ, true, length};
-ghost use Rattle.std.specs.Prelude.{if◌then◌else◌, OnOk, OnErr};
+ghost use Rattle.std.specs.Prelude.{◌≡◌, ◌+◌, ◌∷◌, length};
+ghost use Rattle.std.specs.Prelude.{OnOk, OnErr};
 ghost use Rattle.cad_map.specs.Boundaries.{face_place as face_place_of};
 ghost use Rattle.cad_rows.specs.declared.names.Face.TheVariants.{Parcel};
 ghost use Rattle.half_table.specs.declared.half.Half.{Half as HalfOf};
 ghost use Rattle.half_table.specs.Count.{ticked};
-ghost use Rattle.half_table.specs.Rows.{next, has, origin_of, cycle};
-ghost use Rattle.half_paths.specs.Loose.{numbers_of, is_of, AreLoose};
+ghost use Rattle.half_table.specs.Rows.{next, has, origin_of};
+ghost use Rattle.half_paths.specs.Loose.{numbers_of, AreLoose};
 ghost use Rattle.key_lists.specs.Held.{items_at, HasRoomAt};
 ghost use Rattle.map_parts.specs.Dividing.{CanBeginDivide, CanBeginUndivide, CanUndivide};
 ghost use Rattle.map_parts.specs.Dividing.{divided, rings_beside};
+ghost use Rattle.map_parts.specs.FaceTicks.{ticks_to_bring_across, ticks_to_take_across};
 ghost use Rattle.map_parts.specs.Islands.{AreOfRings};
-ghost use Rattle.map_parts.specs.Relabelled.{cycles_length};
 ghost use Rattle.map_parts.specs.Splitting.{FitMap};
+ghost use Rattle.map_parts.specs.TableGrown.{CameAndWent, HasBesides, KeepsOrigins};
 
 use crate::edits::added::{put_added, take_added};
 use crate::edits::divide::{bring_across, take_across};
@@ -67,16 +68,14 @@ pub fn begin_divide<T: Tally>(
         (length (items_at kept.new (face_place_of face.now)))) }
     ensures outer_room { OnOk result (HasRoomAt kept.new (face_place_of face.now)
         (length (items_at kept.new (face_place_of (Parcel parcel.number))) + 1)) }
-    ensures has { OnOk result ((h : HalfOf) → has table.new.rows h
-        ≡ (if is_of (numbers_of strings.items) h then true else has table.old.rows h)) }
-    ensures origin { OnOk result ((h : HalfOf) → has table.old.rows h ≡ true
-        → origin_of table.new.rows h ≡ origin_of table.old.rows h) }
-    ensures work { OnOk result (table.new.work ≡ ticked (2 + 2 * length rest.now
-        + (length rest.now + 2)
-        + (length (cycle table.new.rows first.now) + cycles_length table.new.rows moved.now))
+    ensures has { OnOk result (HasBesides (numbers_of strings.items)
+        table.old.rows table.new.rows) }
+    ensures origin { OnOk result (KeepsOrigins table.old.rows table.new.rows) }
+    ensures work { OnOk result (table.new.work
+        ≡ ticked (ticks_to_bring_across table.new.rows first.now rest.now moved.now)
         (ticked (length strings.items) table.old.work)) }
-    ensures err_work { OnErr result ((count : ℕ) × (count ≤ length strings.items)
-        × (table.new.work ≡ ticked count (ticked count table.old.work))) }
+    ensures err_work { OnErr result (CameAndWent (length strings.items)
+        table.old.work table.new.work) }
 {
     let number = parcel.number;
     add_with_room(rows, table, kept, stars, face, strings.as_slice(), number)?;
@@ -109,9 +108,8 @@ pub fn undivide<T: Tally>(
     ensures loose { AreLoose (next table.new.rows) (first.now ∷ rest.now) }
     ensures has { (h : HalfOf) → has table.new.rows h ≡ has table.old.rows h }
     ensures origin { (h : HalfOf) → origin_of table.new.rows h ≡ origin_of table.old.rows h }
-    ensures work { table.new.work ≡ ticked (cycles_length table.old.rows moved.now
-        + (length (cycle table.old.rows first.now) + (length rest.now + 2)
-        + (2 + 2 * length rest.now)))
+    ensures work { table.new.work
+        ≡ ticked (ticks_to_take_across table.old.rows first.now rest.now moved.now)
         table.old.work }
 {
     let inner = Face::Parcel(parcel);
@@ -147,9 +145,9 @@ pub fn begin_undivide<T: Tally>(
     ensures err_table { OnErr result (table.new ≡ table.old) }
     ensures loose { OnOk result (AreLoose (next table.new.rows) (first.now ∷ rest.now)) }
     ensures has { (h : HalfOf) → has table.new.rows h ≡ has table.old.rows h }
-    ensures work { OnOk result (table.new.work ≡ ticked (cycles_length table.old.rows moved.now
-        + (length (cycle table.old.rows first.now) + (length rest.now + 2)
-        + (2 + 2 * length rest.now))) table.old.work) }
+    ensures work { OnOk result (table.new.work
+        ≡ ticked (ticks_to_take_across table.old.rows first.now rest.now moved.now)
+        table.old.work) }
 {
     make_handing_room(kept, face, parcel)?;
     undivide(

@@ -3,13 +3,13 @@
 ghost use Rattle.std.specs.Prelude.{◌≡◌, ◌∷◌, ◌+◌, ℕ, length};
 ghost use Rattle.cad_map.specs.Boundaries.{face_place as face_place_of};
 ghost use Rattle.half_table.specs.Half.{twin};
-ghost use Rattle.half_table.specs.Rows.{IsLinked, next, cycle};
+ghost use Rattle.half_table.specs.Rows.{IsLinked, next};
 ghost use Rattle.half_table.specs.Count.{ticked};
 ghost use Rattle.half_paths.specs.Loose.{AreLoose};
 ghost use Rattle.key_lists.specs.Held.{items_at, capacity_at};
-ghost use Rattle.map_parts.specs.Relabelled.{cycles_length};
 ghost use Rattle.map_parts.specs.FaceChanges.{CanBring, CanTakeOut};
 ghost use Rattle.map_parts.specs.FaceChanges.{GoesWithIsland, GoesWithoutIsland};
+ghost use Rattle.map_parts.specs.FaceTicks.{ticks_to_bring_in, ticks_to_take_out};
 ghost use Rattle.map_parts.specs.Handing.{KeepsEnds, KeepsNoMore};
 
 use crate::edits::handing::{clear, hand_over};
@@ -41,8 +41,8 @@ pub(crate) fn bring_in<T: Tally>(
 
     ensures halves { KeepsEnds table.old.rows table.new.rows }
     ensures linked { IsLinked table.new.rows }
-    ensures work { table.new.work ≡ ticked (length rest.now + 1 + (length (cycle table.new.rows first.now)
-        + (length (cycle table.new.rows (twin first.now)) + cycles_length table.new.rows moved.now))) table.old.work }
+    ensures work { table.new.work
+        ≡ ticked (ticks_to_bring_in table.new.rows first.now rest.now moved.now) table.old.work }
     ensures capacity { (n : ℕ) → capacity_at kept.new n ≡ capacity_at kept.old n }
     // Two halves more are kept of the rings of the two faces.
     ensures count { length (items_at kept.new (face_place_of inner.now)) + length (items_at kept.new (face_place_of outer.now))
@@ -80,8 +80,8 @@ pub(crate) fn take_out<T: Tally>(
     ensures loose { AreLoose (next table.new.rows) (first.now ∷ rest.now) }
     ensures halves { KeepsEnds table.old.rows table.new.rows }
     ensures linked { IsLinked table.new.rows }
-    ensures work { table.new.work ≡ ticked (cycles_length table.old.rows moved.now
-        + (length (cycle table.old.rows (twin first.now)) + (length rest.now + 1))) table.old.work }
+    ensures work { table.new.work
+        ≡ ticked (ticks_to_take_out table.old.rows first.now rest.now moved.now) table.old.work }
     // No more halves are kept for the two faces together.
     ensures kept { KeepsNoMore (face_place_of inner.now) (face_place_of outer.now) kept.old
         kept.new }

@@ -1,21 +1,21 @@
 //! A face enclosed in place, with the room that it takes, and the enclosure taken back: rows, stars,
 //! table and kept halves.
-ghost use Rattle.std.specs.Prelude.{◌≡◌, ◌≤◌, ◌+◌, ◌*◌, ◌∷◌, ℕ, true, length};
-ghost use Rattle.std.specs.Prelude.{if◌then◌else◌, OnOk, OnErr};
+ghost use Rattle.std.specs.Prelude.{◌≡◌, ◌≤◌, ◌+◌, ◌*◌, ◌∷◌, ℕ, length};
+ghost use Rattle.std.specs.Prelude.{OnOk, OnErr};
 ghost use Rattle.cad_map.specs.Boundaries.{face_place as face_place_of};
 ghost use Rattle.cad_rows.specs.declared.names.Face.TheVariants.{Parcel};
 ghost use Rattle.half_table.specs.declared.half.Half.{Half as HalfOf};
 ghost use Rattle.half_table.specs.Count.{ticked};
-ghost use Rattle.half_table.specs.Half.{twin};
-ghost use Rattle.half_table.specs.Rows.{next, has, origin_of, cycle};
-ghost use Rattle.half_paths.specs.Loose.{numbers_of, is_of, AreLoose};
+ghost use Rattle.half_table.specs.Rows.{next, has, origin_of};
+ghost use Rattle.half_paths.specs.Loose.{numbers_of, AreLoose};
 ghost use Rattle.key_lists.specs.Held.{items_at, HasRoomAt};
 ghost use Rattle.cad_laws.specs.Local.{IsShown, side_by};
 ghost use Rattle.map_parts.specs.Enclosing.{CanBeginEnclose, CanBeginOpen, CanOpen};
 ghost use Rattle.map_parts.specs.Enclosing.{enclosed, rings_placed};
+ghost use Rattle.map_parts.specs.FaceTicks.{ticks_to_bring_in, ticks_to_take_out};
 ghost use Rattle.map_parts.specs.Islands.{AreOfRings};
-ghost use Rattle.map_parts.specs.Relabelled.{cycles_length};
 ghost use Rattle.map_parts.specs.Splitting.{FitMap};
+ghost use Rattle.map_parts.specs.TableGrown.{HasBesides};
 
 use crate::edits::added::{put_added, take_added};
 use crate::edits::enclose::{bring_in, take_out};
@@ -61,14 +61,13 @@ pub fn begin_enclose<T: Tally>(
         (length (items_at kept.new (face_place_of face.now)))) }
     ensures outer_room { OnOk result (HasRoomAt kept.new (face_place_of face.now)
         (length (items_at kept.new (face_place_of (Parcel parcel.number))))) }
-    ensures has { OnOk result ((h : HalfOf) → has table.new.rows h
-        ≡ (if is_of (numbers_of strings.items) h then true else has table.old.rows h)) }
+    ensures has { OnOk result (HasBesides (numbers_of strings.items)
+        table.old.rows table.new.rows) }
     ensures origin { (can : CanBeginEnclose face.now strings.items parcel (first.now ∷ rest.now) moved.now
         rows.old table.old.rows kept.old stars.old) → OnOk result
         ((h : HalfOf) → IsShown can.map h → side_by table.new.rows h ≡ side_by table.old.rows h) }
-    ensures work { OnOk result (table.new.work ≡ ticked (length strings.items + (length rest.now + 1
-        + (length (cycle table.new.rows first.now) + (length (cycle table.new.rows (twin first.now))
-        + cycles_length table.new.rows moved.now)))) table.old.work) }
+    ensures work { OnOk result (table.new.work ≡ ticked (length strings.items
+        + ticks_to_bring_in table.new.rows first.now rest.now moved.now) table.old.work) }
     ensures err_work { OnErr result ((count : ℕ) × (count ≤ 2 * length strings.items)
         × (table.new.work ≡ ticked count table.old.work)) }
 {
@@ -102,8 +101,8 @@ pub fn open<T: Tally>(
     ensures loose { AreLoose (next table.new.rows) (first.now ∷ rest.now) }
     ensures has { (h : HalfOf) → has table.new.rows h ≡ has table.old.rows h }
     ensures origin { (h : HalfOf) → origin_of table.new.rows h ≡ origin_of table.old.rows h }
-    ensures work { table.new.work ≡ ticked (cycles_length table.old.rows moved.now
-        + (length (cycle table.old.rows (twin first.now)) + (length rest.now + 1))) table.old.work }
+    ensures work { table.new.work
+        ≡ ticked (ticks_to_take_out table.old.rows first.now rest.now moved.now) table.old.work }
 {
     let inner = Face::Parcel(parcel);
     take_out(table, kept, first, rest, face, &inner, moved);
@@ -137,8 +136,8 @@ pub fn begin_open<T: Tally>(
         → OnErr result (FitMap (enclosed can.is) rows.new table.new.rows kept.new stars.new) }
     ensures loose { OnOk result (AreLoose (next table.new.rows) (first.now ∷ rest.now)) }
     ensures has { (h : HalfOf) → has table.new.rows h ≡ has table.old.rows h }
-    ensures work { OnOk result (table.new.work ≡ ticked (cycles_length table.old.rows moved.now
-        + (length (cycle table.old.rows (twin first.now)) + (length rest.now + 1))) table.old.work) }
+    ensures work { OnOk result (table.new.work
+        ≡ ticked (ticks_to_take_out table.old.rows first.now rest.now moved.now) table.old.work) }
     ensures err_table { OnErr result (table.new ≡ table.old) }
 {
     make_handing_room(kept, face, parcel)?;

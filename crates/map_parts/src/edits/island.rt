@@ -1,5 +1,5 @@
 //! An island that comes into a face of a table, and goes from it.
-ghost use Rattle.std.specs.Prelude.{◌≡◌, ◌∷◌, ◌+◌, ◌≤◌, List, length, if◌then◌else◌};
+ghost use Rattle.std.specs.Prelude.{◌≡◌, ◌∷◌, ◌≤◌, List, length, if◌then◌else◌};
 ghost use Rattle.std.specs.List.{AllByRecursion};
 ghost use Rattle.cad_rings.specs.Cycle.{Ring, sides_of};
 ghost use Rattle.cad_map.specs.declared.boundary.Boundary.{Boundary as BoundaryOf};
@@ -13,10 +13,11 @@ ghost use Rattle.half_table.specs.Cycle.{holds};
 ghost use Rattle.half_paths.specs.Path.{AreIn, AreDifferent};
 ghost use Rattle.half_paths.specs.Loose.{AreLoose};
 ghost use Rattle.half_paths.specs.Round.{IsRound};
+ghost use Rattle.map_parts.specs.FaceTicks.{ticks_to_bring_in, ticks_to_take_out};
 ghost use Rattle.map_parts.specs.Handing.{KeepsEnds};
 ghost use Rattle.map_parts.specs.Parts.{HasHalves};
 ghost use Rattle.map_parts.specs.Paths.{AreAlong, HasStringsMore};
-ghost use Rattle.map_parts.specs.Relabelled.{on_cycles, cycles_length};
+ghost use Rattle.map_parts.specs.Relabelled.{on_cycles};
 ghost use Rattle.map_parts.specs.Islands.{FitsTable, AreOfRings, IsIslandOf};
 
 use crate::edits::faces::relabel_each;
@@ -53,8 +54,8 @@ pub(crate) fn bring_island<T: Tally>(
 
     ensures halves { KeepsEnds table.old.rows table.new.rows }
     ensures linked { IsLinked table.new.rows }
-    ensures work { table.new.work ≡ ticked (length rest.now + 1 + (length (cycle table.new.rows first.now)
-        + (length (cycle table.new.rows (twin first.now)) + cycles_length table.new.rows moved.now))) table.old.work }
+    ensures work { table.new.work
+        ≡ ticked (ticks_to_bring_in table.new.rows first.now rest.now moved.now) table.old.work }
 {
     tie_ring(table, *first, rest);
     table.relabel(*first, *inner);
@@ -96,8 +97,8 @@ pub(crate) fn take_island<T: Tally>(
     ensures loose { AreLoose (next table.new.rows) (first.now ∷ rest.now) }
     ensures halves { KeepsEnds table.old.rows table.new.rows }
     ensures linked { IsLinked table.new.rows }
-    ensures work { table.new.work ≡ ticked (cycles_length table.old.rows moved.now
-        + (length (cycle table.old.rows (twin first.now)) + (length rest.now + 1))) table.old.work }
+    ensures work { table.new.work
+        ≡ ticked (ticks_to_take_out table.old.rows first.now rest.now moved.now) table.old.work }
 {
     relabel_each(table, moved, outer);
     let back = table.twin(*first);

@@ -1,22 +1,24 @@
 //! Two strings joined at a point, with the room that it takes, and the join taken back, in place.
-ghost use Rattle.std.specs.Prelude.{◌≡◌, ◌≢◌, ◌≤◌, ◌+◌, ◌++◌, ◌∷◌, ◌==◌, [], ℕ, true, not, None, IsSome, length, insert};
-ghost use Rattle.std.specs.Prelude.{if◌then◌else◌, OnErr, IfOk, OnOk};
+ghost use Rattle.std.specs.Prelude.{◌≡◌, ◌≢◌, ◌≤◌, ◌+◌, ◌++◌, ◌∷◌, ◌==◌, [], ℕ, not, None, IsSome, length, insert};
+ghost use Rattle.std.specs.Prelude.{OnErr, IfOk, OnOk};
 ghost use Rattle.half_table.specs.declared.half.Half.{Half as HalfOf};
 ghost use Rattle.half_table.specs.Count.{ticked};
 ghost use Rattle.half_table.specs.Half.{half_of, twin, forward_of, backward_of};
-ghost use Rattle.half_table.specs.Rows.{next, has, origin_of, strings, cycle};
-ghost use Rattle.half_paths.specs.Loose.{AreLoose, is_of};
+ghost use Rattle.half_table.specs.Rows.{next, has, origin_of, strings};
+ghost use Rattle.half_paths.specs.Loose.{AreLoose};
 ghost use Rattle.entry_list.specs.Slots.{HasSlot};
 ghost use Rattle.key_lists.specs.Held.{HasRoomAt};
 ghost use Rattle.cad_map.specs.Effects.{after};
 ghost use Rattle.cad_map.specs.Map.{point_of, string_of};
 ghost use Rattle.cad_map.specs.Table.{without_row};
 ghost use Rattle.cad_rows.specs.declared.edits.Edit.TheVariants.{Join};
+ghost use Rattle.map_parts.specs.FaceTicks.{ticks_to_pass};
 ghost use Rattle.map_parts.specs.Joined.{CanBePutBack, CanBeginJoin, CanBeginUnjoin, CanUnjoin, HaveJoined};
 ghost use Rattle.map_parts.specs.Parts.{HasHalves};
 ghost use Rattle.map_parts.specs.Passing.{path_at};
 ghost use Rattle.map_parts.specs.Rows.{map_in};
 ghost use Rattle.map_parts.specs.Splitting.{FitMap};
+ghost use Rattle.map_parts.specs.TableGrown.{HasBesides};
 
 use crate::edits::passing::{Passing, go_past, go_through};
 use crate::edits::rooms::{add_path, add_string};
@@ -141,11 +143,10 @@ pub fn begin_join<T: Tally>(
     ensures loose { IfOk result (λ r. AreLoose (next table.new.rows)
         ((path_at point r.first r.second row.number).first
         ∷ (path_at point r.first r.second row.number).second ∷ [])) }
-    ensures has { OnOk result ((h : HalfOf) → has table.new.rows h
-        ≡ (if is_of (row.number ∷ []) h then true else has table.old.rows h)) }
+    ensures has { OnOk result (HasBesides (row.number ∷ []) table.old.rows table.new.rows) }
     ensures work { OnOk result (table.new.work
-        ≡ ticked (1 + (length (cycle table.new.rows (forward_of row.number))
-        + length (cycle table.new.rows (backward_of row.number)) + 5)) table.old.work) }
+        ≡ ticked (1 + ticks_to_pass table.new.rows (forward_of row.number)
+        (backward_of row.number)) table.old.work) }
 {
     add_string(rows, table, &row)?;
     let first_row = rows.string(first);
@@ -210,8 +211,8 @@ pub fn unjoin<T: Tally>(
     ensures origin { (h : HalfOf) → origin_of table.new.rows h ≡ origin_of table.old.rows h }
     ensures strings { strings table.new.rows ≡ strings table.old.rows }
     ensures work { let path = path_at joined.point.number joined.first joined.second new in
-        table.new.work ≡ ticked (length (cycle table.new.rows path.first)
-        + length (cycle table.new.rows (twin path.second)) + 5) table.old.work }
+        table.new.work ≡ ticked (ticks_to_pass table.new.rows path.first (twin path.second))
+        table.old.work }
 {
     let halves = path(&joined.first, &joined.second, &joined.point.number, &new);
     go_through(table, kept, &halves);
@@ -243,12 +244,12 @@ pub fn begin_unjoin<T: Tally>(
     ensures err_work { OnErr result ((count : ℕ) × (count ≤ 2)
         × (table.new.work ≡ ticked count table.old.work)) }
     ensures loose { OnOk result (AreLoose (next table.new.rows) (forward_of string ∷ [])) }
-    ensures has { OnOk result ((h : HalfOf) → has table.new.rows h
-        ≡ (if is_of (joined.first.number ∷ joined.second.number ∷ []) h then true
-        else has table.old.rows h)) }
+    ensures has { OnOk result (HasBesides (joined.first.number ∷ joined.second.number ∷ [])
+        table.old.rows table.new.rows) }
     ensures work { let path = path_at joined.point.number joined.first joined.second string in
-        OnOk result (table.new.work ≡ ticked (2 + (length (cycle table.new.rows path.first)
-        + length (cycle table.new.rows (twin path.second)) + 5)) table.old.work) }
+        OnOk result (table.new.work
+        ≡ ticked (2 + ticks_to_pass table.new.rows path.first (twin path.second))
+        table.old.work) }
 {
     let first = &joined.first;
     let second = &joined.second;

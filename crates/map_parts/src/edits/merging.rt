@@ -1,24 +1,25 @@
 //! Two parcels merged in place along a chain, with the room that it takes, and the merger taken back:
 //! rows, stars, table and kept halves.
-ghost use Rattle.std.specs.Prelude.{◌≡◌, ◌+◌, ◌*◌, ◌≤◌, ◌∷◌, ℕ, true, length};
-ghost use Rattle.std.specs.Prelude.{if◌then◌else◌, IfOk, OnOk, OnErr};
+ghost use Rattle.std.specs.Prelude.{◌≡◌, ◌∷◌, length};
+ghost use Rattle.std.specs.Prelude.{IfOk, OnOk, OnErr};
 ghost use Rattle.cad_map.specs.Chain.{leaving};
 ghost use Rattle.half_table.specs.declared.half.Half.{Half as HalfOf};
 ghost use Rattle.half_table.specs.Count.{ticked};
-ghost use Rattle.half_table.specs.Rows.{next, has, origin_of, cycle};
-ghost use Rattle.half_paths.specs.Loose.{is_of, AreLoose};
+ghost use Rattle.half_table.specs.Rows.{next, has};
+ghost use Rattle.half_paths.specs.Loose.{AreLoose};
+ghost use Rattle.map_parts.specs.FaceTicks.{ticks_to_bring_across, ticks_to_take_across};
 ghost use Rattle.map_parts.specs.Handing.{KeepsEnds};
 ghost use Rattle.map_parts.specs.Labels.{IsAlong};
 ghost use Rattle.map_parts.specs.Merging.{CanBeginMerge, CanBeginUnmerge, CanUnmerge, HaveGone, merged};
 ghost use Rattle.map_parts.specs.Merging.{first_corner, last_corner};
 ghost use Rattle.map_parts.specs.PlacedStrings.{numbers_placed};
-ghost use Rattle.map_parts.specs.Relabelled.{cycles_length};
 ghost use Rattle.map_parts.specs.Rows.{map_in};
 ghost use Rattle.map_parts.specs.Splitting.{FitMap};
+ghost use Rattle.map_parts.specs.TableGrown.{CameAndWent, HasBesides, KeepsOrigins};
 
 use crate::edits::divide::{bring_across, take_across};
-use crate::edits::ended::{put_ended, take_ended};
-use crate::edits::merging_tried::{EndedParcel, make_merge_room, make_unmerge_room};
+use crate::edits::ended::{end_with_room, put_ended};
+use crate::edits::merging_tried::{EndedParcel, make_unmerge_room};
 use crate::edits::placed_strings::PlacedString;
 use crate::map_rows::MapRows;
 use crate::stars::Spoke;
@@ -70,14 +71,14 @@ pub fn begin_merge_along<T: Tally>(
         r.strings.items) }
     ensures loose { OnOk result (AreLoose (next table.new.rows) (first.now ∷ rest.now)) }
     ensures halves { KeepsEnds table.old.rows table.new.rows }
-    ensures work { OnOk result (table.new.work ≡ ticked (cycles_length table.old.rows moved.now
-        + (length (cycle table.old.rows first.now) + (length rest.now + 2)
-        + (2 + 2 * length rest.now))) table.old.work) }
+    ensures work { OnOk result (table.new.work
+        ≡ ticked (ticks_to_take_across table.old.rows first.now rest.now moved.now)
+        table.old.work) }
 {
-    let gone = make_merge_room(rows, kept, keeper, ended, strings.len())?;
+    let gone = end_with_room(rows, kept, stars, keeper, ended, strings)?;
     let inner = Face::Parcel(ended);
     take_across(table, kept, first, rest, keeper, &inner, moved);
-    Ok(take_ended(rows, stars, ended, strings, gone))
+    Ok(gone)
 }
 
 /// Takes a merger along a chain back: the strings and the parcel come back where they stood, and
@@ -105,8 +106,8 @@ pub fn unmerge_along<T: Tally>(
         moved.now gone.old.items rows.old table.old.rows kept.old stars.old)
         → FitMap can.map rows.new table.new.rows kept.new stars.new }
     ensures halves { KeepsEnds table.old.rows table.new.rows }
-    ensures work { table.new.work ≡ ticked (2 + 2 * length rest.now + (length rest.now + 2)
-        + (length (cycle table.new.rows first.now) + cycles_length table.new.rows moved.now))
+    ensures work { table.new.work
+        ≡ ticked (ticks_to_bring_across table.new.rows first.now rest.now moved.now)
         table.old.work }
 {
     let inner = Face::Parcel(row.number);
@@ -141,16 +142,14 @@ pub fn begin_unmerge_along<T: Tally>(
         start.now end.now moved.now gone.strings.items rows.old table.old.rows kept.old stars.old)
         → OnErr result (FitMap (merged can.is) rows.new table.new.rows kept.new stars.new) }
     ensures err_table { OnErr result (table.new.rows ≡ table.old.rows) }
-    ensures has { OnOk result ((h : HalfOf) → has table.new.rows h
-        ≡ (if is_of (numbers_placed gone.strings.items) h then true else has table.old.rows h)) }
-    ensures origin { OnOk result ((h : HalfOf) → has table.old.rows h ≡ true
-        → origin_of table.new.rows h ≡ origin_of table.old.rows h) }
-    ensures work { OnOk result (table.new.work ≡ ticked (2 + 2 * length rest.now
-        + (length rest.now + 2)
-        + (length (cycle table.new.rows first.now) + cycles_length table.new.rows moved.now))
+    ensures has { OnOk result (HasBesides (numbers_placed gone.strings.items)
+        table.old.rows table.new.rows) }
+    ensures origin { OnOk result (KeepsOrigins table.old.rows table.new.rows) }
+    ensures work { OnOk result (table.new.work
+        ≡ ticked (ticks_to_bring_across table.new.rows first.now rest.now moved.now)
         (ticked (length gone.strings.items) table.old.work)) }
-    ensures err_work { OnErr result ((count : ℕ) × (count ≤ length gone.strings.items)
-        × (table.new.work ≡ ticked count (ticked count table.old.work))) }
+    ensures err_work { OnErr result (CameAndWent (length gone.strings.items)
+        table.old.work table.new.work) }
 {
     make_unmerge_room(rows, table, kept, stars, keeper, &gone)?;
     let EndedParcel {

@@ -1,20 +1,15 @@
-//! What goes by a merger, and the room that it takes to go and to come back.
-ghost use Rattle.std.specs.Prelude.{◌≡◌, ◌≢◌, ◌+◌, ◌≤◌, [], ℕ, nat_eq, map, length, IfOk, OnOk, OnErr};
+//! What goes by a merger, and the room that it takes to come back.
+ghost use Rattle.std.specs.Prelude.{◌≡◌, nat_eq, map, length, IfOk, OnOk, OnErr};
 ghost use Rattle.std.specs.List.{IsDistinct};
-ghost use Rattle.std.specs.Vec.{vec_len, vec_capacity};
-ghost use Rattle.cad_map.specs.Boundaries.{face_place as face_place_of};
-ghost use Rattle.cad_rows.specs.declared.names.Face.TheVariants.{Parcel};
-ghost use Rattle.entry_list.specs.Slots.{HasSlot};
 ghost use Rattle.half_table.specs.Count.{ticked};
 ghost use Rattle.half_table.specs.Rows.{IsLinked};
-ghost use Rattle.half_paths.specs.Loose.{AddsStrings, AreNew};
-ghost use Rattle.key_lists.specs.Held.{IsSame};
-ghost use Rattle.map_parts.specs.Adding.{HasRoomToCome, HasRoomToExchange, IsSeenAs};
+ghost use Rattle.half_paths.specs.Loose.{AreNew};
+ghost use Rattle.map_parts.specs.Adding.{AreAdded, IsSeenAs};
 ghost use Rattle.map_parts.specs.Merging.{bare_row, rows_gone};
 ghost use Rattle.map_parts.specs.PlacedStrings.{numbers_placed};
-ghost use Rattle.map_parts.specs.Rows.{map_in};
+ghost use Rattle.map_parts.specs.TableGrown.{CameAndWent};
 
-use crate::edits::parcel_rooms::{add_with_room, make_handing_room};
+use crate::edits::parcel_rooms::add_with_room;
 use crate::edits::placed_strings::PlacedString;
 use crate::map_rows::MapRows;
 use crate::stars::Spoke;
@@ -29,29 +24,6 @@ pub struct EndedParcel {
     pub row: ParcelRow,
     pub place: usize,
     pub strings: Vec<PlacedString>,
-}
-
-/// Sees that a parcel can end without memory: its number can be retired, the halves that are kept for
-/// it and for a face can be kept for either, and so many strings can be listed.
-pub(crate) fn make_merge_room(
-    rows: &mut MapRows,
-    kept: &mut KeyLists<Half>,
-    face: &Face,
-    parcel: ParcelNo,
-    count: usize,
-) -> Result<Vec<PlacedString>, Memory>
-    requires { face_place_of face.now ≢ face_place_of (Parcel parcel) }
-    ensures rows { map_in rows.new ≡ map_in rows.old }
-    ensures slot { OnOk result (HasSlot rows.new.retired parcel) }
-    ensures same { IsSame kept.old kept.new }
-    ensures exchange { OnOk result (HasRoomToExchange face.now parcel kept.new) }
-    ensures none { IfOk result (λ gone. gone.items ≡ []) }
-    ensures room { IfOk result (λ gone. vec_len gone + count ≤ vec_capacity gone) }
-{
-    rows.retired.keep_slot(parcel.get())?;
-    make_handing_room(kept, face, parcel)?;
-    let gone = Vec::with_capacity(rows.parcels.allocator(), count)?;
-    Ok(gone)
 }
 
 // The strings that went, without their sources.
@@ -85,16 +57,14 @@ pub(crate) fn make_unmerge_room<T: Tally>(
     requires new { AreNew table.old.rows (rows_gone gone.now.strings.items) }
     requires different { IsDistinct nat_eq (numbers_placed gone.now.strings.items) }
     ensures seen { IsSeenAs rows.old rows.new kept.old kept.new stars.old stars.new }
-    ensures room { OnOk result (HasRoomToCome (rows_gone gone.now.strings.items) keeper.now
-        gone.now.row.number rows.new kept.new stars.new) }
-    ensures adds { OnOk result
-        (AddsStrings (rows_gone gone.now.strings.items) table.old.rows table.new.rows) }
-    ensures linked { IsLinked table.new.rows }
+    ensures added { OnOk result (AreAdded (rows_gone gone.now.strings.items) keeper.now
+        gone.now.row.number rows.old rows.new table.old.rows table.new.rows kept.old kept.new
+        stars.old stars.new) }
     ensures err { OnErr result (table.new.rows ≡ table.old.rows) }
     ensures work { OnOk result
         (table.new.work ≡ ticked (length gone.now.strings.items) table.old.work) }
-    ensures err_work { OnErr result ((count : ℕ) × (count ≤ length gone.now.strings.items)
-        × (table.new.work ≡ ticked count (ticked count table.old.work))) }
+    ensures err_work { OnErr result (CameAndWent (length gone.now.strings.items)
+        table.old.work table.new.work) }
 {
     let bare = bare_rows(rows.strings.allocator(), gone.strings.as_slice())?;
     let parcel = gone.row.number;

@@ -1,15 +1,16 @@
 //! Room for several strings and a parcel, made before the first change.
-ghost use Rattle.std.specs.Prelude.{◌≡◌, ◌≢◌, ◌+◌, ◌≤◌, ℕ, length, nat_eq, OnOk, OnErr};
+ghost use Rattle.std.specs.Prelude.{◌≡◌, ◌≢◌, ◌+◌, length, nat_eq, OnOk, OnErr};
 ghost use Rattle.std.specs.List.{AllByRecursion, IsDistinct};
 ghost use Rattle.cad_map.specs.Boundaries.{face_place as face_place_of};
 ghost use Rattle.cad_rows.specs.declared.names.Face.TheVariants.{Parcel};
 ghost use Rattle.entry_list.specs.Slots.{HasSlot, KeepsSlots};
 ghost use Rattle.half_table.specs.Count.{ticked};
 ghost use Rattle.half_table.specs.Rows.{IsLinked};
-ghost use Rattle.half_paths.specs.Loose.{numbers_of, AddsStrings, AreNew};
+ghost use Rattle.half_paths.specs.Loose.{numbers_of, AreNew};
 ghost use Rattle.key_lists.specs.Held.{items_at, HasRoomAt, IsSame};
-ghost use Rattle.map_parts.specs.Adding.{HasRoomAtEnds, HasRoomToCome, HasRoomToExchange, IsSeenAs};
+ghost use Rattle.map_parts.specs.Adding.{AreAdded, HasRoomAtEnds, HasRoomToExchange, IsSeenAs};
 ghost use Rattle.map_parts.specs.Rows.{map_in};
+ghost use Rattle.map_parts.specs.TableGrown.{CameAndWent};
 
 use crate::kept::face_place;
 use crate::map_rows::MapRows;
@@ -74,14 +75,12 @@ pub(crate) fn add_with_room<T: Tally>(
     requires new { AreNew table.old.rows strings.now }
     requires different { IsDistinct nat_eq (numbers_of strings.now) }
     ensures seen { IsSeenAs rows.old rows.new kept.old kept.new stars.old stars.new }
-    ensures room { OnOk result
-        (HasRoomToCome strings.now face.now parcel rows.new kept.new stars.new) }
-    ensures adds { OnOk result (AddsStrings strings.now table.old.rows table.new.rows) }
-    ensures linked { IsLinked table.new.rows }
+    ensures added { OnOk result (AreAdded strings.now face.now parcel rows.old rows.new
+        table.old.rows table.new.rows kept.old kept.new stars.old stars.new) }
     ensures err { OnErr result (table.new.rows ≡ table.old.rows) }
     ensures work { OnOk result (table.new.work ≡ ticked (length strings.now) table.old.work) }
-    ensures err_work { OnErr result ((count : ℕ) × (count ≤ length strings.now)
-        × (table.new.work ≡ ticked count (ticked count table.old.work))) }
+    ensures err_work { OnErr result (CameAndWent (length strings.now)
+        table.old.work table.new.work) }
 {
     keep_slots(rows, strings)?;
     rows.parcels.keep_slot(parcel.get())?;

@@ -1,9 +1,10 @@
 //! A path of two strings put in the place of one, and one in the place of two.
-ghost use Rattle.std.specs.Prelude.{◌≡◌, ◌∷◌, [], ◌+◌, length};
+ghost use Rattle.std.specs.Prelude.{◌≡◌, ◌∷◌, []};
 ghost use Rattle.half_table.specs.Half.{twin};
-ghost use Rattle.half_table.specs.Rows.{next, strings, cycle};
+ghost use Rattle.half_table.specs.Rows.{next, strings};
 ghost use Rattle.half_table.specs.Count.{ticked};
 ghost use Rattle.half_paths.specs.Loose.{AreLoose};
+ghost use Rattle.map_parts.specs.FaceTicks.{ticks_to_pass};
 ghost use Rattle.map_parts.specs.Handing.{KeepsEnds};
 ghost use Rattle.map_parts.specs.Passing.{FitTable, CanGoThrough, CanGoPast};
 
@@ -36,8 +37,8 @@ pub(crate) fn go_through<T: Tally>(
     ensures halves { KeepsEnds table.old.rows table.new.rows }
     ensures strings { strings table.new.rows ≡ strings table.old.rows }
     ensures work { table.new.work
-        ≡ ticked (length (cycle table.new.rows passing.now.first)
-        + length (cycle table.new.rows (twin passing.now.second)) + 5) table.old.work }
+        ≡ ticked (ticks_to_pass table.new.rows passing.now.first (twin passing.now.second))
+        table.old.work }
 {
     let first = &passing.first;
     let second = &passing.second;
@@ -68,8 +69,8 @@ pub(crate) fn go_past<T: Tally>(
     ensures halves { KeepsEnds table.old.rows table.new.rows }
     ensures strings { strings table.new.rows ≡ strings table.old.rows }
     ensures work { table.new.work
-        ≡ ticked (length (cycle table.new.rows passing.now.whole)
-        + length (cycle table.new.rows (twin passing.now.whole)) + 5) table.old.work }
+        ≡ ticked (ticks_to_pass table.new.rows passing.now.whole (twin passing.now.whole))
+        table.old.work }
 {
     let first = &passing.first;
     let second = &passing.second;

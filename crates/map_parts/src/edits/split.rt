@@ -1,20 +1,22 @@
 //! A string split at a new point, with the room that it takes, and the split taken back, in place.
 ghost use Rattle.std.specs.Prelude.{◌≡◌, ◌≢◌, ◌+◌, ◌++◌, ◌∷◌, [], ℕ, true, Some, None, IsSome, ◌≤◌, length, insert, slice_get};
-ghost use Rattle.std.specs.Prelude.{if◌then◌else◌, OnErr, IfOk, OnOk};
+ghost use Rattle.std.specs.Prelude.{OnErr, IfOk, OnOk};
 ghost use Rattle.half_table.specs.declared.half.Half.{Half as HalfOf};
 ghost use Rattle.half_table.specs.Count.{ticked};
 ghost use Rattle.half_table.specs.Half.{forward_of, backward_of};
-ghost use Rattle.half_table.specs.Rows.{next, has, origin_of, strings, cycle};
-ghost use Rattle.half_paths.specs.Loose.{AreLoose, is_of};
+ghost use Rattle.half_table.specs.Rows.{next, has, origin_of, strings};
+ghost use Rattle.half_paths.specs.Loose.{AreLoose};
 ghost use Rattle.entry_list.specs.Slots.{HasSlot};
 ghost use Rattle.cad_map.specs.Effects.{after};
 ghost use Rattle.cad_map.specs.Map.{point_of, string_of};
 ghost use Rattle.cad_map.specs.Table.{without_row};
 ghost use Rattle.cad_rows.specs.declared.edits.Edit.TheVariants.{Split};
+ghost use Rattle.map_parts.specs.FaceTicks.{ticks_to_pass};
 ghost use Rattle.map_parts.specs.Parts.{HasHalves};
 ghost use Rattle.map_parts.specs.Passing.{path_of};
 ghost use Rattle.map_parts.specs.Rows.{map_in};
 ghost use Rattle.map_parts.specs.Splitting.{CanBeginSplit, CanBeginUnsplit, CanUnsplit, FitMap};
+ghost use Rattle.map_parts.specs.TableGrown.{HasBesides};
 
 use crate::edits::passing::{Passing, go_past, go_through};
 use crate::edits::rooms::{add_path, add_string};
@@ -107,11 +109,11 @@ pub fn begin_split<T: Tally>(
     ensures slot { IfOk result (λ r. HasSlot rows.new.strings r.1.number) }
     ensures there { IfOk result (λ r. HasHalves table.new.rows r.1) }
     ensures loose { OnOk result (AreLoose (next table.new.rows) (forward_of string ∷ [])) }
-    ensures has { OnOk result ((h : HalfOf) → has table.new.rows h
-        ≡ (if is_of (first.number ∷ second.number ∷ []) h then true else has table.old.rows h)) }
+    ensures has { OnOk result (HasBesides (first.number ∷ second.number ∷ [])
+        table.old.rows table.new.rows) }
     ensures work { OnOk result (table.new.work
-        ≡ ticked (2 + (length (cycle table.new.rows (forward_of first.number))
-        + length (cycle table.new.rows (backward_of second.number)) + 5)) table.old.work) }
+        ≡ ticked (2 + ticks_to_pass table.new.rows (forward_of first.number)
+        (backward_of second.number)) table.old.work) }
     ensures err_work { OnErr result ((count : ℕ) × (count ≤ 2)
         × (table.new.work ≡ ticked count table.old.work)) }
 {
@@ -171,8 +173,9 @@ pub fn unsplit<T: Tally>(
     ensures has { (h : HalfOf) → has table.new.rows h ≡ has table.old.rows h }
     ensures origin { (h : HalfOf) → origin_of table.new.rows h ≡ origin_of table.old.rows h }
     ensures strings { strings table.new.rows ≡ strings table.old.rows }
-    ensures work { table.new.work ≡ ticked (length (cycle table.new.rows (forward_of row.number))
-        + length (cycle table.new.rows (backward_of row.number)) + 5) table.old.work }
+    ensures work { table.new.work
+        ≡ ticked (ticks_to_pass table.new.rows (forward_of row.number) (backward_of row.number))
+        table.old.work }
 {
     let halves = path(&row.number, &first, &second);
     go_past(table, kept, &halves);
@@ -211,11 +214,10 @@ pub fn begin_unsplit<T: Tally>(
     ensures err_table { OnErr result (table.new ≡ table.old) }
     ensures loose { OnOk result (AreLoose (next table.new.rows)
         (forward_of first ∷ forward_of second ∷ [])) }
-    ensures has { OnOk result ((h : HalfOf) → has table.new.rows h
-        ≡ (if is_of (row.number ∷ []) h then true else has table.old.rows h)) }
+    ensures has { OnOk result (HasBesides (row.number ∷ []) table.old.rows table.new.rows) }
     ensures work { OnOk result (table.new.work
-        ≡ ticked (1 + (length (cycle table.new.rows (forward_of row.number))
-        + length (cycle table.new.rows (backward_of row.number)) + 5)) table.old.work) }
+        ≡ ticked (1 + ticks_to_pass table.new.rows (forward_of row.number)
+        (backward_of row.number)) table.old.work) }
 {
     add_string(rows, table, &row)?;
     unsplit(rows, table, kept, stars, row, place, point, first, second);

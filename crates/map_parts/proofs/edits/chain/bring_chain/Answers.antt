@@ -1,12 +1,12 @@
-use Rattle.std.proofs.Common.{◌≡◌, ◌∙◌, ◌∷◌, true, length, sym, ap}
-use Rattle.half_table.specs.Count.{ticked}
+use Rattle.std.proofs.Common.{◌≡◌, ◌∙◌, ◌∷◌, true, length, ap}
 use Rattle.half_table.specs.declared.half.Half.{Half}
 use Rattle.half_table.specs.Rows.{has, next}
 use Rattle.half_paths.specs.Path.{last_of}
-use Rattle.half_paths.proofs.Along.{keeps-on, ticked-add}
+use Rattle.half_paths.proofs.Along.{keeps-on}
 use Rattle.half_paths.proofs.Exchanged.{last-all, unstrung-loose}
 use Rattle.cad_laws.specs.Local.{side_by}
 use Rattle.cad_rings.specs.Surgery.{sides_of_chain}
+use Rattle.map_parts.proofs.TicksAdded.{two-steps}
 use Rattle.map_parts.proofs.IslandFits.{side-same, along-same, ends-same}
 use Rattle.map_parts.proofs.IslandTable.{more-away}
 use Rattle.map_parts.proofs.ChainTable.{chain-comes}
@@ -65,5 +65,5 @@ returns g c =
           put.leaves put.comes_back;
       halves = halves;
       linked = c.put_path.ensures.linked;
-      work = c.put_path.ensures.work ∙ ap (ticked 2) c.string_up.ensures.work ∙ sym (ticked-add (length rest) 2 c.args.table.now.work);
+      work = two-steps (length rest) 2 c.args.table.now.work c.string_up.ensures.work c.put_path.ensures.work;
     }

@@ -1,10 +1,11 @@
-use Rattle.std.proofs.Common.{◌≡◌, ◌∙◌, ◌∷◌, ◌+◌, true, length, sym, ap, arith}
+use Rattle.std.proofs.Common.{◌≡◌, ◌∙◌, ◌∷◌, ◌+◌, true, length, ap, arith}
 use Rattle.half_table.specs.Count.{ticked}
 use Rattle.half_table.specs.declared.half.Half.{Half}
 use Rattle.half_table.specs.Rows.{has, next}
-use Rattle.half_paths.proofs.Along.{keeps-on, in-kept, ticked-add}
+use Rattle.half_paths.proofs.Along.{keeps-on, in-kept}
 use Rattle.half_paths.proofs.Exchanged.{last-all}
 use Rattle.cad_laws.specs.Local.{side_by}
+use Rattle.map_parts.proofs.TicksAdded.{two-steps}
 use Rattle.map_parts.proofs.IslandTable.{more-away, more-old}
 use Rattle.map_parts.proofs.ChainTable.{chain-goes}
 use Rattle.map_parts.proofs.ChainAcross.{first-along, last-along}
@@ -52,5 +53,5 @@ returns g c =
           let n = length rest in
           let w = c.args.table.now.work in
           let more : 2 + n ≡ n + 2 = omega arith in
-          c.loosen.ensures.work ∙ ap (ticked n) c.cut_path.ensures.work ∙ sym (ticked-add 2 n w) ∙ ap (λ k. ticked k w) more;
+          two-steps 2 n w c.cut_path.ensures.work c.loosen.ensures.work ∙ ap (λ k. ticked k w) more;
     }

@@ -3,17 +3,14 @@ use Rattle.cad_map.specs.Boundaries.{face_place}
 use Rattle.half_table.specs.declared.half.Half.{Half}
 use Rattle.half_table.specs.Count.{ticked}
 use Rattle.half_table.specs.Rows.{has, cycle}
-use Rattle.half_paths.proofs.Along.{ticked-add}
 use Rattle.key_lists.specs.Held.{items_at}
-use Rattle.cad_laws.specs.Local.{side_by}
 use Rattle.map_parts.specs.Relabelled.{cycles_length}
-use Rattle.map_parts.specs.Islands.{FitsTable}
 use Rattle.map_parts.specs.Handing.{KeepsBoth}
-use Rattle.map_parts.proofs.RelabelledEach.{cycle-same, in-relabelled, length-same}
+use Rattle.map_parts.proofs.TicksAdded.{two-steps}
+use Rattle.map_parts.proofs.RelabelledEach.{each-ends, ends-then, cycle-same, in-relabelled, length-same}
 use Rattle.map_parts.proofs.Handed.{count-handed, left-handed, both-in}
 use Rattle.map_parts.proofs.KeptIsland.{room-handed}
-use Rattle.map_parts.proofs.ChainAcross.{first-along, last-along}
-use Rattle.map_parts.proofs.ChainFits.{two-mid, along-mid, fits-across}
+use Rattle.map_parts.proofs.ChainFits.{all-across}
 use Rattle.map_parts.proofs.KeptChain.{chain-kept}
 use Rattle.map_parts.proofs.edits.divide.bring_across.Goals as goal
 
@@ -72,10 +69,7 @@ hand_over-requires-2-clause-room g c =
     omega (arith, count, more, cap, cap_one, room)
 
 pub returns-clause-halves : goal.returns-clause-halves
-returns-clause-halves g c = record {
-  has = λ h. c.relabel_each.ensures.relabels.has h ∙ c.bring_left.ensures.halves.has h;
-  origin = λ h. c.relabel_each.ensures.relabels.origin h ∙ c.bring_left.ensures.halves.origin h;
-}
+returns-clause-halves g c = ends-then c.bring_left.ensures.halves (each-ends c.relabel_each.ensures.relabels)
 
 pub returns-clause-count : goal.returns-clause-count
 returns-clause-count g c =
@@ -103,35 +97,22 @@ returns-clause-work g c =
     let is_r : r ≡ length (cycle new first) = sym (ap (λ (f : Half → List Half). length (f first)) (cycle-same mid new labels.strings labels.next)) in
     let is_q : q ≡ cycles_length new moved = sym (length-same mid new moved labels.strings labels.next) in
     let turn : n + r + q ≡ n + (r + q) = omega arith in
-    c.relabel_each.ensures.work ∙ ap (ticked q) c.bring_left.ensures.work ∙ sym (ticked-add (n + r) q w) ∙ ap (λ k. ticked k w) turn ∙ (λ i. ticked (n + (is_r i + is_q i)) w)
+    two-steps (n + r) q w c.bring_left.ensures.work c.relabel_each.ensures.work ∙ ap (λ k. ticked k w) turn ∙ (λ i. ticked (n + (is_r i + is_q i)) w)
 
 pub returns-clause-chain : goal.returns-clause-chain
 returns-clause-chain g c = λ whole parted its none ends start_on end_on goes.
     let outer = c.args.outer.now in
     let inner = c.args.inner.now in
     let first : Half = c.args.first.now in
-    let rest = c.args.rest.now in
-    let moved = c.args.moved.now in
-    let old = c.args.table.now.rows in
-    let mid = c.bring_left.new.table.rows in
-    let new = c.relabel_each.new.table.rows in
     let labels = c.relabel_each.ensures.relabels in
     let left_one = c.bring_left.ensures in
     let fits = goes.0 in
-    let first_side = first-along (side_by old) first rest its.chain its.long its.along in
-    let last_side = last-along (side_by old) first rest its.chain its.long its.along in
     let local = left_one.local whole parted its.chain its.first_corner its.last_corner its.rings its.parts its.long its.is.corners its.more its.along ends start_on end_on fits.local in
-    let fits_new : FitsTable parted new =
-    fits-across whole parted outer inner its.chain its.first_corner its.last_corner its.one its.left its.right its.others its.is its.rings its.parts its.long first rest its.more moved old mid new left_one.halves.has left_one.halves.origin left_one.faces
-    local labels c.relabel_each.ensures.linked its.along first_side last_side ends its.of fits in
-    let two_mid =
-    two-mid whole parted outer inner its.chain its.first_corner its.last_corner its.one its.left its.right its.others its.is its.rings its.parts its.long first rest its.more moved old mid new left_one.halves.has left_one.halves.origin left_one.faces
-    local labels c.relabel_each.ensures.linked its.along first_side last_side ends its.of fits in
-    let along_mid =
-    along-mid whole parted outer inner its.chain its.first_corner its.last_corner its.one its.left its.right its.others its.is its.rings its.parts its.long first rest its.more moved old mid new left_one.halves.has left_one.halves.origin left_one.faces
-    local labels c.relabel_each.ensures.linked its.along first_side last_side ends its.of fits in
+    let across =
+    all-across its.is its.rings its.parts its.long its.more left_one.halves.has left_one.halves.origin left_one.faces
+    local labels c.relabel_each.ensures.linked its.along ends its.of fits in
     let both = subst (λ (h : Half). KeepsBoth (face_place inner) (face_place outer) first h c.hand_over.new.kept c.keep_both.new.kept) c.twin-back.ensures.is c.keep_both.ensures.both in (
-      fits_new,
-      chain-kept whole parted outer inner its.chain its.first_corner its.last_corner its.one its.left its.right its.others its.is its.rings its.parts its.long its.two none first rest its.more old mid new left_one.halves.origin labels.origin fits local two_mid fits_new along_mid
+      across.0,
+      chain-kept its.is its.rings its.parts its.long its.two none its.more left_one.halves.origin labels.origin fits local across.1 across.0 across.2
           left_one.faces c.args.kept.now c.hand_over.new.kept c.keep_both.new.kept c.hand_over-2.new.kept goes.1 c.hand_over.ensures.hands both c.hand_over-2.ensures.hands,
     )

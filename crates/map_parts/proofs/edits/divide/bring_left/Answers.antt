@@ -6,9 +6,9 @@ use Rattle.half_table.specs.Cycle.{holds}
 use Rattle.half_table.specs.Rows.{face, cycle}
 use Rattle.half_paths.specs.Path.{strings_of}
 use Rattle.half_paths.specs.Loose.{is_of, AreLoose}
-use Rattle.half_paths.proofs.Along.{ticked-add}
 use Rattle.map_parts.specs.Relabelled.{cycles_length}
-use Rattle.map_parts.proofs.KeptShown.{local-kept}
+use Rattle.map_parts.proofs.TicksAdded.{three-steps}
+use Rattle.map_parts.proofs.KeptShown.{local-same}
 use Rattle.map_parts.proofs.RelabelledEach.{cycle-same, in-relabelled}
 use Rattle.map_parts.proofs.IslandFits.{along-same, half-same, ends-same}
 use Rattle.map_parts.proofs.ChainAcross.{place-kept}
@@ -49,8 +49,8 @@ returns g c =
           chained.halves.face h ∙ each.face h ∙ ap (λ (t : Bool). if t then outer else face old h) (cycles-of_loose old c.requires.linked (a ∷ rest) c.requires.within c.requires.loose h) in
           labels.face h ∙ (λ i. if holds (same i a) h then inner else was i);
       local = λ whole parted chain fc lc rings parts long law more along ends start_on end_on local.
-          let local_lone = local-kept whole old lone (λ h shown. each.has h) (λ h shown. each.next h) (λ h shown. each.origin h) c.relabel_path.ensures.linked local in
-          local-kept parted mid new (λ h shown. labels.has h) (λ h shown. labels.next h) (λ h shown. labels.origin h) c.relabel.ensures.linked
+          let local_lone = local-same whole old lone each.has each.next each.origin c.relabel_path.ensures.linked local in
+          local-same parted mid new labels.has labels.next labels.origin c.relabel.ensures.linked
           (chained.local whole parted chain fc lc rings parts long law more (along-same old lone each.origin (a ∷ rest) (sides_of_chain chain) along)
           (ends-same old lone each.origin each.has parted.strings ends) (half-same old lone each.origin each.has start_on) (half-same old lone each.origin each.has end_on) local_lone);
       halves = record { has = λ h. labels.has h ∙ chained.halves.has h ∙ each.has h; origin = λ h. labels.origin h ∙ chained.halves.origin h ∙ each.origin h };
@@ -62,6 +62,5 @@ returns g c =
           let r = length (cycle mid a) in
           let two : p ≡ 2 + 2 * length rest = let all = length-of_loose old c.requires.linked (a ∷ rest) c.requires.within c.requires.loose in omega (arith, all) in
           let is_r : r ≡ length (cycle new a) = ap (λ (f : Half → List Half). length (f a)) same in
-          c.relabel.ensures.work ∙ ap (ticked r) (chained.work ∙ ap (ticked n) c.relabel_path.ensures.work)
-          ∙ sym (ticked-add (p + n) r w ∙ ap (ticked r) (ticked-add p n w)) ∙ (λ i. ticked ((two i + n) + is_r i) w);
+          three-steps p n r w c.relabel_path.ensures.work chained.work c.relabel.ensures.work ∙ (λ i. ticked ((two i + n) + is_r i) w);
     }

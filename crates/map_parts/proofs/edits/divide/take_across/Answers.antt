@@ -8,17 +8,16 @@ use Rattle.half_table.specs.Cycle.{holds}
 use Rattle.half_table.specs.Rows.{next, face, cycle}
 use Rattle.half_paths.specs.Path.{strings_of, AreIn}
 use Rattle.half_paths.specs.Loose.{is_of}
-use Rattle.half_paths.proofs.Along.{ticked-add}
 use Rattle.key_lists.specs.Held.{items_at}
-use Rattle.cad_laws.specs.Local.{side_by}
 use Rattle.map_parts.specs.Handing.{KeepsOne}
 use Rattle.map_parts.specs.Relabelled.{on_cycles, cycles_length}
-use Rattle.map_parts.proofs.KeptShown.{local-kept}
-use Rattle.map_parts.proofs.RelabelledEach.{cycle-same, in-relabelled}
+use Rattle.map_parts.proofs.KeptShown.{local-same}
+use Rattle.map_parts.proofs.TicksAdded.{two-steps}
+use Rattle.map_parts.proofs.RelabelledEach.{each-ends, ends-then, cycle-same, in-relabelled}
 use Rattle.map_parts.proofs.Handed.{in-handed, count-handed, one-few}
-use Rattle.map_parts.proofs.KeptIsland.{items-of, put-capacity, room-handed}
+use Rattle.map_parts.proofs.KeptIsland.{items-of, cleared, put-capacity, room-handed}
 use Rattle.map_parts.proofs.IslandFits.{along-same}
-use Rattle.map_parts.proofs.ChainAcross.{first-along, last-along, tied-kept}
+use Rattle.map_parts.proofs.ChainAcross.{tied-kept}
 use Rattle.map_parts.proofs.ChainGone.{fits-cut, start-on, chain-gone}
 use Rattle.map_parts.proofs.edits.divide.take_across.Goals as goal
 
@@ -51,9 +50,8 @@ hand_over-requires-2-clause-within g c =
     let inner : ℕ = face_place c.args.inner.now in
     let old = c.args.table.now.rows in
     let new = c.take_left.new.table.rows in
-    let away : ¬ (c.face_place.result ≡ outer) = λ e. c.requires.path.faces (sym (sym c.face_place.ensures ∙ e)) in
-    let items = items-of c.face_place.result outer c.hand_over.new.kept c.clear.new.kept c.clear.ensures.others away in
-    subst (AreIn new) (sym items)
+    let told = cleared c.face_place.result inner outer c.hand_over.new.kept c.clear.new.kept c.face_place.ensures c.requires.path.faces c.clear.ensures.others c.clear.ensures.none in
+    subst (AreIn new) (sym told.0)
     (in-relabelled old new (items_at c.hand_over.new.kept outer) (λ h. c.take_left.ensures.halves.has h ∙ c.relabel_each.ensures.relabels.has h)
     (in-handed old c.relabel_each.new.table.rows inner outer c.args.kept.now c.hand_over.new.kept c.hand_over.ensures.hands c.requires.path.inner_in c.requires.path.outer_in))
 
@@ -61,50 +59,39 @@ pub hand_over-requires-2-clause-room : goal.hand_over-requires-2-clause-room
 hand_over-requires-2-clause-room g c =
     let outer : ℕ = face_place c.args.outer.now in
     let inner : ℕ = face_place c.args.inner.now in
-    let key = c.face_place.ensures in
-    let away : ¬ (c.face_place.result ≡ outer) = λ e. c.requires.path.faces (sym (sym key ∙ e)) in
-    let items = ap length (items-of c.face_place.result outer c.hand_over.new.kept c.clear.new.kept c.clear.ensures.others away) in
-    let gone = ap length (subst (λ (k : ℕ). items_at c.clear.new.kept k ≡ []) key c.clear.ensures.none) in
+    let told = cleared c.face_place.result inner outer c.hand_over.new.kept c.clear.new.kept c.face_place.ensures c.requires.path.faces c.clear.ensures.others c.clear.ensures.none in
     let cap = put-capacity c.face_place.result inner c.hand_over.new.kept c.clear.new.kept c.clear.ensures.others c.clear.ensures.capacity in
     let cap_one = c.hand_over.ensures.capacity inner in
     let handed = (room-handed c.relabel_each.new.table.rows inner outer c.args.kept.now c.hand_over.new.kept c.hand_over.ensures.hands).1 in
     let room = c.requires.path.inner_room in
-    omega (arith, items, gone, cap, cap_one, handed, room)
+    omega (arith, told.1, told.2, cap, cap_one, handed, room)
 
 pub keep_one-requires-clause-room : goal.keep_one-requires-clause-room
 keep_one-requires-clause-room g c =
     let outer : ℕ = face_place c.args.outer.now in
     let inner : ℕ = face_place c.args.inner.now in
-    let key = c.face_place.ensures in
-    let away : ¬ (c.face_place.result ≡ outer) = λ e. c.requires.path.faces (sym (sym key ∙ e)) in
-    let items = ap length (items-of c.face_place.result outer c.hand_over.new.kept c.clear.new.kept c.clear.ensures.others away) in
+    let told = cleared c.face_place.result inner outer c.hand_over.new.kept c.clear.new.kept c.face_place.ensures c.requires.path.faces c.clear.ensures.others c.clear.ensures.none in
     let cap = put-capacity c.face_place.result outer c.hand_over.new.kept c.clear.new.kept c.clear.ensures.others c.clear.ensures.capacity in
     let cap_one = c.hand_over.ensures.capacity outer in
     let cap_two = c.hand_over-2.ensures.capacity outer in
     let handed = (room-handed c.relabel_each.new.table.rows inner outer c.args.kept.now c.hand_over.new.kept c.hand_over.ensures.hands).1 in
     let again = (room-handed c.take_left.new.table.rows outer inner c.clear.new.kept c.hand_over-2.new.kept c.hand_over-2.ensures.hands).0 in
     let room = c.requires.one_more in
-    omega (arith, items, cap, cap_one, cap_two, handed, again, room)
+    omega (arith, told.1, cap, cap_one, cap_two, handed, again, room)
 
 pub returns-clause-halves : goal.returns-clause-halves
-returns-clause-halves g c = record {
-  has = λ h. c.take_left.ensures.halves.has h ∙ c.relabel_each.ensures.relabels.has h;
-  origin = λ h. c.take_left.ensures.halves.origin h ∙ c.relabel_each.ensures.relabels.origin h;
-}
+returns-clause-halves g c = ends-then (each-ends c.relabel_each.ensures.relabels) c.take_left.ensures.halves
 
 pub returns-clause-kept : goal.returns-clause-kept
 returns-clause-kept g c =
     let outer : ℕ = face_place c.args.outer.now in
     let inner : ℕ = face_place c.args.inner.now in
-    let key = c.face_place.ensures in
-    let away : ¬ (c.face_place.result ≡ outer) = λ e. c.requires.path.faces (sym (sym key ∙ e)) in
-    let items = ap length (items-of c.face_place.result outer c.hand_over.new.kept c.clear.new.kept c.clear.ensures.others away) in
-    let gone = ap length (subst (λ (k : ℕ). items_at c.clear.new.kept k ≡ []) key c.clear.ensures.none) in
+    let told = cleared c.face_place.result inner outer c.hand_over.new.kept c.clear.new.kept c.face_place.ensures c.requires.path.faces c.clear.ensures.others c.clear.ensures.none in
     let count = count-handed c.relabel_each.new.table.rows inner outer c.args.kept.now c.hand_over.new.kept c.hand_over.ensures.hands in
     let again = count-handed c.take_left.new.table.rows outer inner c.clear.new.kept c.hand_over-2.new.kept c.hand_over-2.ensures.hands in
     let one = one-few inner outer c.next-start.result c.hand_over-2.new.kept c.keep_one.new.kept c.keep_one.ensures.one in
     record {
-      few = omega (arith, items, gone, count, again, one);
+      few = omega (arith, told.1, told.2, count, again, one);
       capacity = λ n.
           c.keep_one.ensures.capacity n ∙ c.hand_over-2.ensures.capacity n
           ∙ put-capacity c.face_place.result n c.hand_over.new.kept c.clear.new.kept c.clear.ensures.others c.clear.ensures.capacity
@@ -123,7 +110,7 @@ returns-clause-work g c =
     let p = 2 + 2 * length c.args.rest.now in
     let r = length (cycle back first) in
     let is_r : r ≡ length (cycle old first) = ap (λ (f : Half → List Half). length (f first)) (cycle-same old back labels.strings labels.next) in
-    c.take_left.ensures.work ∙ ap (ticked (r + n + p)) c.relabel_each.ensures.work ∙ sym (ticked-add q (r + n + p) w) ∙ (λ i. ticked (q + (is_r i + n + p)) w)
+    two-steps q (r + n + p) w c.relabel_each.ensures.work c.take_left.ensures.work ∙ (λ i. ticked (q + (is_r i + n + p)) w)
 
 pub returns-clause-chain : goal.returns-clause-chain
 returns-clause-chain g c = λ whole parted its ends goes.
@@ -138,19 +125,17 @@ returns-clause-chain g c = λ whole parted its ends goes.
     let labels = c.relabel_each.ensures.relabels in
     let key = c.face_place.ensures in
     let fits = goes.0 in
-    let first_side = first-along (side_by old) first rest its.chain its.long its.along in
-    let last_side = last-along (side_by old) first rest its.chain its.long its.along in
     let origins : (h : Half) → _ = (returns-clause-halves g c).origin in
     let faces_new : (h : Half) → face new h ≡ (if is_of (strings_of (first ∷ rest)) h then inner else if holds (cycle old first) h then outer else if on_cycles old moved h then outer else face old h) =
     λ h. c.take_left.ensures.faces h ∙ (λ i. if is_of (strings_of (first ∷ rest)) h then inner else if holds (cycle-same old back labels.strings labels.next i first) h then outer else labels.face h i) in
-    let local_back = local-kept parted old back (λ h shown. labels.has h) (λ h shown. labels.next h) (λ h shown. labels.origin h) c.relabel_each.ensures.linked fits.local in
+    let local_back = local-same parted old back labels.has labels.next labels.origin c.relabel_each.ensures.linked fits.local in
     let local = c.take_left.ensures.local whole parted its.chain its.first_corner its.last_corner its.parts its.long its.is.corners its.more (along-same old back labels.origin (first ∷ rest) (sides_of_chain its.chain) its.along) local_back in
     let is_start : c.next-start.result ≡ next old (twin first) = c.next-start.ensures.is ∙ labels.next c.twin-back.result ∙ ap (next old) c.twin-back.ensures.is in
-    let on = start-on whole parted outer inner its.chain its.first_corner its.last_corner its.one its.left its.right its.others its.is its.rings its.parts its.long first rest its.more moved old new origins fits its.of its.along first_side last_side faces_new c.requires.tied.back_away in
+    let on = start-on its.is its.rings its.parts its.long its.more new origins fits its.of its.along faces_new c.requires.tied.back_away in
     let one_kept = subst (λ (h : Half). KeepsOne (face_place inner) (face_place outer) h c.hand_over-2.new.kept c.keep_one.new.kept) is_start c.keep_one.ensures.one in (
-      fits-cut whole parted outer inner its.chain its.first_corner its.last_corner its.one its.left its.right its.others its.is its.rings its.parts its.long first rest its.more moved old new origins fits its.of its.along first_side last_side faces_new
+      fits-cut its.is its.rings its.parts its.long its.more new origins fits its.of its.along faces_new
           local (returns-clause-halves g c).has ends,
-      chain-gone whole parted outer inner its.chain its.first_corner its.last_corner its.one its.left its.right its.others its.is its.rings its.parts its.long first rest its.more moved old new origins fits its.of its.along first_side last_side faces_new
+      chain-gone its.is its.rings its.parts its.long its.more new origins fits its.of its.along faces_new
           its.two back labels.face c.args.kept.now c.hand_over.new.kept c.clear.new.kept c.hand_over-2.new.kept c.keep_one.new.kept (next old (twin first)) goes.1 c.hand_over.ensures.hands
           (subst (λ (k : ℕ). items_at c.clear.new.kept k ≡ []) key c.clear.ensures.none)
           (λ n away. items-of c.face_place.result n c.hand_over.new.kept c.clear.new.kept c.clear.ensures.others (λ e. away (sym key ∙ e)))

@@ -1,13 +1,13 @@
-use Rattle.std.proofs.Common.{◌≡◌, ◌∙◌, ◌∷◌, ◌+◌, ◌*◌, length, sym, ap, subst, if◌then◌else◌, arith}
+use Rattle.std.proofs.Common.{◌≡◌, ◌∙◌, ◌∷◌, ◌+◌, ◌*◌, length, sym, subst, if◌then◌else◌, arith}
 use Rattle.cad_rings.specs.Surgery.{sides_of_chain}
 use Rattle.half_table.specs.declared.half.Half.{Half}
 use Rattle.half_table.specs.Count.{ticked}
 use Rattle.half_table.specs.Cycle.{holds}
 use Rattle.half_table.specs.Rows.{face, cycle}
 use Rattle.half_paths.specs.Loose.{AreLoose}
-use Rattle.half_paths.proofs.Along.{ticked-add}
 use Rattle.map_parts.specs.Relabelled.{cycles_length}
-use Rattle.map_parts.proofs.KeptShown.{local-kept}
+use Rattle.map_parts.proofs.TicksAdded.{three-steps}
+use Rattle.map_parts.proofs.KeptShown.{local-same}
 use Rattle.map_parts.proofs.RelabelledEach.{in-relabelled}
 use Rattle.map_parts.proofs.IslandFits.{along-same}
 use Rattle.map_parts.proofs.ChainAcross.{tied-kept}
@@ -50,8 +50,8 @@ returns g c =
           let was : face out h ≡ (if holds (cycle old a) h then outer else face old h) = taken.halves.face h ∙ labels.face h in
           each.face h ∙ (λ i. if cycles-of_loose out taken.linked (a ∷ rest) within taken.loose h i then inner else was i);
       local = λ whole parted chain fc lc parts long law more along local.
-          let before = local-kept parted old one (λ h shown. labels.has h) (λ h shown. labels.next h) (λ h shown. labels.origin h) c.relabel.ensures.linked local in
-          local-kept whole out new (λ h shown. each.has h) (λ h shown. each.next h) (λ h shown. each.origin h) c.relabel_path.ensures.linked
+          let before = local-same parted old one labels.has labels.next labels.origin c.relabel.ensures.linked local in
+          local-same whole out new each.has each.next each.origin c.relabel_path.ensures.linked
           (taken.local whole parted chain fc lc parts long law more (along-same old one labels.origin (a ∷ rest) (sides_of_chain chain) along) before);
       loose = subst (λ (n : Half → Half). AreLoose n (a ∷ rest)) (λ i h. sym (each.next h) i) taken.loose;
       halves = record { has = λ h. each.has h ∙ taken.halves.has h ∙ labels.has h; origin = λ h. each.origin h ∙ taken.halves.origin h ∙ labels.origin h };
@@ -62,6 +62,5 @@ returns g c =
           let p = cycles_length out (a ∷ rest) in
           let r = length (cycle old a) in
           let two : p ≡ 2 + 2 * length rest = let all = length-of_loose out taken.linked (a ∷ rest) within taken.loose in omega (arith, all) in
-          c.relabel_path.ensures.work ∙ ap (ticked p) (taken.work ∙ ap (ticked n) c.relabel.ensures.work)
-          ∙ sym (ticked-add (r + n) p w ∙ ap (ticked p) (ticked-add r n w)) ∙ (λ i. ticked ((r + n) + two i) w);
+          three-steps r n p w c.relabel.ensures.work taken.work c.relabel_path.ensures.work ∙ (λ i. ticked ((r + n) + two i) w);
     }

@@ -1,18 +1,16 @@
-use Rattle.std.proofs.Common.{◌≡◌, ◌+◌, ◌*◌, ◌≤◌, ℕ, List, true, length, sym, ap, subst, ◌∙◌, nat_eq, arith}
-use Rattle.std.specs.Prelude.{if◌then◌else◌}
+use Rattle.std.proofs.Common.{List, length, refl, sym, ap, subst, ◌∙◌, nat_eq, arith}
 use Rattle.std.specs.List.{IsDistinct}
 use Rattle.cad_rows.specs.declared.names.Face.TheVariants.{Parcel}
 use Rattle.cad_rows.specs.declared.rows.StringRow.{StringRow}
-use Rattle.cad_map.specs.Boundaries.{face_place}
 use Rattle.half_table.specs.Count.{ticked}
-use Rattle.half_table.specs.Rows.{has, cycle}
-use Rattle.half_paths.specs.Loose.{AreNew, numbers_of, is_of}
+use Rattle.half_paths.specs.Loose.{AreNew, numbers_of}
 use Rattle.map_parts.specs.Dividing.{divided, rings_beside}
-use Rattle.map_parts.specs.Relabelled.{cycles_length}
+use Rattle.map_parts.specs.FaceTicks.{ticks_to_bring_across}
+use Rattle.map_parts.specs.TableGrown.{CameAndWent}
 use Rattle.map_parts.proofs.AddedMap as added_map
 use Rattle.map_parts.proofs.Dividing as it
 use Rattle.map_parts.proofs.IslandFits.{of-same}
-use Rattle.map_parts.proofs.RoomMade.{on-err, fit-kept, still-origin}
+use Rattle.map_parts.proofs.RoomMade.{on-err, fit-kept, grown-has, grown-origins}
 use Rattle.map_parts.proofs.edits.dividing.begin_divide.Goals.{In_ok-add_with_room}
 use Rattle.map_parts.proofs.edits.dividing.begin_divide.Goals as goal
 
@@ -26,19 +24,13 @@ add_with_room-requires g c =
     }
 
 pub bring_across-requires : goal.bring_across-requires
-bring_across-requires g c =
-    let is = c.as_slice.ensures.value in
-    let ok = c.in_ok-add_with_room.ensures in
-    let made = c.add_with_room.ensures in
-    it.made-can c.requires made.seen (rw is at ok.room) (rw is at ok.adds) made.linked
+bring_across-requires g c = it.made-can c.requires (rw c.as_slice.ensures.value at c.in_ok-add_with_room.ensures.added)
 
 pub put_added-requires : goal.put_added-requires
 put_added-requires g c =
-    let is = c.as_slice.ensures.value in
-    let ok = c.in_ok-add_with_room.ensures in
-    let made = c.add_with_room.ensures in
+    let grown = rw c.as_slice.ensures.value at c.in_ok-add_with_room.ensures.added in
     let come = it.made-come c.requires in
-    let ready = it.made-ready c.requires made.seen (rw is at ok.room) (rw is at ok.adds) made.linked in
+    let ready = it.made-ready c.requires grown in
     record {
       strings = added_map.made-put come ready;
       slot = ready.parcel_slot;
@@ -53,57 +45,37 @@ returns-in_err-add_with_room-clause-err_work g c =
     let it = c.in_err-add_with_room.ensures.err_work in
     let few = it.1 in
     let same = ap length c.as_slice.ensures.value in
-    let all : (count : ℕ) × (count ≤ length c.args.strings.items) × (c.add_with_room.new.table.work ≡ ticked count (ticked count c.args.table.now.work)) =
-    (it.0, omega (arith, few, same), it.2) in
+    let all : CameAndWent (length c.args.strings.items) c.args.table.now.work c.add_with_room.new.table.work = (it.0, omega (arith, few, same), it.2) in
     on-err _ all
 
 pub returns-clause-fits : goal.returns-clause-fits
 returns-clause-fits g c = λ can.
-    let is = c.as_slice.ensures.value in
-    let ok = c.in_ok-add_with_room.ensures in
-    let made = c.add_with_room.ensures in
-    added_map.made-fits (it.made-come can) (it.made-ready can made.seen (rw is at ok.room) (rw is at ok.adds) made.linked)
-    (it.made-table can made.seen (rw is at ok.room) (rw is at ok.adds) made.linked c.bring_across.new.table.rows c.bring_across.new.kept c.bring_across.ensures.chain)
+    let grown = rw c.as_slice.ensures.value at c.in_ok-add_with_room.ensures.added in
+    added_map.made-fits (it.made-come can) (it.made-ready can grown)
+    (it.made-table can grown c.bring_across.new.table.rows c.bring_across.new.kept c.bring_across.ensures.chain)
     c.put_added.ensures.rows c.put_added.ensures.stars
 
 pub returns-clause-moved : goal.returns-clause-moved
 returns-clause-moved g c = λ can.
-    let is = c.as_slice.ensures.value in
-    let ok = c.in_ok-add_with_room.ensures in
-    let made = c.add_with_room in
-    of-same made.new.table.rows c.bring_across.new.table.rows c.bring_across.ensures.halves.origin (divided can.is) c.args.moved.now (Parcel c.args.parcel.number) (rings_beside can.is)
-    (it.made-moved can made.ensures.seen (rw is at ok.room) (rw is at ok.adds) made.ensures.linked)
+    let grown = rw c.as_slice.ensures.value at c.in_ok-add_with_room.ensures.added in
+    of-same c.add_with_room.new.table.rows c.bring_across.new.table.rows c.bring_across.ensures.halves.origin (divided can.is) c.args.moved.now (Parcel c.args.parcel.number) (rings_beside can.is)
+    (it.made-moved can grown)
 
 pub returns-clause-inner_room : goal.returns-clause-inner_room
 returns-clause-inner_room g c =
-    let count = c.bring_across.ensures.count in
-    let cap = c.bring_across.ensures.capacity (face_place (Parcel c.args.parcel.number)) in
-    let had = (rw c.as_slice.ensures.value at c.in_ok-add_with_room.ensures.room).inner_room in
-    omega (arith, count, cap, had)
+    (added_map.made-rooms (it.made-come c.requires) (it.made-ready c.requires (rw c.as_slice.ensures.value at c.in_ok-add_with_room.ensures.added)) c.bring_across.new.kept 1 1 refl c.bring_across.ensures.capacity c.bring_across.ensures.count).0
 
 pub returns-clause-outer_room : goal.returns-clause-outer_room
 returns-clause-outer_room g c =
-    let is = c.as_slice.ensures.value in
-    let ok = c.in_ok-add_with_room.ensures in
-    let made = c.add_with_room.ensures in
-    let count = c.bring_across.ensures.count in
-    let cap = c.bring_across.ensures.capacity (face_place c.args.face.now) in
-    let had = (rw is at ok.room).outer_room in
-    let none = ap length (it.made-none c.requires made.seen (rw is at ok.room) (rw is at ok.adds) made.linked) in
-    omega (arith, count, cap, had, none)
+    (added_map.made-rooms (it.made-come c.requires) (it.made-ready c.requires (rw c.as_slice.ensures.value at c.in_ok-add_with_room.ensures.added)) c.bring_across.new.kept 1 1 refl c.bring_across.ensures.capacity c.bring_across.ensures.count).1
 
 pub returns-clause-has : goal.returns-clause-has
-returns-clause-has g c = λ h.
-    c.bring_across.ensures.halves.has h ∙ c.in_ok-add_with_room.ensures.adds.has h
-    ∙ ap (λ (l : List StringRow). if is_of (numbers_of l) h then true else has c.args.table.now.rows h) c.as_slice.ensures.value
+returns-clause-has g c = grown-has (rw c.as_slice.ensures.value at c.in_ok-add_with_room.ensures.added) c.bring_across.ensures.halves
 
 pub returns-clause-origin : goal.returns-clause-origin
-returns-clause-origin g c = λ h there.
-    c.bring_across.ensures.halves.origin h
-    ∙ still-origin c.requires.new (rw c.as_slice.ensures.value at c.in_ok-add_with_room.ensures.adds) h there
+returns-clause-origin g c = grown-origins (rw c.as_slice.ensures.value at c.in_ok-add_with_room.ensures.added) c.bring_across.ensures.halves c.requires.new
 
 pub returns-clause-work : goal.returns-clause-work
 returns-clause-work g c =
-    let wide = c.bring_across.new.table.rows in
-    let n = 2 + 2 * length c.args.rest.now + (length c.args.rest.now + 2) + (length (cycle wide c.args.first.now) + cycles_length wide c.args.moved.now) in
+    let n = ticks_to_bring_across c.bring_across.new.table.rows c.args.first.now c.args.rest.now c.args.moved.now in
     c.bring_across.ensures.work ∙ ap (ticked n) (c.in_ok-add_with_room.ensures.work ∙ ap (λ (l : List StringRow). ticked (length l) c.args.table.now.work) c.as_slice.ensures.value)

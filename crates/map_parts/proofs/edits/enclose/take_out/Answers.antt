@@ -1,4 +1,4 @@
-use Rattle.std.proofs.Common.{◌≡◌, ◌∷◌, [], ℕ, length, sym, ap, ◌∙◌, subst, arith}
+use Rattle.std.proofs.Common.{◌≡◌, ◌∷◌, [], ℕ, sym, ◌∙◌, subst, arith}
 use Rattle.cad_map.specs.Boundaries.{face_place}
 use Rattle.half_table.specs.declared.half.Half.{Half}
 use Rattle.key_lists.specs.Held.{items_at}
@@ -10,7 +10,7 @@ use Rattle.map_parts.proofs.RelabelledEach.{in-relabelled}
 use Rattle.map_parts.proofs.IslandFits.{first-on}
 use Rattle.map_parts.proofs.IslandFaces.{others-apart, faces-told, other-home}
 use Rattle.map_parts.proofs.Handed.{in-handed, count-handed}
-use Rattle.map_parts.proofs.KeptIsland.{items-of, put-capacity, island-gone}
+use Rattle.map_parts.proofs.KeptIsland.{items-of, cleared, put-capacity, island-gone}
 use Rattle.map_parts.proofs.edits.enclose.take_out.Goals as goal
 
 pub hand_over-requires-clause-differ : goal.hand_over-requires-clause-differ
@@ -43,14 +43,11 @@ returns-clause-kept g c =
     let new = c.take_island.new.table.rows in
     let outer : ℕ = face_place c.args.outer.now in
     let inner : ℕ = face_place c.args.inner.now in
-    let key = c.face_place.ensures in
-    let away : ¬ (c.face_place.result ≡ outer) = λ e. c.requires.path.faces (sym (sym key ∙ e)) in
-    let items = ap length (items-of c.face_place.result outer c.hand_over-2.new.kept c.clear.new.kept c.clear.ensures.others away) in
-    let gone = ap length (subst (λ (k : ℕ). items_at c.clear.new.kept k ≡ []) key c.clear.ensures.none) in
+    let told = cleared c.face_place.result inner outer c.hand_over-2.new.kept c.clear.new.kept c.face_place.ensures c.requires.path.faces c.clear.ensures.others c.clear.ensures.none in
     let count = count-handed new inner outer c.args.kept.now c.hand_over.new.kept c.hand_over.ensures.hands in
     let again = count-handed new outer inner c.hand_over.new.kept c.hand_over-2.new.kept c.hand_over-2.ensures.hands in
     record {
-      few = omega (arith, items, gone, count, again);
+      few = omega (arith, told.1, told.2, count, again);
       capacity = λ n.
           put-capacity c.face_place.result n c.hand_over-2.new.kept c.clear.new.kept c.clear.ensures.others c.clear.ensures.capacity
           ∙ c.hand_over-2.ensures.capacity n ∙ c.hand_over.ensures.capacity n;

@@ -1,8 +1,8 @@
-use Rattle.std.proofs.Common.{◌≡◌, ◌∙◌, ◌+◌, sym, ap, length}
+use Rattle.std.proofs.Common.{◌≡◌, ◌∙◌, ◌+◌, length}
 use Rattle.half_table.specs.Count.{ticked}
 use Rattle.half_table.specs.Rows.{cycle}
-use Rattle.half_paths.proofs.Along.{ticked-add}
 use Rattle.map_parts.specs.Relabelled.{cycles_length}
+use Rattle.map_parts.proofs.TicksAdded.{two-steps}
 use Rattle.map_parts.proofs.RelabelledEach.{each-more, in-relabelled, length-same}
 use Rattle.map_parts.proofs.edits.faces.relabel_path.Goals as goal
 
@@ -25,4 +25,4 @@ returns-clause-work g c =
     let p = length (cycle old c.args.first.now) in
     let q = cycles_length c.relabel.new.self.rows rest in
     let is_q : q ≡ cycles_length old rest = length-same old c.relabel.new.self.rows rest c.relabel.ensures.relabels.strings c.relabel.ensures.relabels.next in
-    c.relabel_each.ensures.work ∙ ap (ticked q) c.relabel.ensures.work ∙ sym (ticked-add p q w) ∙ (λ i. ticked (p + is_q i) w)
+    two-steps p q w c.relabel.ensures.work c.relabel_each.ensures.work ∙ (λ i. ticked (p + is_q i) w)

@@ -5,7 +5,7 @@ use Rattle.half_table.specs.Count.{ticked}
 use Rattle.half_table.specs.Rows.{cycle}
 use Rattle.half_paths.proofs.Along.{ticked-add}
 use Rattle.map_parts.specs.Relabelled.{cycles_length}
-use Rattle.map_parts.proofs.RelabelledEach.{cycle-same, in-relabelled, length-same}
+use Rattle.map_parts.proofs.RelabelledEach.{both-ends, each-ends, ends-then, cycle-same, in-relabelled, length-same}
 use Rattle.map_parts.proofs.IslandFits.{fits-with}
 use Rattle.map_parts.proofs.edits.island.bring_island.Goals as goal
 
@@ -22,10 +22,7 @@ relabel_each-requires-clause-within g c =
     (λ h. c.relabel-2.ensures.relabels.has h ∙ c.relabel.ensures.relabels.has h ∙ c.tie_ring.ensures.halves.has h) c.requires.moved_in
 
 pub returns-clause-halves : goal.returns-clause-halves
-returns-clause-halves g c = record {
-  has = λ h. c.relabel_each.ensures.relabels.has h ∙ c.relabel-2.ensures.relabels.has h ∙ c.relabel.ensures.relabels.has h ∙ c.tie_ring.ensures.halves.has h;
-  origin = λ h. c.relabel_each.ensures.relabels.origin h ∙ c.relabel-2.ensures.relabels.origin h ∙ c.relabel.ensures.relabels.origin h ∙ c.tie_ring.ensures.halves.origin h;
-}
+returns-clause-halves g c = ends-then (both-ends c.tie_ring.ensures.halves c.relabel.ensures.relabels c.relabel-2.ensures.relabels) (each-ends c.relabel_each.ensures.relabels)
 
 pub returns-clause-island : goal.returns-clause-island
 returns-clause-island g c = λ whole parted ring left right others rings parts it more along ends of fits.

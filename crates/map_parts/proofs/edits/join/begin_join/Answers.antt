@@ -1,17 +1,16 @@
-use Rattle.std.proofs.Common.{◌≡◌, ◌∙◌, ◌+◌, refl, sym, ap, subst, length}
+use Rattle.std.proofs.Common.{◌≡◌, ◌∙◌, ◌+◌, refl, sym, subst, length}
 use Rattle.std.specs.Prelude.{IsSome}
 use Rattle.std.proofs.lemmas.Option.{same_Some}
 use Rattle.cad_rows.specs.declared.rows.StringRow.{StringRow}
 use Rattle.cad_map.specs.Map.{Map}
-use Rattle.half_table.specs.Count.{ticked}
-use Rattle.half_table.specs.Half.{twin, forward_of, backward_of}
+use Rattle.half_table.specs.Half.{forward_of, backward_of}
 use Rattle.half_table.specs.Rows.{Table, cycle}
-use Rattle.half_paths.proofs.Along.{ticked-add}
 use Rattle.map_parts.specs.declared.edits.passing.Passing.{Passing}
 use Rattle.map_parts.specs.Joined.{CanBeginJoin, HaveJoined}
 use Rattle.map_parts.specs.Passing.{CanGoPast, path_at}
 use Rattle.map_parts.specs.Rows.{map_in}
 use Rattle.map_parts.specs.Splitting.{CanMeet, FitMap}
+use Rattle.map_parts.proofs.TicksAdded.{two-steps}
 use Rattle.map_parts.proofs.RoomMade.{on-err, fit-grown}
 use Rattle.map_parts.proofs.Passing.Begun.{IsStringReady, string-ready}
 use Rattle.map_parts.proofs.Passing.JoinMade as made
@@ -114,7 +113,4 @@ pub returns-clause-work : goal.returns-clause-work
 returns-clause-work g c =
     let done = c.go_past.new.table.rows in
     let ring = length (cycle done (forward_of c.args.row.number)) + length (cycle done (backward_of c.args.row.number)) + 5 in
-    let on =
-    subst (λ (q : Passing). c.go_past.new.table.work ≡ ticked (length (cycle done q.whole) + length (cycle done (twin q.whole)) + 5) c.add_string.new.table.work)
-    c.path-halves.ensures c.go_past.ensures.work in
-    on ∙ ap (ticked ring) c.in_ok-add_string.ensures.work ∙ sym (ticked-add 1 ring c.args.table.now.work)
+    two-steps 1 ring c.args.table.now.work c.in_ok-add_string.ensures.work (rw c.path-halves.ensures at c.go_past.ensures.work)

@@ -1,11 +1,10 @@
-use Rattle.std.proofs.Common.{◌+◌, ◌∙◌, ◌==◌, not, length, refl, sym, ap}
+use Rattle.std.proofs.Common.{◌+◌, ◌∙◌, ◌==◌, not, length, refl}
 use Rattle.cad_rows.specs.declared.edits.Edit.TheVariants.{Join}
 use Rattle.cad_map.specs.Effects.{after}
-use Rattle.half_paths.proofs.Along.{ticked-add}
-use Rattle.half_table.specs.Count.{ticked}
 use Rattle.half_table.specs.Half.{twin}
 use Rattle.half_table.specs.Rows.{cycle}
 use Rattle.map_parts.specs.Passing.{path_at}
+use Rattle.map_parts.proofs.TicksAdded.{two-steps}
 use Rattle.map_parts.proofs.RoomMade.{on-err, fit-kept}
 use Rattle.map_parts.proofs.Passing.Begun.{path-ready}
 use Rattle.map_parts.proofs.Passing.JoinBegun.{differ, back-can}
@@ -43,4 +42,4 @@ returns-clause-work g c =
     let done = c.unjoin.new.table.rows in
     let path = path_at c.args.joined.point.number c.args.joined.first c.args.joined.second c.args.string in
     let ring = length (cycle done path.first) + length (cycle done (twin path.second)) + 5 in
-    c.unjoin.ensures.work ∙ ap (ticked ring) c.in_ok-add_path.ensures.work ∙ sym (ticked-add 2 ring c.args.table.now.work)
+    two-steps 2 ring c.args.table.now.work c.in_ok-add_path.ensures.work c.unjoin.ensures.work

@@ -1,14 +1,15 @@
-use Rattle.std.proofs.Common.{◌≡◌, ◌≤◌, ◌∙◌, ℕ, List, length, map, nat_eq, sym, ap, subst}
+use Rattle.std.proofs.Common.{◌≡◌, ◌∙◌, ℕ, List, length, map, nat_eq, sym, ap, subst}
 use Rattle.std.specs.Prelude.{OnOk, OnErr}
 use Rattle.std.specs.List.{IsDistinct}
 use Rattle.cad_rows.specs.declared.rows.StringRow.{StringRow}
 use Rattle.half_table.specs.Count.{ticked}
-use Rattle.half_paths.specs.Loose.{AddsStrings, AreNew, numbers_of}
+use Rattle.half_paths.specs.Loose.{AreNew, numbers_of}
 use Rattle.map_parts.specs.declared.edits.placed_strings.PlacedString.{PlacedString}
-use Rattle.map_parts.specs.Adding.{HasRoomToCome}
+use Rattle.map_parts.specs.Adding.{AreAdded}
 use Rattle.map_parts.specs.Merging.{bare_row, rows_gone}
+use Rattle.map_parts.specs.TableGrown.{CameAndWent}
 use Rattle.map_parts.proofs.RoomMade.{ok-follows}
-use Rattle.map_parts.proofs.UnmergingBegun.{bare-adds, bare-distinct, bare-many, bare-new, bare-room}
+use Rattle.map_parts.proofs.UnmergingBegun.{bare-added, bare-distinct, bare-many, bare-new}
 use Rattle.map_parts.proofs.edits.merging_tried.make_unmerge_room.Goals.{After-as_slice-2}
 use Rattle.map_parts.proofs.edits.merging_tried.make_unmerge_room.Goals as goal
 
@@ -25,21 +26,14 @@ add_with_room-requires g c =
       different = subst (λ (l : List StringRow). IsDistinct nat_eq (numbers_of l)) same (bare-distinct c.args.gone.now.strings.items c.requires.different);
     }
 
-pub returns-clause-room : goal.returns-clause-room
-returns-clause-room g c =
+pub returns-clause-added : goal.returns-clause-added
+returns-clause-added g c =
     let made = c.add_with_room.new in
+    let all : List StringRow → Type 0 =
+    λ l. AreAdded l c.args.keeper.now c.args.gone.now.row.number c.args.rows.now made.rows c.args.table.now.rows made.table.rows c.args.kept.now made.kept c.args.stars.now made.stars in
     ok-follows c.add_with_room.result
-    (λ (it : HasRoomToCome c.as_slice-2.result.now c.args.keeper.now c.args.gone.now.row.number made.rows made.kept made.stars).
-    bare-room (subst (λ (l : List StringRow). HasRoomToCome l c.args.keeper.now c.args.gone.now.row.number made.rows made.kept made.stars) (is g (goal.at.returns-clause-room g c).After-as_slice-2) it))
-    c.add_with_room.ensures.room
-
-pub returns-clause-adds : goal.returns-clause-adds
-returns-clause-adds g c =
-    let new = c.add_with_room.new.table.rows in
-    ok-follows c.add_with_room.result
-    (λ (it : AddsStrings c.as_slice-2.result.now c.args.table.now.rows new).
-    bare-adds (rows_gone c.args.gone.now.strings.items) c.args.table.now.rows new (subst (λ (l : List StringRow). AddsStrings l c.args.table.now.rows new) (is g (goal.at.returns-clause-adds g c).After-as_slice-2) it))
-    c.add_with_room.ensures.adds
+    (λ (it : all c.as_slice-2.result.now). bare-added (subst all (is g (goal.at.returns-clause-added g c).After-as_slice-2) it))
+    c.add_with_room.ensures.added
 
 many : (g : _) (c : goal.After-as_slice-2 g) → length c.as_slice-2.result.now ≡ length c.args.gone.now.strings.items
 many g c = ap length (is g c) ∙ bare-many c.args.gone.now.strings.items
@@ -51,5 +45,5 @@ returns-clause-work g c =
 
 pub returns-clause-err_work : goal.returns-clause-err_work
 returns-clause-err_work g c =
-    subst (λ (n : ℕ). OnErr c.add_with_room.result ((count : ℕ) × (count ≤ n) × (c.add_with_room.new.table.work ≡ ticked count (ticked count c.args.table.now.work))))
+    subst (λ (n : ℕ). OnErr c.add_with_room.result (CameAndWent n c.args.table.now.work c.add_with_room.new.table.work))
     (many g (goal.at.returns-clause-err_work g c).After-as_slice-2) c.add_with_room.ensures.err_work

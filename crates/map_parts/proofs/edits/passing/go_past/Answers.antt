@@ -1,15 +1,14 @@
-use Rattle.std.proofs.Common.{◌≡◌, ◌∙◌, ℕ, ap, subst, map}
+use Rattle.std.proofs.Common.{◌≡◌, ◌∙◌, ℕ, refl, ap, map}
 use Rattle.cad_map.specs.Boundaries.{face_place}
-use Rattle.cad_rows.specs.declared.names.Face.{Face}
 use Rattle.half_table.specs.declared.half.Half.{Half}
 use Rattle.half_table.specs.Half.{twin}
 use Rattle.half_table.specs.Rows.{next, face, cycle}
-use Rattle.half_table.specs.Surgery.{Relabels}
 use Rattle.key_lists.specs.Held.{items_at}
 use Rattle.map_parts.specs.Passing.{in_place_at}
 use Rattle.map_parts.proofs.CycleRings.{map-map}
 use Rattle.map_parts.proofs.Passing.FitPast.{fit-past}
-use Rattle.map_parts.proofs.Passing.Ready.{past-whole_in, past-first_in, past-second_in, past-different, past-can, past-then, both-work}
+use Rattle.map_parts.proofs.RelabelledEach.{both-ends}
+use Rattle.map_parts.proofs.Passing.Ready.{past-whole_in, past-first_in, past-second_in, past-different, past-can, past-then, relabels-as, both-work}
 use Rattle.map_parts.proofs.edits.passing.go_past.Goals as goal
 
 pub face-requires : goal.face-requires
@@ -61,11 +60,8 @@ returns-clause-fits g c = λ can.
     let back = c.twin-3.ensures.is in
     let left : c.face.result ≡ face rows x = c.face.ensures in
     let right : c.face-2.result ≡ face rows (twin y) = c.face-2.ensures ∙ ap (face rows) second_back in
-    let one =
-    subst (λ (f : Face). Relabels (cycle new z) f new mid) left c.relabel.ensures.relabels in
-    let two =
-    subst (λ (t : Half × Face). Relabels (cycle mid t.0) t.1 mid done) (λ j. (back j, right j))
-    c.relabel-2.ensures.relabels in
+    let one = relabels-as refl left c.relabel.ensures.relabels in
+    let two = relabels-as (ap (cycle mid) back) right c.relabel-2.ensures.relabels in
     let L : ℕ = face_place (face rows x) in
     let R : ℕ = face_place (face rows (twin y)) in
     let items : (n : ℕ) → items_at c.replace_kept-4.new.kept n
@@ -81,7 +77,7 @@ returns-clause-fits g c = λ can.
     (map (in_place_at (face_place (right j)) (second_back j) (back j) n)
     (map (in_place_at (face_place (left j)) y z n)
     (map (in_place_at (face_place (left j)) x z n) (items_at held n))))) in
-    fit-past can.through can.past can.p can.a can.b passing can.between rows held can.fits
+    fit-past can.between rows held can.fits
     can.whole_there new c.reroute.ensures.halves c.reroute.ensures.linked
     (past-then passing rows held can new c.reroute.ensures.next) mid done c.relabel.ensures.linked
     c.relabel-2.ensures.linked one two c.replace_kept-4.new.kept
@@ -107,10 +103,7 @@ returns-clause-loose g c =
     )
 
 pub returns-clause-halves : goal.returns-clause-halves
-returns-clause-halves g c = record {
-  has = λ h. c.relabel-2.ensures.relabels.has h ∙ c.relabel.ensures.relabels.has h ∙ c.reroute.ensures.halves.has h;
-  origin = λ h. c.relabel-2.ensures.relabels.origin h ∙ c.relabel.ensures.relabels.origin h ∙ c.reroute.ensures.halves.origin h;
-}
+returns-clause-halves g c = both-ends c.reroute.ensures.halves c.relabel.ensures.relabels c.relabel-2.ensures.relabels
 
 pub returns-clause-work : goal.returns-clause-work
 returns-clause-work g c =

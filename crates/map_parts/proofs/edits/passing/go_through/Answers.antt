@@ -1,15 +1,14 @@
-use Rattle.std.proofs.Common.{◌≡◌, ◌∙◌, ap, subst, map}
+use Rattle.std.proofs.Common.{◌≡◌, ◌∙◌, refl, ap, map}
 use Rattle.cad_map.specs.Boundaries.{face_place}
-use Rattle.cad_rows.specs.declared.names.Face.{Face}
 use Rattle.half_table.specs.declared.half.Half.{Half}
 use Rattle.half_table.specs.Half.{twin}
 use Rattle.half_table.specs.Rows.{next, face, cycle}
-use Rattle.half_table.specs.Surgery.{Relabels}
 use Rattle.key_lists.specs.Held.{items_at}
 use Rattle.map_parts.specs.Passing.{in_place_at}
 use Rattle.map_parts.proofs.CycleRings.{map-map}
 use Rattle.map_parts.proofs.Passing.FitThrough.{fit-through}
-use Rattle.map_parts.proofs.Passing.Ready.{through-whole_in, through-first_in, through-second_in, through-can, through-then, both-work}
+use Rattle.map_parts.proofs.RelabelledEach.{both-ends}
+use Rattle.map_parts.proofs.Passing.Ready.{through-whole_in, through-first_in, through-second_in, through-can, through-then, relabels-as, both-work}
 use Rattle.map_parts.proofs.edits.passing.go_through.Goals as goal
 
 pub face-requires : goal.face-requires
@@ -52,13 +51,9 @@ returns-clause-fits g c = λ can.
     let on = c.twin-2.ensures.is in
     let left : c.face.result ≡ face rows z = c.face.ensures in
     let right : c.face-2.result ≡ face rows (twin z) = c.face-2.ensures ∙ ap (face rows) back in
-    let one =
-    subst (λ (f : Face). Relabels (cycle new c.args.passing.now.first) f new mid) left
-    c.relabel.ensures.relabels in
-    let two =
-    subst (λ (t : Half × Face). Relabels (cycle mid t.0) t.1 mid done) (λ j. (on j, right j))
-    c.relabel-2.ensures.relabels in
-    fit-through can.through can.past can.p can.a can.b passing can.between rows held can.fits
+    let one = relabels-as refl left c.relabel.ensures.relabels in
+    let two = relabels-as (ap (cycle mid) on) right c.relabel-2.ensures.relabels in
+    fit-through can.between rows held can.fits
     can.first_there can.second_there new c.reroute.ensures.halves c.reroute.ensures.linked
     (through-then passing rows held can new c.reroute.ensures.next) mid done c.relabel.ensures.linked
     c.relabel-2.ensures.linked one two c.replace_kept-2.new.kept
@@ -81,10 +76,7 @@ returns-clause-loose g c =
     ((on z ∙ now.whole, on (twin z) ∙ now.whole_back), tt)
 
 pub returns-clause-halves : goal.returns-clause-halves
-returns-clause-halves g c = record {
-  has = λ h. c.relabel-2.ensures.relabels.has h ∙ c.relabel.ensures.relabels.has h ∙ c.reroute.ensures.halves.has h;
-  origin = λ h. c.relabel-2.ensures.relabels.origin h ∙ c.relabel.ensures.relabels.origin h ∙ c.reroute.ensures.halves.origin h;
-}
+returns-clause-halves g c = both-ends c.reroute.ensures.halves c.relabel.ensures.relabels c.relabel-2.ensures.relabels
 
 pub returns-clause-work : goal.returns-clause-work
 returns-clause-work g c =

@@ -1,15 +1,14 @@
-use Rattle.std.proofs.Common.{◌≡◌, ◌∙◌, ◌+◌, refl, sym, ap, subst, length, true}
+use Rattle.std.proofs.Common.{◌∙◌, ◌+◌, refl, sym, subst, length, true}
 use Rattle.std.specs.Prelude.{IsSome}
 use Rattle.std.proofs.lemmas.Option.{same_Some}
 use Rattle.cad_rows.specs.declared.rows.StringRow.{StringRow}
-use Rattle.half_table.specs.Count.{ticked}
-use Rattle.half_table.specs.Half.{twin, forward_of, backward_of}
+use Rattle.half_table.specs.Half.{forward_of, backward_of}
 use Rattle.half_table.specs.Rows.{cycle}
-use Rattle.half_paths.proofs.Along.{ticked-add}
 use Rattle.map_parts.specs.declared.edits.passing.Passing.{Passing}
 use Rattle.map_parts.specs.Passing.{CanGoThrough}
 use Rattle.map_parts.specs.Rows.{map_in}
 use Rattle.map_parts.specs.Splitting.{CanBeginSplit, CanPart}
+use Rattle.map_parts.proofs.TicksAdded.{two-steps}
 use Rattle.map_parts.proofs.RoomMade.{on-err, fit-kept}
 use Rattle.map_parts.proofs.Passing.Begun.{IsPathReady, path-ready}
 use Rattle.map_parts.proofs.Passing.SplitMade as made
@@ -82,7 +81,4 @@ pub returns-clause-work : goal.returns-clause-work
 returns-clause-work g c =
     let done = c.go_through.new.table.rows in
     let ring = length (cycle done (forward_of c.args.first.number)) + length (cycle done (backward_of c.args.second.number)) + 5 in
-    let on =
-    subst (λ (q : Passing). c.go_through.new.table.work ≡ ticked (length (cycle done q.first) + length (cycle done (twin q.second)) + 5) c.add_path.new.table.work)
-    c.path-halves.ensures c.go_through.ensures.work in
-    on ∙ ap (ticked ring) c.in_ok-add_path.ensures.work ∙ sym (ticked-add 2 ring c.args.table.now.work)
+    two-steps 2 ring c.args.table.now.work c.in_ok-add_path.ensures.work (rw c.path-halves.ensures at c.go_through.ensures.work)

@@ -1,8 +1,7 @@
-use Rattle.std.proofs.Common.{◌∙◌, ◌+◌, ap, sym, length}
-use Rattle.half_table.specs.Count.{ticked}
+use Rattle.std.proofs.Common.{◌∙◌, ◌+◌, length}
 use Rattle.half_table.specs.Half.{forward_of, backward_of}
 use Rattle.half_table.specs.Rows.{cycle}
-use Rattle.half_paths.proofs.Along.{ticked-add}
+use Rattle.map_parts.proofs.TicksAdded.{two-steps}
 use Rattle.map_parts.proofs.Passing.Begun.{string-ready}
 use Rattle.map_parts.proofs.Passing.SplitBegun.{back-can}
 use Rattle.map_parts.proofs.edits.split.begin_unsplit.Goals as goal
@@ -29,5 +28,4 @@ pub returns-clause-work : goal.returns-clause-work
 returns-clause-work g c =
     let done = c.unsplit.new.table.rows in
     let ring = length (cycle done (forward_of c.args.row.number)) + length (cycle done (backward_of c.args.row.number)) + 5 in
-    c.unsplit.ensures.work ∙ ap (ticked ring) c.in_ok-add_string.ensures.work
-    ∙ sym (ticked-add 1 ring c.args.table.now.work)
+    two-steps 1 ring c.args.table.now.work c.in_ok-add_string.ensures.work c.unsplit.ensures.work
