@@ -8,8 +8,8 @@ use Rattle.geo_exact.specs.Position.{Position}
 use Rattle.geo_exact.specs.Inside.{is_counted, is_counted_upwards, is_inside}
 use Rattle.geo_exact.specs.SignTest.{boxes_overlap, overlaps, are_below}
 use Rattle.cad_rings.specs.Cycle.{Ring, Side, sides_along, sides_of, placed}
-use Rattle.cad_valid.proofs.InsideBox.{differ, low, counted-left, inside-cons, rises_past, right_of}
-use Rattle.cad_valid.proofs.MovedSides.{differ-none, differ-itself}
+use Rattle.cad_valid.proofs.InsideBox.{differ, differ-none, low, counted-left, inside-cons, rises_past, right_of}
+use Rattle.cad_valid.proofs.MovedSides.{differ-itself}
 
 -- two changes, and one after the other
 differ-across : (a b c d : Bool) → differ (differ a b) (differ c d) ≡ differ (differ a c) (differ b d)

@@ -92,22 +92,17 @@ inside-cons side sides q =
     by true n = odd n (nat_eq (n % 2) 1) (nat_eq ((1 + n) % 2) 1) refl refl
     by false n = ap (λ (k : ℕ). nat_eq (k % 2) 1) (omega arith)
 
+differ-through : (a b c : Bool) → differ (differ a b) (differ b c) ≡ differ a c
+differ-through a b c = grind arith
+
+pub differ-none : (a : Bool) → differ a false ≡ a
+differ-none true = refl
+differ-none false = refl
+
 module _ (position : ℕ → Position) (q : Position) where
   -- both ends of the side lie right of q
   abbrev IsRight : Position × Position → Type 0
   IsRight side = (q.x <ℤ side.0.x) × (q.x <ℤ side.1.x)
-
-  differ-through : (a b c : Bool) → differ (differ a b) (differ b c) ≡ differ a c
-  differ-through true true true = refl
-  differ-through true true false = refl
-  differ-through true false c = refl
-  differ-through false true true = refl
-  differ-through false true false = refl
-  differ-through false false c = refl
-
-  differ-none : (a : Bool) → differ a false ≡ a
-  differ-none true = refl
-  differ-none false = refl
 
   -- along sides right of q, an odd number is counted where one end of the way lies no higher than q, and the other higher
   inside-along : (a : ℕ) (points : List ℕ) (z : ℕ) → AllByRecursion IsRight (placed position (sides_along a points z))

@@ -34,7 +34,7 @@ use Rattle.cad_valid.specs.Swept.{is_point, have_no_crossing}
 use Rattle.cad_valid.proofs.BoxesOfMap.{overlap-common}
 use Rattle.cad_valid.proofs.HubFacts.{two-among, two-only_start}
 use Rattle.cad_valid.proofs.PlacedStrings.{is_only_end-is}
-use Rattle.cad_valid.proofs.SeenNear.{one_more, string-gathered, no_string-gathered}
+use Rattle.cad_valid.proofs.SeenNear.{one_more, row-gathered, no_row-gathered}
 use Rattle.cad_valid.proofs.SightOfMap.{wider, in_reach}
 use Rattle.cad_valid.proofs.SweptPairs.{get-first, get-second, get-mapped, passed-pair}
 use Rattle.cad_valid.proofs.SweptRules.{string_on, point_on, strings_passed, point_string, string_point, meet-exchanged, point_is}
@@ -52,19 +52,21 @@ some-same x y one = cc
 module _ (m : Map) (sound : HasSoundRows m) (numbers : List ℕ) (k n : ℕ) where
   pub named-more : (row : StringRow) (old new : List Placed) → slice_get numbers k ≡ Some n → string_of m n ≡ Some row → AreNamed m (take k numbers) old
       → new ≡ old ++ placed_string m row ∷ [] → AreNamed m (take (k + 1) numbers) new
+  unfolding OfString
   named-more row old new at found before put = record {
     named = before.named ++ (row.number, placed_string m row) ∷ [];
     are =
         put ∙ ap (λ (l : List Placed). l ++ placed_string m row ∷ []) before.are
         ∙ sym (map-append (λ (e : ℕ × Placed). e.1) before.named ((row.number, placed_string m row) ∷ []));
-    all = string-gathered m sound (λ (s : StringRow). (s.number, placed_string m s)) before.named numbers k n row at found before.all;
+    all = row-gathered (λ (s : StringRow). s.number) m.strings sound.strings.distinct numbers k n at (λ s. (s.number, placed_string m s)) before.named _ row found refl before.all;
   }
 
   pub named-none : (items : List Placed) → slice_get numbers k ≡ Some n → string_of m n ≡ None → AreNamed m (take k numbers) items → AreNamed m (take (k + 1) numbers) items
+  unfolding OfString
   named-none items at none before = record {
     named = before.named;
     are = before.are;
-    all = no_string-gathered m sound (λ (s : StringRow). (s.number, placed_string m s)) before.named numbers k n at none before.all;
+    all = no_row-gathered (λ (s : StringRow). s.number) m.strings sound.strings.distinct numbers k n at (λ s. (s.number, placed_string m s)) before.named _ none refl before.all;
   }
 
 -- a number that is named twice in a row names what it named before

@@ -1,6 +1,6 @@
 -- A move that is seen to leave rings as they were keeps what their faces tell.
 use Rattle.std.proofs.Common.{◌≡◌, ◌≢◌, ◌⊎◌, ℕ, ◌≤◌, inl, inr, refl, sym, ap, subst, ◌∙◌, List, [], ◌∷◌, ◌++◌, length, map, filter, min, fold, Bool, true, false, not, ℤ, pos, true≢false, arith, ◌==◌}
-use Rattle.std.proofs.lemmas.Bool.{eqb-true, eqb-false, eq-eqb, not-true}
+use Rattle.std.proofs.lemmas.Bool.{eqb-true, eqb-false, eq-eqb, not-true, false_from_ne_true}
 use Rattle.std.proofs.lemmas.List.Elements.{Contains-push_cases}
 use Rattle.std.proofs.lemmas.Int.{ints}
 use Rattle.std.proofs.lemmas.List.Sorted.{IsPermutation-sym, Contains-permutation}
@@ -33,6 +33,7 @@ use Rattle.cad_valid.proofs.MovedSides.{IsAlike, inside-before}
 use Rattle.cad_valid.proofs.NearCorners.{IsBetween, string-of_side, far-between}
 use Rattle.cad_valid.proofs.NearFaces.{map-itself, rings-apart, outlines-kept, sound-kept}
 use Rattle.cad_valid.proofs.RowsByNumber.{row-of}
+use Rattle.cad_valid.proofs.Passed.{second-of}
 
 -- ---- Positions before the move
 
@@ -172,14 +173,6 @@ module _ (m : Map) (whole : HasWholeRings m) (p : ℕ) where
 -- ---- What was seen
 
 -- the rays' tests are tests of the strings
--- of two tests the second holds where the first fails
-second-of : {k n : ℕ} {c : Bool} → k ≢ n → ((k == n) || c) ≡ true → c ≡ true
-second-of {k = k} {n = n} {c = c} other either = by (k == n) refl either
-  where
-    by : (t : Bool) → (k == n) ≡ t → (t || c) ≡ true → c ≡ true
-    by true is either = absurd (other (eqb-true k n is))
-    by false is either = either
-
 module _ (m : Map) (v : Moved) (rays : List Ray) (are : AreRaysOf m v.point rays) (at : Position) (lies : at ≡ position_of m v.point) where
   ray-of : (s : StringRow) → Contains (strings_at m v.point) s → Contains rays (ray_of m v.point s)
   ray-of s h =
@@ -249,12 +242,7 @@ side-points (a ∷ points) s h =
 
 -- a string that has neither end there
 no-end : (s : StringRow) (p : ℕ) → s.from ≢ p → s.to ≢ p → is_end s p ≡ false
-no-end s p first second = by (s.from == p) refl (s.to == p) refl
-  where
-    by : (a : Bool) → (s.from == p) ≡ a → (b : Bool) → (s.to == p) ≡ b → is_end s p ≡ false
-    by true is b other = absurd (first (eqb-true s.from p is))
-    by false is true other = absurd (second (eqb-true s.to p other))
-    by false is false other = rw (is, other) refl
+no-end s p first second = rw (false_from_ne_true (s.from == p) (λ is. first (eqb-true s.from p is)), false_from_ne_true (s.to == p) (λ is. second (eqb-true s.to p is))) refl
 
 -- boxes overlap or don't, whichever end of a segment is named first
 boxes-turned : (a b c d : Position) → boxes_overlap a b c d ≡ false → boxes_overlap a b d c ≡ false
@@ -272,11 +260,7 @@ module _ (m : Map) (v : Moved) (whole : HasWholeRings m) (away : (q : ℕ) → C
   other ring none p h same = true≢false (sym (list_any-Contains (λ q. q == v.point) ring p h (eq-eqb p v.point same)) ∙ none)
 
   lay-other : (p : ℕ) → p ≢ v.point → lay p ≡ position_of m p
-  lay-other p off = by (p == v.point) refl
-    where
-      by : (b : Bool) → (p == v.point) ≡ b → lay p ≡ position_of m p
-      by true is = absurd (off (eqb-true p v.point is))
-      by false is = rw is refl
+  lay-other p off = rw (false_from_ne_true (p == v.point) (λ is. off (eqb-true p v.point is))) refl
 
   -- the sides of a ring are the map's
   in_all : (b : Boundary) → Contains m.boundaries b → (s : Side) → Contains (sides_of b.ring) s → Contains (all_sides m) s
@@ -448,11 +432,7 @@ module _ (old new : Map) (v : Moved) (valid : IsValid old) (whole : HasWholeRing
       (subst (λ (q : Ring). is_in_ring new b.0.ring (anchor_of q) ≡ is_in_ring old b.0.ring (anchor_of q)) c.3 here)
     where
       not-passed : (ring : Ring) → ¬ (passes v.point ring ≡ true) → passes v.point ring ≡ false
-      not-passed ring never = by (passes v.point ring) refl
-        where
-          by : (t : Bool) → passes v.point ring ≡ t → passes v.point ring ≡ false
-          by true is = absurd (never is)
-          by false is = is
+      not-passed ring never = false_from_ne_true (passes v.point ring) never
 
   pub outlines-moved : (n : ℕ) → has_outlines n new rings ≡ has_outlines n old (rings_of old f)
   outlines-moved n = outlines-kept old new rings (rings-apart new whole f) (λ r. r) positive-kept negative-kept inside-kept n ∙ ap (has_outlines n old) (map-itself rings ∙ ap (rings_at f) comes.boundaries)

@@ -1,8 +1,8 @@
 -- Past a position that a point went past with all its sides, or with none, the same rings go.
 use Rattle.std.proofs.Common.{◌≡◌, ◌≢◌, ℕ, ℤ, ◌≤ℤ◌, ◌<ℤ◌, ◌⊎◌, inl, inr, refl, sym, ap, ◌∙◌, List, [], ◌∷◌, Bool, true, false, not, cond, true≢false, arith, ◌==◌}
-use Rattle.std.proofs.lemmas.Bool.{eqb-true, and_from}
+use Rattle.std.proofs.Math.Bool.{or_comm}
+use Rattle.std.proofs.lemmas.Bool.{eqb-true, and_from, or_right}
 use Rattle.std.proofs.lemmas.Int.{ints, by_lt_z}
-use Rattle.std.specs.Prelude.{◌||◌}
 use Rattle.std.specs.List.{AllByRecursion, list_all}
 use Rattle.geo_exact.specs.Position.{Position}
 use Rattle.geo_exact.specs.Inside.{is_counted, is_counted_upwards, is_inside}
@@ -14,13 +14,9 @@ use Rattle.cad_valid.specs.declared.near.rays.Ray.{Ray}
 use Rattle.cad_valid.specs.declared.near.seen.Reach.{Reach}
 use Rattle.cad_valid.specs.Moves.{position_before, is_counted_anew, goes_past_alike}
 use Rattle.cad_valid.specs.Seen.{IsInReach}
-use Rattle.cad_valid.proofs.InsideBox.{differ, low, counted-left, inside-cons, right_of, rises_past}
+use Rattle.cad_valid.proofs.InsideBox.{differ, differ-none, low, counted-left, inside-cons, right_of, rises_past}
 
 -- ---- One of two, and not both
-
-pub differ-none : (a : Bool) → differ a false ≡ a
-differ-none true = refl
-differ-none false = refl
 
 pub differ-itself : (a : Bool) → differ a a ≡ false
 differ-itself true = refl
@@ -28,11 +24,7 @@ differ-itself false = refl
 
 -- what is common to two differences doesn't count
 differ-through : (a b c : Bool) → differ (differ a b) (differ a c) ≡ differ b c
-differ-through true true true = refl
-differ-through true true false = refl
-differ-through true false true = refl
-differ-through true false false = refl
-differ-through false b c = refl
+differ-through a b c = grind arith
 
 -- two changes one after the other
 differ-both : (c i x y z : Bool) → differ (differ c (differ x y)) (differ i (differ y z)) ≡ differ (differ c i) (differ x z)
@@ -42,13 +34,7 @@ differ-both c i x y z = grind arith
 
 -- a side is counted the same from both of its ends
 counted-turned : (a b q : Position) → is_counted a b q ≡ is_counted b a q
-counted-turned a b q = either (is_counted_upwards a b q) (is_counted_upwards b a q)
-  where
-    either : (s t : Bool) → (s || t) ≡ (t || s)
-    either true true = refl
-    either true false = refl
-    either false true = refl
-    either false false = refl
+counted-turned a b q = or_comm (is_counted_upwards a b q) (is_counted_upwards b a q)
 
 -- where the count changes so, it is the one before, changed
 changed-by : (now before anew : Bool) → differ now before ≡ anew → now ≡ differ before anew
@@ -120,11 +106,6 @@ module _ (position : ℕ → Position) (v : Moved) (q : Position) (anew : Bool) 
 
 -- ---- Positions far from the point
 
--- of two tests one holds where the second does
-pub or_second : (a : Bool) {b : Bool} → b ≡ true → (a || b) ≡ true
-or_second true is = refl
-or_second false is = is
-
 -- the point goes past with all or with none where all its sides change alike
 alike-from : (at from q : Position) (rays : List Ray) (anew : Bool) → AllByRecursion (λ r. is_counted_anew at from q r.position ≡ anew) rays → goes_past_alike at from rays q ≡ true
 alike-from at from q rays true all = rw (each rays all) refl
@@ -132,7 +113,7 @@ alike-from at from q rays true all = rw (each rays all) refl
     each : (rays : List Ray) → AllByRecursion (λ r. is_counted_anew at from q r.position ≡ true) rays → list_all (λ r. is_counted_anew at from q r.position) rays ≡ true
     each [] all = refl
     each (r ∷ rays) all = and_from (is_counted_anew at from q r.position) (list_all (λ r. is_counted_anew at from q r.position) rays) all.0 (each rays all.1)
-alike-from at from q rays false all = or_second (list_all (λ r. is_counted_anew at from q r.position) rays) (each rays all)
+alike-from at from q rays false all = or_right (list_all (λ r. is_counted_anew at from q r.position) rays) _ (each rays all)
   where
     each : (rays : List Ray) → AllByRecursion (λ r. is_counted_anew at from q r.position ≡ false) rays → list_all (λ r. not (is_counted_anew at from q r.position)) rays ≡ true
     each [] all = refl

@@ -1,17 +1,21 @@
 -- What a test of all of a list's elements tells, and a test of all that a grid has near.
-use Rattle.std.proofs.Common.{◌≡◌, ◌∙◌, ℕ, ◌<◌, refl, sym, subst, List, [], ◌∷◌, length, Bool, true, false, true≢false, arith}
+use Rattle.std.proofs.Common.{◌≡◌, ◌≢◌, ◌==◌, eqb-true, ◌∙◌, ℕ, ◌<◌, refl, sym, subst, List, [], ◌∷◌, length, Bool, true, false, true≢false, arith}
 use Rattle.std.proofs.lemmas.List.Elements.{Contains-get_or}
 use Rattle.std.proofs.lemmas.Bool.{iff_false}
 use Rattle.std.specs.Bool.{MatchBool}
-use Rattle.std.specs.Prelude.{◌↔◌, IsTrue}
+use Rattle.std.specs.Prelude.{◌↔◌, IsTrue, ◌||◌}
 use Rattle.std.specs.List.{AllByRecursion, AllWithin, HoldsAt, Contains}
+use Rattle.geo_exact.specs.Position.{Position}
+use Rattle.geo_exact.specs.SignTest.{boxes_overlap}
 use Rattle.cad_rows.specs.declared.rows.PointRow.{PointRow}
 use Rattle.cad_rows.specs.declared.rows.StringRow.{StringRow}
 use Rattle.cad_map.specs.Map.{Map, position_of}
 use Rattle.cad_map.proofs.CallerLemmas.{All-at_each, All-from_each}
 use Rattle.cell_grid.specs.declared.entry.HeldString.{HeldString}
 use Rattle.cell_grid.specs.declared.entry.HeldPoint.{HeldPoint}
+use Rattle.cad_valid.specs.declared.near.seen.Reach.{Reach}
 use Rattle.cad_valid.specs.Near.{OfPoint, OfString}
+use Rattle.cad_valid.proofs.RowsByNumber.{OfRow}
 
 -- all passed, or one didn't
 abbrev pub HavePassed : {X : Type 0} → (X → Type 0) → List X → Bool → Type 0
@@ -37,17 +41,40 @@ pub passed-where_true : {X : Type 0} (P N : X → Type 0) (xs : List X) (b : Boo
 passed-where_true P N xs true all t x h = subst P h.2 (all h.0 x (omega arith) h.1)
 passed-where_true P N xs false one t x h = absurd (true≢false (sym t))
 
+-- by whether a position lies in a box
+pub by_box : {G : Type 0} (reach : Reach) (q : Position) → (boxes_overlap reach.low reach.high q q ≡ true → G) → (boxes_overlap reach.low reach.high q q ≡ false → G) → G
+by_box {G} reach q near far = by (boxes_overlap reach.low reach.high q q) refl
+  where
+    by : (b : Bool) → boxes_overlap reach.low reach.high q q ≡ b → G
+    by true is = near is
+    by false is = far is
+
+-- of two tests the second holds where the first fails
+pub second-of : {k n : ℕ} {c : Bool} → k ≢ n → ((k == n) || c) ≡ true → c ≡ true
+second-of {k = k} {n = n} {c = c} other either = by (k == n) refl either
+  where
+    by : (t : Bool) → (k == n) ≡ t → (t || c) ≡ true → c ≡ true
+    by true is either = absurd (other (eqb-true k n is))
+    by false is either = either
+
+-- Points of which each is this one or passed a test.
+module _ (p : ℕ) (test : HeldPoint → Bool) (given : List HeldPoint) (b : Bool) (passed : HavePassed (λ h. IsTrue ((h.point == p) || test h)) given b) (t : IsTrue b) where
+  -- another one of them passed it
+  pub passed-other : (h : HeldPoint) → h.point ≢ p → Contains given h → test h ≡ true
+  passed-other h other there = second-of other ((passed-each (λ h. IsTrue ((h.point == p) || test h)) given b passed).0 t h there)
+
+  -- and each other one does, where those in a box are among them and those outside pass
+  pub passed-around : (reach : Reach) (n : ℕ) (q : Position) → (boxes_overlap reach.low reach.high q q ≡ true → Contains given (record { point = n; position = q })) → n ≢ p
+      → (boxes_overlap reach.low reach.high q q ≡ false → test (record { point = n; position = q }) ≡ true) → test (record { point = n; position = q }) ≡ true
+  passed-around reach n q there other far = by_box reach q (λ over. passed-other (record { point = n; position = q }) other (there over)) far
+
 -- Of rows with numbers those are near whose numbers are given, and those that aren't near pass.
 module _ {R : Type 0} (number : R → ℕ) (rows : List R) (P Near : R → Type 0) where
-  -- it holds of the row with this number
-  abbrev OfNumber : ℕ → Type 0
-  OfNumber n = (r : R) → Contains rows r → number r ≡ n → P r
-
-  passed-near : {X : Type 0} (key : X → ℕ) (given : List X) (b : Bool) → HavePassed (λ x. OfNumber (key x)) given b
+  passed-near : {X : Type 0} (key : X → ℕ) (given : List X) (b : Bool) → HavePassed (λ x. OfRow number rows P (key x)) given b
       → ((r : R) → Contains rows r → Near r → (x : X) × Contains given x × (key x ≡ number r)) → ((r : R) → (Near r → P r) → P r)
       → IsTrue b ↔ ((r : R) → Contains rows r → P r)
   passed-near key given b passed all far =
-      let is = passed-each (λ x. OfNumber (key x)) given b passed in (
+      let is = passed-each (λ x. OfRow number rows P (key x)) given b passed in (
         (λ t r h. far r (λ near. let g = all r h near in is.0 t g.0 g.1 r h (sym g.2))),
         (λ each. is.1 (λ x _ r h _. each r h)),
       )

@@ -14,6 +14,10 @@ use Rattle.cad_map.proofs.CallerLemmas.{Contains-cases, Contains-first, Contains
 use Rattle.cad_valid.specs.Near.{OfPoint, OfString}
 use Rattle.cad_valid.proofs.SweptRules.{same_position}
 
+-- it holds of the row with this number, if there is one
+abbrev pub OfRow : {R : Type 0} → (R → ℕ) → List R → (R → Type 0) → ℕ → Type 0
+OfRow {R} number rows P n = (r : R) → Contains rows r → number r ≡ n → P r
+
 module _ {R : Type 0} (number : R → ℕ) where
   -- a row of a table without repeated numbers is the one that its number finds
   pub row-is : (rows : List R) (row : R) → EachPair (λ a b. a ≢ b) (map number rows) → Contains rows row → row_with number (number row) rows ≡ Some row
@@ -31,22 +35,21 @@ module _ {R : Type 0} (number : R → ℕ) where
   row-found_is rows n row is = let f = find-Contains (λ (r : R). number r == n) rows row is in (f.0, eqb-true (number row) n f.1)
 
   module _ (rows : List R) (apart : EachPair (λ a b. a ≢ b) (map number rows)) (P : R → Type 0) (n : ℕ) where
+    -- the number finds each row with it
+    row-at : (r : R) → Contains rows r → number r ≡ n → row_with number n rows ≡ Some r
+    row-at r h same = ap (λ (k : ℕ). row_with number k rows) (sym same) ∙ row-is rows r apart h
+
     -- what holds of the row that a number finds holds of each with that number
-    pub of-row : (row : R) → row_with number n rows ≡ Some row → (b : Bool) → IsTrue b ↔ P row → IsTrue b ↔ ((r : R) → Contains rows r → number r ≡ n → P r)
+    pub of-row : (row : R) → row_with number n rows ≡ Some row → (b : Bool) → IsTrue b ↔ P row → IsTrue b ↔ OfRow number rows P n
     of-row row found b is = (
-      (λ t r h same.
-          let e : Some r ≡ Some row = sym (row-is rows r apart h) ∙ ap (λ (k : ℕ). row_with number k rows) same ∙ found in
-          let one : r ≡ row = cc in
-          subst P (sym one) (is.0 t)),
+      (λ t r h same. let e : Some r ≡ Some row = sym (row-at r h same) ∙ found in let one : r ≡ row = cc in subst P (sym one) (is.0 t)),
       (λ each. is.1 (each row (row-found_is rows n row found).0 (row-found_is rows n row found).1)),
     )
 
     -- and where it finds none, anything does
-    pub of-none : row_with number n rows ≡ None → IsTrue true ↔ ((r : R) → Contains rows r → number r ≡ n → P r)
+    pub of-none : row_with number n rows ≡ None → IsTrue true ↔ OfRow number rows P n
     of-none none = (
-      (λ t r h same.
-          let e : Some r ≡ None = sym (row-is rows r apart h) ∙ ap (λ (k : ℕ). row_with number k rows) same ∙ none in
-          absurd (cc)),
+      (λ t r h same. let e : Some r ≡ None = sym (row-at r h same) ∙ none in absurd (cc)),
       (λ each. refl),
     )
 

@@ -1,5 +1,5 @@
 -- Where all that is held near an edit is seen to be clear of it, V3 and V4 are kept there.
-use Rattle.std.proofs.Common.{◌≡◌, ◌≢◌, ℕ, ℤ, ◌≤ℤ◌, List, Some, None, Bool, true, false, not, refl, sym, ap, subst, ◌∙◌, ◌⊎◌, inl, inr, true≢false, arith, if◌then◌else◌}
+use Rattle.std.proofs.Common.{◌≡◌, ◌≢◌, ℕ, ℤ, ◌≤ℤ◌, List, map, Some, None, Bool, true, false, not, refl, sym, ap, subst, ◌∙◌, ◌⊎◌, inl, inr, true≢false, arith, if◌then◌else◌}
 use Rattle.std.proofs.lemmas.Int.{ints}
 use Rattle.std.proofs.lemmas.Bool.{and_parts, and_from, not-true, not_from_false, false_from_ne_true, eqb-true, eq-eqb, cases_eq}
 use Rattle.std.specs.Prelude.{◌↔◌, IsTrue, ◌||◌, ◌==◌}
@@ -11,8 +11,9 @@ use Rattle.cad_rows.specs.declared.rows.PointRow.{PointRow}
 use Rattle.cad_rows.specs.declared.rows.StringRow.{StringRow}
 use Rattle.cad_map.specs.Map.{Map, has_point, position_of, point_of, string_of, is_end, far_end}
 use Rattle.cad_map.specs.Crossings.{HasPlacedRows, HasTwoPoints}
+use Rattle.cad_map.specs.Table.{row_with}
 use Rattle.cad_map.specs.Touched.{Touched}
-use Rattle.cad_map.specs.Valid.{HasSoundRows, is_same_position, MeetAtEnds, LiesOnlyAsEnd}
+use Rattle.cad_map.specs.Valid.{EachPair, HasSoundRows, is_same_position, MeetAtEnds, LiesOnlyAsEnd}
 use Rattle.cad_map.proofs.CallerLemmas.{All-at_each, All-from_each, list_all-at, positions-differ, all-placed, is_end-from, is_end-of, far_end-away, meet-at_end}
 use Rattle.cell_grid.specs.declared.entry.HeldString.{HeldString}
 use Rattle.cell_grid.specs.declared.entry.HeldPoint.{HeldPoint}
@@ -21,11 +22,11 @@ use Rattle.cad_valid.specs.declared.near.seen.Reach.{Reach}
 use Rattle.cad_valid.specs.declared.near.seen.Seen.{Seen}
 use Rattle.cad_valid.specs.Near.{OfPoint, OfString, IsAlone, IsUncrossed, LiesAtEnds, AreUncrossed}
 use Rattle.cad_valid.specs.Placed.{have_common}
-use Rattle.cad_valid.specs.Seen.{lying_string, lying_point, HasInReach, IsSeen, SeesStrings, SeesPoints, starts_alone, meets_by_sight, lies_by_sight, is_clear_of, is_clear_string, is_clear_point, is_apart_from, is_apart_point, IsSeenAlone, lies_alike, held_string, held_point, HasStringThere, HasPointThere, OfHeldString, OfHeldPoint}
+use Rattle.cad_valid.specs.Seen.{lying_string, lying_point, HasInReach, IsSeen, SeesStrings, starts_alone, meets_by_sight, lies_by_sight, is_clear_of, is_clear_string, is_clear_point, is_apart_from, is_apart_point, IsSeenAlone, lies_alike, held_string, held_point, HasStringThere, HasPointThere}
 use Rattle.cad_valid.proofs.Decisions.{not-iff}
-use Rattle.cad_valid.proofs.Passed.{HavePassed, passed-each}
+use Rattle.cad_valid.proofs.Passed.{HavePassed, passed-each, second-of}
 use Rattle.cad_valid.proofs.PlacedStrings.{have_common-is, only_start}
-use Rattle.cad_valid.proofs.RowsByNumber.{row-is, row-found_is, point-is, point-position, point-there}
+use Rattle.cad_valid.proofs.RowsByNumber.{row-is, row-found_is, point-position, point-there}
 use Rattle.cad_valid.proofs.SweptRules.{same_position, same_itself}
 
 -- ---- Boxes
@@ -54,34 +55,6 @@ in_reach r f within = wider r f f.a f.b within (overlap_itself f.a f.b)
 
 -- ---- What the grid holds
 
--- all that is held near passes exactly where all that the map has near does
-module _ (m : Map) (v : Seen) (test : Lying → Bool) where
-  pub strings-seen : (given : List HeldString) (b : Bool) → HavePassed (OfHeldString m test) given b
-      → ((h : HeldString) → Contains given h → boxes_overlap v.reach.low v.reach.high h.from h.to ≡ true)
-      → ((s : StringRow) → Contains m.strings s → boxes_overlap v.reach.low v.reach.high (position_of m s.from) (position_of m s.to) ≡ true
-      → Contains given (record { string = s.number; from = position_of m s.from; to = position_of m s.to })) → IsTrue b ↔ SeesStrings m v test
-  unfolding OfHeldString
-  strings-seen given b passed near all =
-      let is = passed-each (OfHeldString m test) given b passed in (
-        (λ t s hs over. is.0 t (record { string = s.number; from = position_of m s.from; to = position_of m s.to }) (all s hs over) s hs refl),
-        (λ sees. is.1 (λ h there s hs same.
-            subst (λ (f : Lying). test f ≡ true) same
-            (sees s hs (subst (λ (f : Lying). boxes_overlap v.reach.low v.reach.high f.a f.b ≡ true) (sym same) (near h there))))),
-      )
-
-  pub points-seen : (given : List HeldPoint) (b : Bool) → HavePassed (OfHeldPoint m test) given b
-      → ((h : HeldPoint) → Contains given h → boxes_overlap v.reach.low v.reach.high h.position h.position ≡ true)
-      → ((p : PointRow) → Contains m.points p → boxes_overlap v.reach.low v.reach.high p.position p.position ≡ true
-      → Contains given (record { point = p.number; position = p.position })) → IsTrue b ↔ SeesPoints m v test
-  unfolding OfHeldPoint
-  points-seen given b passed near all =
-      let is = passed-each (OfHeldPoint m test) given b passed in (
-        (λ t p hp over. is.0 t (record { point = p.number; position = p.position }) (all p hp over) p hp refl),
-        (λ sees. is.1 (λ h there p hp same.
-            subst (λ (f : Lying). test f ≡ true) same
-            (sees p hp (subst (λ (f : Lying). boxes_overlap v.reach.low v.reach.high f.a f.b ≡ true) (sym same) (near h there))))),
-      )
-
 -- ends at the same positions, and the same number
 same_lying : (f g : Lying) → f.number ≡ g.number → lies_alike f g ≡ true → f ≡ g
 same_lying f g number alike =
@@ -93,81 +66,74 @@ same_lying f g number alike =
 lies_alike-itself : (f : Lying) → lies_alike f f ≡ true
 lies_alike-itself f = and_from (is_same_position f.a f.a) (is_same_position f.b f.b) (same_itself f.a) (same_itself f.b)
 
--- the map has what is held there exactly where the row of its number lies alike
+-- Of rows of a table that lie somewhere, what is held of them.
+module _ {R : Type 0} (lying : R → Lying) (rows : List R) where
+  -- one lies as it is held
+  abbrev IsThere : Lying → Type 0
+  IsThere f = (r : R) × Contains rows r × (lying r ≡ f)
+
+  -- what is held passes a test, if one does
+  abbrev OfHeld : (Lying → Bool) → Lying → Type 0
+  OfHeld test f = (r : R) → Contains rows r → lying r ≡ f → IsTrue (test f)
+
+  -- all that is held near passes exactly where all that the map has near does
+  pub rows-seen : {H : Type 0} (held : H → Lying) (reach : Reach) (test : Lying → Bool) (given : List H) (b : Bool) → HavePassed (λ h. OfHeld test (held h)) given b
+      → ((h : H) → Contains given h → boxes_overlap reach.low reach.high (held h).a (held h).b ≡ true)
+      → ((r : R) → Contains rows r → boxes_overlap reach.low reach.high (lying r).a (lying r).b ≡ true → (h : H) × Contains given h × (lying r ≡ held h))
+      → IsTrue b ↔ ((r : R) → Contains rows r → IsTrue (boxes_overlap reach.low reach.high (lying r).a (lying r).b) → IsTrue (test (lying r)))
+  rows-seen held reach test given b passed near all =
+      let is = passed-each (λ h. OfHeld test (held h)) given b passed in (
+        (λ t r there over. let h = all r there over in subst (λ (f : Lying). test f ≡ true) (sym h.2) (is.0 t h.0 h.1 r there h.2)),
+        (λ sees. is.1 (λ h h_there r there same.
+            subst (λ (f : Lying). test f ≡ true) same
+            (sees r there (subst (λ (f : Lying). boxes_overlap reach.low reach.high f.a f.b ≡ true) (sym same) (near h h_there))))),
+      )
+
+  module _ (test : Lying → Bool) (f : Lying) (b : Bool) where
+    -- what isn't seen to pass does so where it isn't there
+    pub row-passes : test f ≡ false → IsTrue b ↔ (¬ IsThere f) → IsTrue b ↔ OfHeld test f
+    row-passes fails is = (
+      (λ t r there same. absurd (is.0 t (r, there, same))),
+      (λ passes. is.1 (λ there. true≢false (sym (passes there.0 there.1 there.2) ∙ fails))),
+    )
+
+    -- and what is does
+    pub row-passed : b ≡ test f → b ≡ true → IsTrue b ↔ OfHeld test f
+    row-passed is t = ((λ _ r there same. sym is ∙ t), (λ _. t))
+
+  -- the map has what is held there exactly where the row of its number lies alike
+  module _ (apart : EachPair (λ a b. a ≢ b) (map (λ r. (lying r).number) rows)) (f : Lying) where
+    found-there : (there : IsThere f) → row_with (λ r. (lying r).number) f.number rows ≡ Some there.0
+    found-there there = ap (λ (g : Lying). row_with (λ r. (lying r).number) g.number rows) (sym there.2) ∙ row-is (λ r. (lying r).number) rows there.0 apart there.1
+
+    pub row-stale : (row : R) → row_with (λ r. (lying r).number) f.number rows ≡ Some row → IsTrue (not (lies_alike (lying row) f)) ↔ (¬ IsThere f)
+    row-stale row found = (
+      (λ elsewhere there.
+          let one : Some there.0 ≡ Some row = sym (found-there there) ∙ found in
+          let is : there.0 ≡ row = cc in
+          let alike : lies_alike (lying row) f ≡ true = subst (λ (g : Lying). lies_alike g f ≡ true) (sym there.2 ∙ ap lying is) (lies_alike-itself f) in
+          true≢false (sym alike ∙ not-true (lies_alike (lying row) f) elsewhere)),
+      (λ gone.
+          let is = row-found_is (λ (r : R). (lying r).number) rows f.number row found in
+          not_from_false (lies_alike (lying row) f)
+          (false_from_ne_true (lies_alike (lying row) f) (λ alike. gone (row, is.0, same_lying (lying row) f is.1 alike)))),
+    )
+
+    row-gone : row_with (λ r. (lying r).number) f.number rows ≡ None → IsTrue true ↔ (¬ IsThere f)
+    row-gone none = (
+      (λ t there. let one : Some there.0 ≡ None = sym (found-there there) ∙ none in cc),
+      (λ gone. refl),
+    )
+
 module _ (m : Map) (sound : HasSoundRows m) where
-  pub string-stale : (h : HeldString) (row : StringRow) → string_of m h.string ≡ Some row
-      → IsTrue (not (lies_alike (lying_string m row) (held_string h))) ↔ (¬ HasStringThere m h)
-  string-stale h row found =
-      let f = held_string h in (
-        (λ elsewhere there.
-            let s = there.0 in
-            let one : Some s ≡ Some row = sym (row-is (λ (r : StringRow). r.number) m.strings s sound.strings.distinct there.1) ∙ ap (λ (g : Lying). string_of m g.number) there.2 ∙ found in
-            let is : s ≡ row = cc in
-            let alike : lies_alike (lying_string m row) f ≡ true = subst (λ (g : Lying). lies_alike g f ≡ true) (sym there.2 ∙ ap (lying_string m) is) (lies_alike-itself f) in
-            true≢false (sym alike ∙ not-true (lies_alike (lying_string m row) f) elsewhere)),
-        (λ gone.
-            let is = row-found_is (λ (r : StringRow). r.number) m.strings h.string row found in
-            not_from_false (lies_alike (lying_string m row) f)
-            (false_from_ne_true (lies_alike (lying_string m row) f) (λ alike. gone (row, is.0, same_lying (lying_string m row) f is.1 alike)))),
-      )
-
   pub string-gone : (h : HeldString) → string_of m h.string ≡ None → IsTrue true ↔ (¬ HasStringThere m h)
-  string-gone h none = (
-    (λ t there.
-        let one : Some there.0 ≡ None = sym (row-is (λ (r : StringRow). r.number) m.strings there.0 sound.strings.distinct there.1) ∙ ap (λ (g : Lying). string_of m g.number) there.2 ∙ none in
-        cc),
-    (λ gone. refl),
-  )
-
-  pub point-stale : (h : HeldPoint) (row : PointRow) → point_of m h.point ≡ Some row
-      → IsTrue (not (lies_alike (lying_point row) (held_point h))) ↔ (¬ HasPointThere m h)
-  point-stale h row found =
-      let f = held_point h in (
-        (λ elsewhere there.
-            let p = there.0 in
-            let one : Some p ≡ Some row = sym (point-is m sound p there.1) ∙ ap (λ (g : Lying). point_of m g.number) there.2 ∙ found in
-            let is : p ≡ row = cc in
-            let alike : lies_alike (lying_point row) f ≡ true = subst (λ (g : Lying). lies_alike g f ≡ true) (sym there.2 ∙ ap lying_point is) (lies_alike-itself f) in
-            true≢false (sym alike ∙ not-true (lies_alike (lying_point row) f) elsewhere)),
-        (λ gone.
-            let is = row-found_is (λ (r : PointRow). r.number) m.points h.point row found in
-            not_from_false (lies_alike (lying_point row) f)
-            (false_from_ne_true (lies_alike (lying_point row) f) (λ alike. gone (row, is.0, same_lying (lying_point row) f is.1 alike)))),
-      )
+  string-gone h = row-gone (lying_string m) m.strings sound.strings.distinct (held_string h)
 
   pub point-gone : (h : HeldPoint) → point_of m h.point ≡ None → IsTrue true ↔ (¬ HasPointThere m h)
-  point-gone h none = (
-    (λ t there.
-        let one : Some there.0 ≡ None = sym (point-is m sound there.0 there.1) ∙ ap (λ (g : Lying). point_of m g.number) there.2 ∙ none in
-        cc),
-    (λ gone. refl),
-  )
+  point-gone h = row-gone lying_point m.points sound.points.distinct (held_point h)
 
   -- a string and a point that the map doesn't have at all are stale
   pub ruleset rows_gone = (string-gone, point-gone)
-
-  -- what isn't seen to pass does so where it isn't there
-  pub string-passes : (test : Lying → Bool) (h : HeldString) (b : Bool) → test (held_string h) ≡ false → IsTrue b ↔ (¬ HasStringThere m h) → IsTrue b ↔ OfHeldString m test h
-  unfolding OfHeldString
-  string-passes test h b fails is = (
-    (λ t s hs same. absurd (is.0 t (s, hs, same))),
-    (λ passes. is.1 (λ there. true≢false (sym (passes there.0 there.1 there.2) ∙ fails))),
-  )
-
-  pub point-passes : (test : Lying → Bool) (h : HeldPoint) (b : Bool) → test (held_point h) ≡ false → IsTrue b ↔ (¬ HasPointThere m h) → IsTrue b ↔ OfHeldPoint m test h
-  unfolding OfHeldPoint
-  point-passes test h b fails is = (
-    (λ t p hp same. absurd (is.0 t (p, hp, same))),
-    (λ passes. is.1 (λ there. true≢false (sym (passes there.0 there.1 there.2) ∙ fails))),
-  )
-
-  pub string-passed : (test : Lying → Bool) (h : HeldString) (b : Bool) → b ≡ test (held_string h) → b ≡ true → IsTrue b ↔ OfHeldString m test h
-  unfolding OfHeldString
-  string-passed test h b is t = ((λ _ s hs same. sym is ∙ t), (λ _. t))
-
-  pub point-passed : (test : Lying → Bool) (h : HeldPoint) (b : Bool) → b ≡ test (held_point h) → b ≡ true → IsTrue b ↔ OfHeldPoint m test h
-  unfolding OfHeldPoint
-  point-passed test h b is t = ((λ _ p hp same. sym is ∙ t), (λ _. t))
 
   -- ---- V3
 
@@ -197,11 +163,7 @@ far_end-from : (s : StringRow) → far_end s s.from ≡ s.to
 far_end-from s = rw (eq-eqb s.from s.from refl) refl
 
 far_end-to : (s : StringRow) → s.from ≢ s.to → far_end s s.to ≡ s.from
-far_end-to s two = by (s.from == s.to) refl
-  where
-    by : (b : Bool) → (s.from == s.to) ≡ b → (if b then s.to else s.from) ≡ s.from
-    by true is = absurd (two (eqb-true s.from s.to is))
-    by false is = refl
+far_end-to s two = rw (false_from_ne_true (s.from == s.to) (λ is. two (eqb-true s.from s.to is))) refl
 
 module _ (m : Map) (rows : HasPlacedRows m) where
   -- points of the map at one position are one
@@ -304,12 +266,7 @@ module _ (m : Map) (rows : HasPlacedRows m) where
       where
         differ : (s r : StringRow) → r.number ≢ s.number → is_clear_of (lying_string m s) (lying_string m r) ≡ true
             → meets_by_sight (position_of m s.from) (position_of m s.to) (position_of m r.from) (position_of m r.to) ≡ true
-        differ s r other clear = by (s.number == r.number) refl clear
-          where
-            by : (b : Bool) → (s.number == r.number) ≡ b → (b || meets_by_sight (position_of m s.from) (position_of m s.to) (position_of m r.from) (position_of m r.to)) ≡ true
-                → meets_by_sight (position_of m s.from) (position_of m s.to) (position_of m r.from) (position_of m r.to) ≡ true
-            by true is _ = absurd (other (sym (eqb-true s.number r.number is)))
-            by false _ sees = sees
+        differ s r other clear = second-of {k = s.number} {n = r.number} (λ is. other (sym is)) clear
 
     point-clear : (p : PointRow) → Contains m.points p → Contains v.points.items (lying_point p) → LiesAtEnds m p
     point-clear p hp there s hs common =

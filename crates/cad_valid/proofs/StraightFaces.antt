@@ -1,6 +1,6 @@
 -- What a face tells with a point between two others, and where the string goes straight.
 use Rattle.std.proofs.Common.{◌≡◌, ◌≢◌, ◌⊎◌, ℕ, ◌≤◌, refl, sym, ap, subst, ◌∙◌, List, [], ◌∷◌, length, map, Bool, true, false, not, ℤ, pos, ◌==◌, true≢false, arith, inl, inr}
-use Rattle.std.proofs.lemmas.Bool.{eqb-true, eq-eqb}
+use Rattle.std.proofs.lemmas.Bool.{eqb-true, eq-eqb, false_from_ne_true}
 use Rattle.std.specs.Prelude.{IsTrue, int_lt, ◌&&◌}
 use Rattle.std.specs.List.{AllByRecursion, Contains}
 use Rattle.geo_exact.specs.Inside.{is_inside}
@@ -33,11 +33,7 @@ module _ (p : ℕ) where
       (k.0, λ same. true≢false (sym k.1 ∙ ap not (eq-eqb q p same)))
 
   pub stays-in : (ring : Ring) (q : ℕ) → Contains ring q → q ≢ p → Contains (without p ring) q
-  stays-in ring q h other = Contains-filter (λ q. not (q == p)) ring q h (by (q == p) refl)
-    where
-      by : (b : Bool) → (q == p) ≡ b → not (q == p) ≡ true
-      by true is = absurd (other (eqb-true q p is))
-      by false is = ap not is
+  stays-in ring q h other = Contains-filter (λ q. not (q == p)) ring q h (ap not (false_from_ne_true (q == p) (λ is. other (eqb-true q p is))))
 
   -- a ring whose anchor is another point has it without the point, too
   pub anchor-without : (ring : Ring) → Contains ring (anchor_of ring) → anchor_of ring ≢ p → anchor_of (without p ring) ≡ anchor_of ring

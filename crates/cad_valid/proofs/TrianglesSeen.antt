@@ -1,6 +1,6 @@
 -- What tests of rays and of held points tell of the triangles that a moved point's strings swept.
-use Rattle.std.proofs.Common.{◌≡◌, ◌≢◌, ◌⊎◌, ℕ, ℤ, pos, ◌+◌, ◌≤ℤ◌, ◌<ℤ◌, inl, inr, refl, sym, ap, subst, ◌∙◌, List, [], ◌∷◌, map, take, length, Some, Bool, true, false, not, true≢false, ◌==◌, eqb-true, arith}
-use Rattle.std.proofs.lemmas.Bool.{and_parts, and_from}
+use Rattle.std.proofs.Common.{◌≡◌, ◌≢◌, ◌⊎◌, ℕ, ℤ, pos, ◌+◌, ◌≤ℤ◌, ◌<ℤ◌, inl, inr, refl, sym, ap, subst, ◌∙◌, List, [], ◌∷◌, map, take, length, Some, Bool, true, false, not, true≢false, ◌==◌, arith}
+use Rattle.std.proofs.lemmas.Bool.{and_parts, and_from, or_left, or_right}
 use Rattle.std.proofs.lemmas.Int.{ints}
 use Rattle.std.proofs.lemmas.List.Sorted.{Contains-permutation}
 use Rattle.std.specs.Prelude.{slice_get, int_lt, ◌||◌, ◌&&◌}
@@ -24,7 +24,8 @@ use Rattle.cad_valid.specs.Near.{HoldsMap}
 use Rattle.cad_valid.specs.Rays.{AreRaysOf, ray_of}
 use Rattle.cad_valid.specs.Seen.{IsInReach}
 use Rattle.cad_valid.specs.Triangles.{AreSeenClear, LeadApart, MovesClear, SweepsClear, has_area, is_beyond, is_past_ray, is_past_three, is_seen_outside}
-use Rattle.cad_valid.proofs.MovedSides.{or_second, outside}
+use Rattle.cad_valid.proofs.MovedSides.{outside}
+use Rattle.cad_valid.proofs.Passed.{second-of}
 
 -- one element more, which has the relation to each before it
 pub one_more_pair : {X : Type 0} (R : X → X → Type 0) (xs : List X) (k : ℕ) (x : X) → slice_get xs k ≡ Some x → EachPair R (take k xs) → AllByRecursion (λ e. R e x) (take k xs)
@@ -39,10 +40,6 @@ one_more_pair R xs k x at each here =
 either : (a b : Bool) → (a || b) ≡ true → (a ≡ true) ⊎ (b ≡ true)
 either true b passed = inl refl
 either false b passed = inr passed
-
--- and where the first did, one of them did
-or_first : {a : Bool} (b : Bool) → a ≡ true → (a || b) ≡ true
-or_first b is = rw is refl
 
 -- less by the test
 less_from : (x y : ℤ) → int_lt x y ≡ true → x <ℤ y
@@ -87,14 +84,14 @@ module _ (q a b r : Position) where
 past-low : (low q a b r : ℤ) → r <ℤ low → low ≤ℤ q → low ≤ℤ a → low ≤ℤ b → is_past_three q a b r ≡ true
 unfolding is_past_three
 past-low low q a b r out hq ha hb =
-    or_second (int_lt q r && int_lt a r && int_lt b r)
+    or_right (int_lt q r && int_lt a r && int_lt b r) _
     (from-three (int_lt r q) (int_lt r a) (int_lt r b) (less r q (omega (arith, ints))) (less r a (omega (arith, ints))) (less r b (omega (arith, ints))))
 
 -- on the other side, too
 past-high : (high q a b r : ℤ) → high <ℤ r → q ≤ℤ high → a ≤ℤ high → b ≤ℤ high → is_past_three q a b r ≡ true
 unfolding is_past_three
 past-high high q a b r out hq ha hb =
-    or_first (int_lt r q && int_lt r a && int_lt r b)
+    or_left _ (int_lt r q && int_lt r a && int_lt r b)
     (from-three (int_lt q r) (int_lt a r) (int_lt b r) (less q r (omega (arith, ints))) (less a r (omega (arith, ints))) (less b r (omega (arith, ints))))
 
 module _ (reach : Reach) (at from : Position) (at_in : IsInReach reach at) (from_in : IsInReach reach from) where
@@ -102,11 +99,11 @@ module _ (reach : Reach) (at from : Position) (at_in : IsInReach reach at) (from
   far-ray : (n : ℕ) (q : Position) (r : Ray) → IsInReach reach r.position → boxes_overlap reach.low reach.high q q ≡ false → is_past_ray from at (record { point = n; position = q }) r ≡ true
   unfolding is_beyond
   far-ray n q r r_in apart =
-      or_second (r.far == n) (or_first (is_outside r.position from at q) (elim (outside reach at from at_in from_in q apart) [
-        | inl left ↦ or_first (is_past_three r.position.y from.y at.y q.y) (past-low reach.low.x r.position.x from.x at.x q.x left r_in.left from_in.left at_in.left)
-        | inr (inl below) ↦ or_second (is_past_three r.position.x from.x at.x q.x) (past-low reach.low.y r.position.y from.y at.y q.y below r_in.bottom from_in.bottom at_in.bottom)
-        | inr (inr (inl above)) ↦ or_second (is_past_three r.position.x from.x at.x q.x) (past-high reach.high.y r.position.y from.y at.y q.y above r_in.top from_in.top at_in.top)
-        | inr (inr (inr right)) ↦ or_first (is_past_three r.position.y from.y at.y q.y) (past-high reach.high.x r.position.x from.x at.x q.x right r_in.right from_in.right at_in.right)
+      or_right (r.far == n) _ (or_left _ (is_outside r.position from at q) (elim (outside reach at from at_in from_in q apart) [
+        | inl left ↦ or_left _ (is_past_three r.position.y from.y at.y q.y) (past-low reach.low.x r.position.x from.x at.x q.x left r_in.left from_in.left at_in.left)
+        | inr (inl below) ↦ or_right (is_past_three r.position.x from.x at.x q.x) _ (past-low reach.low.y r.position.y from.y at.y q.y below r_in.bottom from_in.bottom at_in.bottom)
+        | inr (inr (inl above)) ↦ or_right (is_past_three r.position.x from.x at.x q.x) _ (past-high reach.high.y r.position.y from.y at.y q.y above r_in.top from_in.top at_in.top)
+        | inr (inr (inr right)) ↦ or_left _ (is_past_three r.position.y from.y at.y q.y) (past-high reach.high.x r.position.x from.x at.x q.x right r_in.right from_in.right at_in.right)
       ]))
 
   -- and past all whose far ends lie in the box
@@ -167,12 +164,8 @@ module _ (m : Map) (g : Grid) (held : HoldsMap g m) (v : Moved) (rays : List Ray
       points : (r : PointRow) → Contains m.points r → r.number ≢ v.point → r.number ≢ far_end s v.point → is_outside ray.position v.from at r.position ≡ true
       points r r_there other other_far =
           seen-outside ray.position v.from at r.position area
-          (past (far_end s v.point == r.number) refl
+          (second-of {k = far_end s v.point} {n = r.number} (λ is. other_far (sym is))
           (list_all-at (is_past_ray v.from at (record { point = r.number; position = r.position })) rays ray (seen.points r.number r.position (held.points r r_there) other) (ray-there s there)))
-        where
-          past : (b : Bool) {o : Bool} → (far_end s v.point == r.number) ≡ b → (b || o) ≡ true → o ≡ true
-          past true is passed = absurd (other_far (sym (eqb-true (far_end s v.point) r.number is)))
-          past false is passed = passed
 
   -- so the point moves clear, where no string comes near its way
   pub moves-clear : degree m v.point ≢ 0

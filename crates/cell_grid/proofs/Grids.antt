@@ -5,8 +5,9 @@ use Rattle.std.specs.Prelude.{IsTrue, ◌↔◌, Result, Ok, Err, OnOk, OnErr}
 use Rattle.std.specs.List.{Contains, AllByRecursion}
 use Rattle.geo_exact.specs.Position.{Position}
 use Rattle.cell_grid.specs.declared.entry.Entry.{Entry}
-use Rattle.cell_grid.specs.Spread.{IsSoundEntry}
-use Rattle.cell_grid.specs.Kept.{Kept, IsHeld}
+use Rattle.cell_grid.specs.declared.segments.Segments.{Segments}
+use Rattle.cell_grid.specs.Kept.{kept, AreSpread, IsHeld}
+use Rattle.cell_grid.proofs.Levels.{held-sound}
 use Rattle.cell_grid.specs.declared.entry.HeldString.{HeldString}
 use Rattle.cell_grid.specs.declared.entry.HeldPoint.{HeldPoint}
 use Rattle.cell_grid.specs.Grid.{entry_of, held_string, held_point, IsNumbered}
@@ -36,32 +37,32 @@ module _ {X : Type 0} (read : Entry → X) where
       (later.0, (suc later.1.0, omega (arith, later.1.1), later.1.2), later.2)
 
 -- entries that were given near a segment
-module _ (k : Kept) (sound : (e : Entry) → IsHeld k e → IsSoundEntry e)
+module _ (s : Segments) (spread : AreSpread s)
     (a b : Position) (xs : List Entry) (held : (e : Entry) → Contains xs e
-    → IsHeld k e × IsTrue (boxes_overlap a b e.from e.to)) where
+    → IsHeld (kept s) e × IsTrue (boxes_overlap a b e.from e.to)) where
   pub numbers_given : AllByRecursion IsNumbered xs
-  numbers_given = all_from IsNumbered xs (λ e h. (sound e (held e h).0).number)
+  numbers_given = all_from IsNumbered xs (λ e h. (held-sound s spread e (held e h).0).number)
 
   pub strings_given : (t : HeldString) → Contains (map held_string xs) t
-      → IsHeld k (entry_of t.string t.from t.to) × IsTrue (boxes_overlap a b t.from t.to)
+      → IsHeld (kept s) (entry_of t.string t.from t.to) × IsTrue (boxes_overlap a b t.from t.to)
   strings_given t h =
       let f = read-from held_string xs t h in
-      subst (λ (y : HeldString). IsHeld k (entry_of y.string y.from y.to)
+      subst (λ (y : HeldString). IsHeld (kept s) (entry_of y.string y.from y.to)
       × IsTrue (boxes_overlap a b y.from y.to)) f.2 (held f.0 f.1)
 
-  pub points_given : ((e : Entry) → IsHeld k e → e.from ≡ e.to) → (p : HeldPoint)
+  pub points_given : ((e : Entry) → IsHeld (kept s) e → e.from ≡ e.to) → (p : HeldPoint)
       → Contains (map held_point xs) p
-      → IsHeld k (entry_of p.point p.position p.position)
+      → IsHeld (kept s) (entry_of p.point p.position p.position)
       × IsTrue (boxes_overlap a b p.position p.position)
   points_given spots p h =
       let f = read-from held_point xs p h in
       let there = held f.0 f.1 in
       let one = sym (spots f.0 there.0) in
-      let spot : IsHeld k (entry_of f.0.number f.0.from f.0.from)
+      let spot : IsHeld (kept s) (entry_of f.0.number f.0.from f.0.from)
       × IsTrue (boxes_overlap a b f.0.from f.0.from) =
-      subst (λ (d : Position). IsHeld k (entry_of f.0.number f.0.from d)
+      subst (λ (d : Position). IsHeld (kept s) (entry_of f.0.number f.0.from d)
       × IsTrue (boxes_overlap a b f.0.from d)) one there in
-      subst (λ (y : HeldPoint). IsHeld k (entry_of y.point y.position y.position)
+      subst (λ (y : HeldPoint). IsHeld (kept s) (entry_of y.point y.position y.position)
       × IsTrue (boxes_overlap a b y.position y.position)) f.2 spot
 
 -- the entries of points are single positions

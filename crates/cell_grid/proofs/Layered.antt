@@ -1,79 +1,126 @@
--- What a put and a take in one layer do to all that is held.
-use Rattle.std.proofs.Common.{◌≡◌, ◌⊎◌, inr}
-use Rattle.std.specs.Prelude.{◌↔◌, Result, OnOk, OnErr}
+-- What a put and a take in one layer, or among the long ones, do to all that is held.
+use Rattle.std.proofs.Common.{◌≡◌, ◌≤◌, ◌⊎◌, inl, inr, refl}
+use Rattle.std.specs.Prelude.{◌↔◌, Result, OnOk, OnErr, count_by}
+use Rattle.std.specs.List.{Contains}
 use Rattle.cell_grid.specs.declared.entry.Entry.{Entry}
+use Rattle.cell_grid.specs.declared.held_list.HeldList.{HeldList}
 use Rattle.cell_grid.specs.declared.layer.Layer.{Layer}
 use Rattle.cell_grid.specs.declared.segments.Level.{Level}
 use Rattle.cell_grid.specs.declared.segments.Level.TheVariants.{SmallSquares, Squares, LanesEast, LanesNorth, Long}
 use Rattle.cell_grid.specs.declared.segments.Segments.{Segments}
-use Rattle.cell_grid.specs.Spread.{IsSpread}
+use Rattle.cell_grid.specs.Entries.{is_same_entry}
+use Rattle.cell_grid.specs.Spread.{IsSpread, IsSoundEntry}
 use Rattle.cell_grid.specs.Kept.{kept, level_of, AreSpread, StandsAt, HoldsSame, HoldsOneMore, HoldsOneLess}
-use Rattle.cell_grid.proofs.Levels.{IsSameElsewhere, IsPutAt, IsTakenAt, but-small_squares, but-squares, but-lanes_east, but-lanes_north, put-more, put-same, put-levels, take-levels, take-less}
+use Rattle.cell_grid.proofs.Levels.{unmoved, IsSameElsewhere, IsPutAt, IsTakenAt, put-more, put-same, put-levels, take-levels, take-less}
 
--- the segments with another layer at a level; the long ones stand in none
-abbrev pub with_layer : Segments → Level → Layer → Segments
-with_layer s SmallSquares l = record { small_squares = l; squares = s.squares; lanes_east = s.lanes_east; lanes_north = s.lanes_north; long = s.long }
-with_layer s Squares l = record { small_squares = s.small_squares; squares = l; lanes_east = s.lanes_east; lanes_north = s.lanes_north; long = s.long }
-with_layer s LanesEast l = record { small_squares = s.small_squares; squares = s.squares; lanes_east = l; lanes_north = s.lanes_north; long = s.long }
-with_layer s LanesNorth l = record { small_squares = s.small_squares; squares = s.squares; lanes_east = s.lanes_east; lanes_north = l; long = s.long }
-with_layer s Long l = s
+-- what has the entries of a level
+abbrev pub PartAt : Level → Type 0
+PartAt SmallSquares = Layer
+PartAt Squares = Layer
+PartAt LanesEast = Layer
+PartAt LanesNorth = Layer
+PartAt Long = HeldList
 
--- the other layer has cells of the same size
-abbrev pub HasSizeAt : Segments → Level → Layer → Type 0
-HasSizeAt s SmallSquares l = l.size ≡ s.small_squares.size
-HasSizeAt s Squares l = l.size ≡ s.squares.size
-HasSizeAt s LanesEast l = l.size ≡ s.lanes_east.size
-HasSizeAt s LanesNorth l = l.size ≡ s.lanes_north.size
-HasSizeAt s Long l = ⊥
+-- the segments with another part at a level
+abbrev pub with_part : Segments → (level : Level) → PartAt level → Segments
+with_part s SmallSquares p = record { small_squares = p; squares = s.squares; lanes_east = s.lanes_east; lanes_north = s.lanes_north; long = s.long }
+with_part s Squares p = record { small_squares = s.small_squares; squares = p; lanes_east = s.lanes_east; lanes_north = s.lanes_north; long = s.long }
+with_part s LanesEast p = record { small_squares = s.small_squares; squares = s.squares; lanes_east = p; lanes_north = s.lanes_north; long = s.long }
+with_part s LanesNorth p = record { small_squares = s.small_squares; squares = s.squares; lanes_east = s.lanes_east; lanes_north = p; long = s.long }
+with_part s Long p = record { small_squares = s.small_squares; squares = s.squares; lanes_east = s.lanes_east; lanes_north = s.lanes_north; long = p }
 
-elsewhere-with : (s : Segments) (level : Level) (l : Layer)
-    → IsSameElsewhere (kept s) level (kept (with_layer s level l))
-elsewhere-with s SmallSquares l = but-small_squares (kept s) l.lists
-elsewhere-with s Squares l = but-squares (kept s) l.lists
-elsewhere-with s LanesEast l = but-lanes_east (kept s) l.lists
-elsewhere-with s LanesNorth l = but-lanes_north (kept s) l.lists
-elsewhere-with s Long l = λ other. inr (λ x. ((λ h. h), (λ h. h)))
+-- the other part has cells of the same size
+abbrev pub HasSizeAt : Segments → (level : Level) → PartAt level → Type 0
+HasSizeAt s SmallSquares p = p.size ≡ s.small_squares.size
+HasSizeAt s Squares p = p.size ≡ s.squares.size
+HasSizeAt s LanesEast p = p.size ≡ s.lanes_east.size
+HasSizeAt s LanesNorth p = p.size ≡ s.lanes_north.size
+HasSizeAt s Long p = Unit {0}
 
-spread-with : (s : Segments) → AreSpread s → (level : Level) (l : Layer) → HasSizeAt s level l
-    → IsSpread l.size l.lists
-    → ((m : Level) (x : Entry) → StandsAt (kept (with_layer s level l)) m x → m ≡ level_of s x)
-    → AreSpread (with_layer s level l)
-spread-with s was SmallSquares l size spread at =
+-- the entries in the part are spread over its cells; of the long ones each is sound and stands once
+abbrev pub IsSpreadAt : (level : Level) → PartAt level → Type 0
+IsSpreadAt SmallSquares p = IsSpread p.size p.lists
+IsSpreadAt Squares p = IsSpread p.size p.lists
+IsSpreadAt LanesEast p = IsSpread p.size p.lists
+IsSpreadAt LanesNorth p = IsSpread p.size p.lists
+IsSpreadAt Long p = ((e : Entry) → count_by (is_same_entry e) p.entries.items ≤ 1) × ((e : Entry) → Contains p.entries.items e → IsSoundEntry e)
+
+elsewhere-with : (s : Segments) (level : Level) (p : PartAt level)
+    → IsSameElsewhere (kept s) level (kept (with_part s level p))
+elsewhere-with s SmallSquares p SmallSquares = inl refl
+elsewhere-with s SmallSquares p Squares = inr (λ x. unmoved _)
+elsewhere-with s SmallSquares p LanesEast = inr (λ x. unmoved _)
+elsewhere-with s SmallSquares p LanesNorth = inr (λ x. unmoved _)
+elsewhere-with s SmallSquares p Long = inr (λ x. unmoved _)
+elsewhere-with s Squares p SmallSquares = inr (λ x. unmoved _)
+elsewhere-with s Squares p Squares = inl refl
+elsewhere-with s Squares p LanesEast = inr (λ x. unmoved _)
+elsewhere-with s Squares p LanesNorth = inr (λ x. unmoved _)
+elsewhere-with s Squares p Long = inr (λ x. unmoved _)
+elsewhere-with s LanesEast p SmallSquares = inr (λ x. unmoved _)
+elsewhere-with s LanesEast p Squares = inr (λ x. unmoved _)
+elsewhere-with s LanesEast p LanesEast = inl refl
+elsewhere-with s LanesEast p LanesNorth = inr (λ x. unmoved _)
+elsewhere-with s LanesEast p Long = inr (λ x. unmoved _)
+elsewhere-with s LanesNorth p SmallSquares = inr (λ x. unmoved _)
+elsewhere-with s LanesNorth p Squares = inr (λ x. unmoved _)
+elsewhere-with s LanesNorth p LanesEast = inr (λ x. unmoved _)
+elsewhere-with s LanesNorth p LanesNorth = inl refl
+elsewhere-with s LanesNorth p Long = inr (λ x. unmoved _)
+elsewhere-with s Long p SmallSquares = inr (λ x. unmoved _)
+elsewhere-with s Long p Squares = inr (λ x. unmoved _)
+elsewhere-with s Long p LanesEast = inr (λ x. unmoved _)
+elsewhere-with s Long p LanesNorth = inr (λ x. unmoved _)
+elsewhere-with s Long p Long = inl refl
+
+spread-with : (s : Segments) → AreSpread s → (level : Level) (p : PartAt level) → HasSizeAt s level p
+    → IsSpreadAt level p
+    → ((m : Level) (x : Entry) → StandsAt (kept (with_part s level p)) m x → m ≡ level_of s x)
+    → AreSpread (with_part s level p)
+spread-with s was SmallSquares p size spread at =
     record { small_squares = spread; squares = was.squares; lanes_east = was.lanes_east; lanes_north = was.lanes_north; long_once = was.long_once; long_sound = was.long_sound; at_level = rw size at }
-spread-with s was Squares l size spread at =
+spread-with s was Squares p size spread at =
     record { small_squares = was.small_squares; squares = spread; lanes_east = was.lanes_east; lanes_north = was.lanes_north; long_once = was.long_once; long_sound = was.long_sound; at_level = rw size at }
-spread-with s was LanesEast l size spread at =
+spread-with s was LanesEast p size spread at =
     record { small_squares = was.small_squares; squares = was.squares; lanes_east = spread; lanes_north = was.lanes_north; long_once = was.long_once; long_sound = was.long_sound; at_level = rw size at }
-spread-with s was LanesNorth l size spread at =
+spread-with s was LanesNorth p size spread at =
     record { small_squares = was.small_squares; squares = was.squares; lanes_east = was.lanes_east; lanes_north = spread; long_once = was.long_once; long_sound = was.long_sound; at_level = rw size at }
-spread-with s was Long l size spread at = absurd size
+spread-with s was Long p size spread at =
+    record { small_squares = was.small_squares; squares = was.squares; lanes_east = was.lanes_east; lanes_north = was.lanes_north; long_once = spread.0; long_sound = spread.1; at_level = at }
 
-module _ (s : Segments) (was : AreSpread s) (level : Level) (l : Layer) (e : Entry)
-    (of_e : level ≡ level_of s e) (size : HasSizeAt s level l) (spread : IsSpread l.size l.lists) where
+module _ (s : Segments) (was : AreSpread s) (level : Level) (p : PartAt level) (e : Entry)
+    (of_e : level ≡ level_of s e) where
   abbrev new : Segments
-  new = with_layer s level l
+  new = with_part s level p
 
-  pub put-in-layer : {T E : Type 0} (r : Result T E)
-      → OnOk r ((x : Entry) → StandsAt (kept new) level x ↔ (StandsAt (kept s) level x ⊎ (x ≡ e)))
-      → OnErr r ((x : Entry) → StandsAt (kept new) level x ↔ StandsAt (kept s) level x)
-      → AreSpread new × OnOk r (HoldsOneMore (kept s) e (kept new))
-      × OnErr r (HoldsSame (kept s) (kept new))
-  put-in-layer r more same =
+  pub put-at : {T E : Type 0} (r : Result T E) → record {
+    size : HasSizeAt s level p;
+    spread : IsSpreadAt level p;
+    put : OnOk r ((x : Entry) → StandsAt (kept new) level x ↔ (StandsAt (kept s) level x ⊎ (x ≡ e)));
+    err : OnErr r ((x : Entry) → StandsAt (kept new) level x ↔ StandsAt (kept s) level x);
+  } → record {
+    spread : AreSpread new;
+    put : OnOk r (HoldsOneMore (kept s) e (kept new));
+    err : OnErr r (HoldsSame (kept s) (kept new));
+  }
+  put-at r told =
       let put : IsPutAt r (kept s) level e (kept new) =
-      record { elsewhere = elsewhere-with s level l; more = more; same = same } in (
-        spread-with s was level l size spread
-            (put-levels r (kept s) (kept new) level e put (level_of s) was.at_level of_e),
-        put-more r (kept s) (kept new) level e put,
-        put-same r (kept s) (kept new) level e put,
-      )
+      record { elsewhere = elsewhere-with s level p; more = told.put; same = told.err } in record {
+        spread = spread-with s was level p told.size told.spread
+            (put-levels r (kept s) (kept new) level e put (level_of s) was.at_level of_e);
+        put = put-more r (kept s) (kept new) level e put;
+        err = put-same r (kept s) (kept new) level e put;
+      }
 
-  pub take-in-layer : ((x : Entry) → StandsAt (kept new) level x
-      ↔ (StandsAt (kept s) level x × ¬ (x ≡ e)))
-      → AreSpread new × HoldsOneLess (kept s) e (kept new)
-  take-in-layer less =
+  pub take-at : record {
+    size : HasSizeAt s level p;
+    spread : IsSpreadAt level p;
+    taken : (x : Entry) → StandsAt (kept new) level x ↔ (StandsAt (kept s) level x × ¬ (x ≡ e));
+  } → record { spread : AreSpread new; taken : HoldsOneLess (kept s) e (kept new) }
+  take-at told =
       let taken : IsTakenAt (kept s) level e (kept new) =
-      record { elsewhere = elsewhere-with s level l; less = less } in (
-        spread-with s was level l size spread
-            (take-levels (kept s) level e (level_of s) was.at_level of_e (kept new) taken),
-        take-less (kept s) level e (level_of s) was.at_level of_e (kept new) taken,
-      )
+      record { elsewhere = elsewhere-with s level p; less = told.taken } in record {
+        spread = spread-with s was level p told.size told.spread
+            (take-levels (kept s) level e (level_of s) was.at_level of_e (kept new) taken);
+        taken = take-less (kept s) level e (level_of s) was.at_level of_e (kept new) taken;
+      }

@@ -1,5 +1,5 @@
 -- What a put and a take at one level do to all that is held.
-use Rattle.std.proofs.Common.{◌≡◌, ◌≤◌, List, [], ◌∷◌, ◌++◌, Bool, true, filter, refl, sym, ap, subst, ◌∙◌, arith, ◌⊎◌, inl, inr}
+use Rattle.std.proofs.Common.{◌≡◌, ◌≤◌, List, [], ◌∷◌, ◌++◌, Bool, true, filter, sym, ap, subst, ◌∙◌, arith, ◌⊎◌, inl, inr}
 use Rattle.std.proofs.lemmas.List.Elements.{Contains-append_left, Contains-append_right, Contains-append_cases, Contains-push, Contains-push_cases}
 use Rattle.std.specs.Prelude.{◌↔◌, IsPermutation, count_by, Result, Ok, Err, OnOk, OnErr}
 use Rattle.std.specs.List.{Contains}
@@ -7,84 +7,20 @@ use Rattle.cell_grid.specs.declared.entry.Entry.{Entry}
 use Rattle.cell_grid.specs.declared.segments.Level.{Level}
 use Rattle.cell_grid.specs.declared.segments.Level.TheVariants.{SmallSquares, Squares, LanesEast, LanesNorth, Long}
 use Rattle.cell_grid.specs.Entries.{is_same_entry}
-use Rattle.cell_grid.specs.Held.{HeldEntries}
 use Rattle.cell_grid.specs.declared.segments.Segments.{Segments}
 use Rattle.cell_grid.specs.Spread.{IsSoundEntry, Stands, StandsNone}
 use Rattle.cell_grid.specs.Kept.{Kept, kept, AreSpread, StandsAt, IsHeld, HoldsNone, HoldsSame, HoldsOneMore, HoldsOneLess}
 use Rattle.cell_grid.proofs.Spreads.{stood, gone, keeps}
 use Rattle.cell_grid.proofs.Found.{near-from, near-has}
 
+-- what has not changed
+pub unmoved : (P : Type 0) → P ↔ P
+unmoved P = ((λ h. h), (λ h. h))
+
 -- at each other level the same entries stand as before
 abbrev pub IsSameElsewhere : Kept → Level → Kept → Type 0
 IsSameElsewhere old level new =
     (other : Level) → (other ≡ level) ⊎ ((x : Entry) → StandsAt new other x ↔ StandsAt old other x)
-
--- one level may have changed
-module _ (k : Kept) where
-  pub but-small_squares : (new : HeldEntries) → IsSameElsewhere k SmallSquares (record {
-    small_squares = new;
-    squares = k.squares;
-    lanes_east = k.lanes_east;
-    lanes_north = k.lanes_north;
-    long = k.long;
-  })
-  but-small_squares new SmallSquares = inl refl
-  but-small_squares new Squares = inr (λ x. ((λ h. h), (λ h. h)))
-  but-small_squares new LanesEast = inr (λ x. ((λ h. h), (λ h. h)))
-  but-small_squares new LanesNorth = inr (λ x. ((λ h. h), (λ h. h)))
-  but-small_squares new Long = inr (λ x. ((λ h. h), (λ h. h)))
-
-  pub but-squares : (new : HeldEntries) → IsSameElsewhere k Squares (record {
-    small_squares = k.small_squares;
-    squares = new;
-    lanes_east = k.lanes_east;
-    lanes_north = k.lanes_north;
-    long = k.long;
-  })
-  but-squares new SmallSquares = inr (λ x. ((λ h. h), (λ h. h)))
-  but-squares new Squares = inl refl
-  but-squares new LanesEast = inr (λ x. ((λ h. h), (λ h. h)))
-  but-squares new LanesNorth = inr (λ x. ((λ h. h), (λ h. h)))
-  but-squares new Long = inr (λ x. ((λ h. h), (λ h. h)))
-
-  pub but-lanes_east : (new : HeldEntries) → IsSameElsewhere k LanesEast (record {
-    small_squares = k.small_squares;
-    squares = k.squares;
-    lanes_east = new;
-    lanes_north = k.lanes_north;
-    long = k.long;
-  })
-  but-lanes_east new SmallSquares = inr (λ x. ((λ h. h), (λ h. h)))
-  but-lanes_east new Squares = inr (λ x. ((λ h. h), (λ h. h)))
-  but-lanes_east new LanesEast = inl refl
-  but-lanes_east new LanesNorth = inr (λ x. ((λ h. h), (λ h. h)))
-  but-lanes_east new Long = inr (λ x. ((λ h. h), (λ h. h)))
-
-  pub but-lanes_north : (new : HeldEntries) → IsSameElsewhere k LanesNorth (record {
-    small_squares = k.small_squares;
-    squares = k.squares;
-    lanes_east = k.lanes_east;
-    lanes_north = new;
-    long = k.long;
-  })
-  but-lanes_north new SmallSquares = inr (λ x. ((λ h. h), (λ h. h)))
-  but-lanes_north new Squares = inr (λ x. ((λ h. h), (λ h. h)))
-  but-lanes_north new LanesEast = inr (λ x. ((λ h. h), (λ h. h)))
-  but-lanes_north new LanesNorth = inl refl
-  but-lanes_north new Long = inr (λ x. ((λ h. h), (λ h. h)))
-
-  pub but-long : (new : List Entry) → IsSameElsewhere k Long (record {
-    small_squares = k.small_squares;
-    squares = k.squares;
-    lanes_east = k.lanes_east;
-    lanes_north = k.lanes_north;
-    long = new;
-  })
-  but-long new SmallSquares = inr (λ x. ((λ h. h), (λ h. h)))
-  but-long new Squares = inr (λ x. ((λ h. h), (λ h. h)))
-  but-long new LanesEast = inr (λ x. ((λ h. h), (λ h. h)))
-  but-long new LanesNorth = inr (λ x. ((λ h. h), (λ h. h)))
-  but-long new Long = inl refl
 
 -- ---- A put
 

@@ -20,25 +20,16 @@ module _ {V : Type 0} where
   empty-within i n es h = slice_get_within es i (n, None) h
 
   -- an empty slot in the place of an empty slot changes no rows and no marks
-  set-empty-rows : (i : ℕ) (es : Slots V) (m k : ℕ) → slice_get es i ≡ Some (m, None)
-      → rows_of (set es i (k, None)) ≡ rows_of es
-  set-empty-rows i [] m k h = cc
-  set-empty-rows zero ((j, None) ∷ es) m k h = refl
-  set-empty-rows zero ((j, Some w) ∷ es) m k h =
+  set-empty : (i : ℕ) (es : Slots V) (m k : ℕ) → slice_get es i ≡ Some (m, None)
+      → (rows_of (set es i (k, None)) ≡ rows_of es) × (marks_of (set es i (k, None)) ≡ marks_of es)
+  set-empty i [] m k h = absurd (cc)
+  set-empty zero ((j, None) ∷ es) m k h = (refl, refl)
+  set-empty zero ((j, Some w) ∷ es) m k h =
       let e : Some w ≡ None = entry-values j m (Some w) None h in
-      cc
-  set-empty-rows (suc i) ((j, o) ∷ es) m k h =
-      ap (λ xs. row_of j o ++ xs) (set-empty-rows i es m k h)
-
-  set-empty-marks : (i : ℕ) (es : Slots V) (m k : ℕ) → slice_get es i ≡ Some (m, None)
-      → marks_of (set es i (k, None)) ≡ marks_of es
-  set-empty-marks i [] m k h = cc
-  set-empty-marks zero ((j, None) ∷ es) m k h = refl
-  set-empty-marks zero ((j, Some w) ∷ es) m k h =
-      let e : Some w ≡ None = entry-values j m (Some w) None h in
-      cc
-  set-empty-marks (suc i) ((j, o) ∷ es) m k h =
-      ap (λ xs. mark_of o ∷ xs) (set-empty-marks i es m k h)
+      absurd (cc)
+  set-empty (suc i) ((j, o) ∷ es) m k h =
+      let same = set-empty i es m k h in
+      (ap (λ xs. row_of j o ++ xs) same.0, ap (λ xs. mark_of o ∷ xs) same.1)
 
   set-empty-stays : (i j : ℕ) (es : Slots V) (m k : ℕ) → slice_get es j ≡ Some (m, None)
       → (q : ℕ) × (slice_get (set es i (k, None)) j ≡ Some (q, None))
@@ -66,13 +57,11 @@ module _ {V : Type 0} where
       let p : get_or (e ∷ es) a e ≡ (n, None) = get-from a (e ∷ es) e (n, None) h in
       let q : get_or (e ∷ es) b e ≡ (m, None) = get-from b (e ∷ es) e (m, None) l in
       let s = set-empty-stays a b (e ∷ es) m m l in
+      let first = set-empty a (e ∷ es) n m h in
+      let second = set-empty b (set (e ∷ es) a (m, None)) s.0 n s.1 in
       record {
-        rows =
-            rw (p, q) (set-empty-rows b (set (e ∷ es) a (m, None)) s.0 n s.1
-            ∙ set-empty-rows a (e ∷ es) n m h);
-        marks =
-            rw (p, q) (set-empty-marks b (set (e ∷ es) a (m, None)) s.0 n s.1
-            ∙ set-empty-marks a (e ∷ es) n m h);
+        rows = rw (p, q) (second.0 ∙ first.0);
+        marks = rw (p, q) (second.1 ∙ first.1);
         empty = rw (p, q) (set-empty-at b (set (e ∷ es) a (m, None)) s.0 n s.1);
       }
 

@@ -6,17 +6,21 @@ use Rattle.std.specs.Map.{keys_of, values_of}
 use Rattle.std.proofs.lemmas.Grind.{get_or-set_at}
 use Rattle.entry_list.specs.Slots.{Slots}
 
-pub one-more : {X : Type 0} (x : X) (xs : List X) (n : ℕ)
-    → slice_get (x ∷ xs) (1 + n) ≡ slice_get xs n
-one-more x xs n = let e : 1 + n ≡ suc n = omega arith in rw e refl
+-- what stands behind the first of two lists that are put together
+pub slice_get-seam : {X : Type 0} (xs : List X) (y : X) (ys : List X)
+    → slice_get (xs ++ y ∷ ys) (length xs) ≡ Some y
+slice_get-seam [] y ys = refl
+slice_get-seam (x ∷ xs) y ys = slice_get-seam xs y ys
 
-pub remove-more : {X : Type 0} (x : X) (xs : List X) (n : ℕ)
-    → remove (x ∷ xs) (1 + n) ≡ x ∷ remove xs n
-remove-more x xs n = let e : 1 + n ≡ suc n = omega arith in rw e refl
+pub remove-seam : {X : Type 0} (xs : List X) (y : X) (ys : List X)
+    → remove (xs ++ y ∷ ys) (length xs) ≡ xs ++ ys
+remove-seam [] y ys = refl
+remove-seam (x ∷ xs) y ys = ap (λ zs. x ∷ zs) (remove-seam xs y ys)
 
-pub insert-more : {X : Type 0} (x y : X) (xs : List X) (n : ℕ)
-    → insert (x ∷ xs) (1 + n) y ≡ x ∷ insert xs n y
-insert-more x y xs n = let e : 1 + n ≡ suc n = omega arith in rw e refl
+pub insert-seam : {X : Type 0} (xs : List X) (y : X) (ys : List X)
+    → insert (xs ++ ys) (length xs) y ≡ xs ++ y ∷ ys
+insert-seam [] y ys = refl
+insert-seam (x ∷ xs) y ys = ap (λ zs. x ∷ zs) (insert-seam xs y ys)
 
 pub some-pair : {X Y : Type 0} (a b : X × Y) → Some a ≡ Some b → a ≡ b
 some-pair a b h = cc
@@ -120,10 +124,6 @@ module _ {V : Type 0} where
   pub insert-last : (xs : List (ℕ × V)) (x : ℕ × V) → insert xs (length xs) x ≡ xs ++ x ∷ []
   insert-last [] x = refl
   insert-last (y ∷ xs) x = ap (λ zs. y ∷ zs) (insert-last xs x)
-
-  pub set-more : (x : ℕ × V) (xs : List (ℕ × V)) (n : ℕ) (y : ℕ × V)
-      → set (x ∷ xs) (1 + n) y ≡ x ∷ set xs n y
-  set-more x xs n y = let e : 1 + n ≡ suc n = omega arith in rw e refl
 
   -- a row that is taken out and put in at its place again gives the rows as they were
   pub insert-back : (p : ℕ) (xs : List (ℕ × V)) (x : ℕ × V) → slice_get xs p ≡ Some x

@@ -1,71 +1,68 @@
 -- The rows and marks of slots, and what a change of one slot makes of them.
 use Rattle.std.proofs.Common.{◌≡◌, ℕ, zero, suc, ◌+◌, ◌<◌, ◌≤◌, List, [], ◌∷◌, ◌++◌, length, get_or, set, insert, remove, slice_get, Option, None, Some, true, refl, sym, ap, arith, ◌∙◌, is_some}
 use Rattle.std.specs.Map.{keys_of, values_of}
+use Rattle.std.proofs.Math.Nat.{zero-add}
 use Rattle.std.proofs.lemmas.Option.{slice_get_within}
+use Rattle.std.proofs.lemmas.List.{length-append}
 use Rattle.std.proofs.lemmas.List.Edits.{length-remove}
+use Rattle.std.proofs.Math.Seq.{set-append_seam}
 use Rattle.indexmap.specs.Layout.{set_value_at}
 use Rattle.entry_list.specs.Totals.{total_before, AreMarks}
 use Rattle.entry_list.specs.Slots.{Slots, row_of, rows_of, marks_of, mark_of, IsRowSlot}
 use Rattle.entry_list.proofs.Totals.{total-le-ones, total-more, total-small}
-use Rattle.entry_list.proofs.Lists.{entry-keys, entry-values, insert-more, one-more, remove-more, set-more, slice_get-keys, slice_get-values, some-pair}
+use Rattle.entry_list.proofs.Lists.{entry-keys, entry-values, slice_get-seam, remove-seam, insert-seam, slice_get-keys, slice_get-values, some-pair}
 
 module _ {V : Type 0} where
+  -- the rows before and behind a slot, which stay where the slot gets another row, or none
+  record AreAround (es : Slots V) (i k : ℕ) (o : Option V)
+      (before after : List (ℕ × V)) : Type 0 where
+    pub count : total_before i (marks_of es) ≡ length before
+    pub rows : rows_of es ≡ before ++ (row_of k o ++ after)
+    pub changed : (p : Option V) → rows_of (set_value_at es i p) ≡ before ++ (row_of k p ++ after)
+
+  around : (i : ℕ) (es : Slots V) (k : ℕ) (o : Option V) → slice_get es i ≡ Some (k, o)
+      → (r : List (ℕ × V) × List (ℕ × V)) × AreAround es i k o r.0 r.1
+  unfolding total_before
+  around i [] k o h = absurd (cc)
+  around zero ((j, q) ∷ es) k o h =
+      let a : j ≡ k = entry-keys j k q o h in
+      let b : q ≡ o = entry-values j k q o h in
+      (([], rows_of es), rw (a, b) (record { count = refl; rows = refl; changed = λ p. refl }))
+  around (suc i) ((j, None) ∷ es) k o h =
+      let a = around i es k o h in
+      (a.0, record { count = rw zero-add a.1.count; rows = a.1.rows; changed = a.1.changed })
+  around (suc i) ((j, Some w) ∷ es) k o h =
+      let a = around i es k o h in
+      let more : List (ℕ × V) → List (ℕ × V) = λ xs. (j, w) ∷ xs in (
+        (more a.0.0, a.0.1),
+        record {
+          count = omega (arith, a.1.count);
+          rows = ap more a.1.rows;
+          changed = λ p. ap more (a.1.changed p);
+        },
+      )
+
   -- a row stands behind as many rows as there are marks before its slot
   pub place-row : (i : ℕ) (es : Slots V) (k : ℕ) (v : V) → slice_get es i ≡ Some (k, Some v)
       → slice_get (rows_of es) (total_before i (marks_of es)) ≡ Some (k, v)
-  unfolding total_before
-  place-row zero [] k v h = cc
-  place-row zero ((j, None) ∷ es) k v h =
-      let e : None ≡ Some v = entry-values j k None (Some v) h in
-      cc
-  place-row zero ((j, Some w) ∷ es) k v h =
-      let a : j ≡ k = entry-keys j k (Some w) (Some v) h in
-      let b : Some w ≡ Some v = entry-values j k (Some w) (Some v) h in
-      let d : w ≡ v = cc in
-      rw (a, d) refl
-  place-row (suc i) [] k v h = cc
-  place-row (suc i) ((j, None) ∷ es) k v h =
-      let e : 0 + total_before i (marks_of es) ≡ total_before i (marks_of es) = omega arith in
-      rw e (place-row i es k v h)
-  place-row (suc i) ((j, Some w) ∷ es) k v h =
-      one-more (j, w) (rows_of es) (total_before i (marks_of es)) ∙ place-row i es k v h
+  place-row i es k v h =
+      let a = around i es k (Some v) h in
+      rw (a.1.count, a.1.rows) (slice_get-seam a.0.0 (k, v) a.0.1)
 
   -- emptying a slot removes its row
   pub take-row : (i : ℕ) (es : Slots V) (k : ℕ) (v : V) → slice_get es i ≡ Some (k, Some v)
       → rows_of (set_value_at es i None) ≡ remove (rows_of es) (total_before i (marks_of es))
-  unfolding total_before
-  take-row zero [] k v h = cc
-  take-row zero ((j, None) ∷ es) k v h =
-      let e : None ≡ Some v = entry-values j k None (Some v) h in
-      cc
-  take-row zero ((j, Some w) ∷ es) k v h = refl
-  take-row (suc i) [] k v h = cc
-  take-row (suc i) ((j, None) ∷ es) k v h =
-      let e : 0 + total_before i (marks_of es) ≡ total_before i (marks_of es) = omega arith in
-      rw e (take-row i es k v h)
-  take-row (suc i) ((j, Some w) ∷ es) k v h =
-      ap (λ xs. (j, w) ∷ xs) (take-row i es k v h)
-      ∙ sym (remove-more (j, w) (rows_of es) (total_before i (marks_of es)))
+  take-row i es k v h =
+      let a = around i es k (Some v) h in
+      rw (a.1.count, a.1.rows, a.1.changed None) (sym (remove-seam a.0.0 (k, v) a.0.1))
 
   -- filling a slot inserts a row
   pub put-row : (i : ℕ) (es : Slots V) (k : ℕ) (v : V) → slice_get es i ≡ Some (k, None)
       → rows_of (set_value_at es i (Some v))
       ≡ insert (rows_of es) (total_before i (marks_of es)) (k, v)
-  unfolding total_before
-  put-row zero [] k v h = cc
-  put-row zero ((j, None) ∷ es) k v h =
-      let e : j ≡ k = entry-keys {Y = Option V} j k None None h in
-      rw e refl
-  put-row zero ((j, Some w) ∷ es) k v h =
-      let e : Some w ≡ None = entry-values j k (Some w) None h in
-      cc
-  put-row (suc i) [] k v h = cc
-  put-row (suc i) ((j, None) ∷ es) k v h =
-      let e : 0 + total_before i (marks_of es) ≡ total_before i (marks_of es) = omega arith in
-      rw e (put-row i es k v h)
-  put-row (suc i) ((j, Some w) ∷ es) k v h =
-      ap (λ xs. (j, w) ∷ xs) (put-row i es k v h)
-      ∙ sym (insert-more (j, w) (k, v) (rows_of es) (total_before i (marks_of es)))
+  put-row i es k v h =
+      let a = around i es k None h in
+      rw (a.1.count, a.1.rows, a.1.changed (Some v)) (sym (insert-seam a.0.0 (k, v) a.0.1))
 
   pub marks-set : (i : ℕ) (es : Slots V) (o : Option V)
       → marks_of (set_value_at es i o) ≡ set (marks_of es) i (mark_of o)
@@ -175,14 +172,10 @@ module _ {V : Type 0} where
 
   pub filled-length : (n i : ℕ) (es : Slots V) (v : V) → slice_get es i ≡ Some (n, None)
       → length (rows_of (set_value_at es i (Some v))) ≡ length (rows_of es) + 1
-  filled-length n zero [] v h = cc
-  filled-length n zero ((k, None) ∷ es) v h = omega arith
-  filled-length n zero ((k, Some w) ∷ es) v h =
-      let e : Some w ≡ None = entry-values k n (Some w) None h in
-      cc
-  filled-length n (suc i) [] v h = cc
-  filled-length n (suc i) ((k, None) ∷ es) v h = filled-length n i es v h
-  filled-length n (suc i) ((k, Some w) ∷ es) v h = omega (arith, filled-length n i es v h)
+  filled-length n i es v h =
+      let a = around i es n None h in
+      rw (a.1.rows, a.1.changed (Some v))
+      (omega (arith, length-append a.0.0 ((n, v) ∷ a.0.1), length-append a.0.0 a.0.1))
 
   length-rows-le : (es : Slots V) → length (rows_of es) ≤ length es
   length-rows-le [] = omega arith
@@ -196,21 +189,10 @@ module _ {V : Type 0} where
   pub replace-row : (i : ℕ) (es : Slots V) (k : ℕ) (v w : V) → slice_get es i ≡ Some (k, Some v)
       → rows_of (set_value_at es i (Some w))
       ≡ set (rows_of es) (total_before i (marks_of es)) (k, w)
-  unfolding total_before
-  replace-row zero [] k v w h = cc
-  replace-row zero ((j, None) ∷ es) k v w h =
-      let e : None ≡ Some v = entry-values j k None (Some v) h in
-      cc
-  replace-row zero ((j, Some u) ∷ es) k v w h =
-      let e : j ≡ k = entry-keys j k (Some u) (Some v) h in
-      rw e refl
-  replace-row (suc i) [] k v w h = cc
-  replace-row (suc i) ((j, None) ∷ es) k v w h =
-      let e : 0 + total_before i (marks_of es) ≡ total_before i (marks_of es) = omega arith in
-      rw e (replace-row i es k v w h)
-  replace-row (suc i) ((j, Some u) ∷ es) k v w h =
-      ap (λ xs. (j, u) ∷ xs) (replace-row i es k v w h)
-      ∙ sym (set-more (j, u) (rows_of es) (total_before i (marks_of es)) (k, w))
+  replace-row i es k v w h =
+      let a = around i es k (Some v) h in
+      rw (a.1.count, a.1.rows, a.1.changed (Some w))
+      (sym (set-append_seam a.0.0 (k, v) a.0.1 (k, w)))
 
   pub replace-marks : (i : ℕ) (es : Slots V) (k : ℕ) (v w : V)
       → slice_get es i ≡ Some (k, Some v) → marks_of (set_value_at es i (Some w)) ≡ marks_of es

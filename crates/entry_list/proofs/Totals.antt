@@ -1,5 +1,5 @@
 use Rattle.std.proofs.Common.{◌≡◌, ◌≢◌, ℕ, zero, suc, ◌+◌, ◌*◌, ◌/◌, ◌-◌, ◌<◌, ◌≤◌, List, [], ◌∷◌, ◌++◌, length, get_or, set, take, min, refl, sym, ap, subst, arith, add-one, add-zero, length-append, ◌⊎◌, inl, inr, get_or-set_other}
-use Rattle.std.proofs.lemmas.List.{get_or_past, length-set, length-take-le}
+use Rattle.std.proofs.lemmas.List.{get_or_past, get_or_read, length-set, length-take-le}
 use Rattle.std.proofs.lemmas.Grind.{get_or-set_at}
 use Rattle.std.proofs.lemmas.Bool.{cases_order, cases_lt, cases_eq}
 use Rattle.entry_list.specs.Totals.{total_before, AreMarks, AreBlockSums, IsTallied}
@@ -396,11 +396,7 @@ zero_sums xs sums h l = record {
 }
 
 -- what the functions cite, of both levels at once
-pub mark-le-sum : (i : ℕ) (marks sums totals : List ℕ) → IsTallied marks sums totals
-    → get_or marks i 0 ≤ get_or sums (i / 64) 0
-mark-le-sum i marks sums totals h = part-le-sum i marks sums h.sums_right
-
-pub mark-le-whole : (i : ℕ) (marks sums totals : List ℕ) → IsTallied marks sums totals
+mark-le-whole : (i : ℕ) (marks sums totals : List ℕ) → IsTallied marks sums totals
     → get_or marks i 0 ≤ get_or totals (i / 64 / 64) 0
 mark-le-whole i marks sums totals h =
     omega (
@@ -409,6 +405,40 @@ mark-le-whole i marks sums totals h =
       part-le-sum (i / 64) sums totals h.totals_right,
     )
 
+-- the sum and the total that are read of a place in a block that has a sum
+module _ (i : ℕ) {marks sums totals : List ℕ} (h : IsTallied marks sums totals)
+    (room : i / 64 < length sums) where
+  pub sum-read : {s : ℕ} → s ≡ get_or sums (i / 64) s → s ≡ get_or sums (i / 64) 0
+  sum-read {s} e = get_or_read sums (i / 64) s room e 0
+
+  pub total-read : {t : ℕ} → t ≡ get_or totals (i / 64 / 64) t → t ≡ get_or totals (i / 64 / 64) 0
+  total-read {t} e =
+      get_or_read totals (i / 64 / 64) t (omega (arith, room, h.totals_right.room)) e 0
+
+  pub sum-read-small : {s : ℕ} → s ≡ get_or sums (i / 64) s → s ≤ 64
+  sum-read-small e = omega (arith, sum-read e, sum-small (i / 64) marks sums totals h)
+
+  pub total-read-small : {t : ℕ} → t ≡ get_or totals (i / 64 / 64) t → t ≤ 4096
+  total-read-small e = omega (arith, total-read e, whole-small (i / 64 / 64) marks sums totals h)
+
+-- a mark that is read is at most the sum and the total that it is in
+module _ {i : ℕ} {marks sums totals : List ℕ} (h : IsTallied marks sums totals)
+    (within : i < length marks) where
+  pub room-of : i / 64 < length sums
+  room-of = omega (arith, within, h.sums_right.room)
+
+  module _ {m : ℕ} (mark : m ≡ get_or marks i m) where
+    pub mark-read : m ≡ get_or marks i 0
+    mark-read = get_or_read marks i m within mark 0
+
+    pub mark-le-sum : {s : ℕ} → s ≡ get_or sums (i / 64) s → m ≤ s
+    mark-le-sum e =
+        omega (arith, mark-read, sum-read i h room-of e, part-le-sum i marks sums h.sums_right)
+
+    pub mark-le-total : {t : ℕ} → t ≡ get_or totals (i / 64 / 64) t → m ≤ t
+    mark-le-total e =
+        omega (arith, mark-read, total-read i h room-of e, mark-le-whole i marks sums totals h)
+
 pub empty_tallied : IsTallied [] [] []
 empty_tallied = record {
   ones = λ k. omega arith;
@@ -416,17 +446,24 @@ empty_tallied = record {
   totals_right = empty_sums;
 }
 
-pub set_tallied : (i y n p : ℕ) (marks sums totals : List ℕ) → IsTallied marks sums totals
-    → i < length marks → y ≤ 1 → n + get_or marks i 0 ≡ get_or sums (i / 64) 0 + y
-    → p + get_or marks i 0 ≡ get_or totals (i / 64 / 64) 0 + y
-    → IsTallied (set marks i y) (set sums (i / 64) n) (set totals (i / 64 / 64) p)
-set_tallied i y n p marks sums totals h l u e f = record {
-  ones = λ k. ones-set i y k marks h.ones u (cases_lt k (length marks)) (cases_eq k i);
-  sums_right = set_sums i y n marks sums h.sums_right l e;
-  totals_right =
-      set_sums (i / 64) n p sums totals h.totals_right (omega (arith, l, h.sums_right.room))
-      (omega (arith, e, f));
-}
+-- a mark is set, with the sum and the total that were read
+pub set_tallied : {i m s t w y v : ℕ} {marks sums totals : List ℕ} → IsTallied marks sums totals
+    → i < length marks → m ≡ get_or marks i m → s ≡ get_or sums (i / 64) s
+    → t ≡ get_or totals (i / 64 / 64) t → w ≡ m → v ≡ y → y ≤ 1
+    → IsTallied (set marks i y) (set sums (i / 64) (s - m + y))
+    (set totals (i / 64 / 64) (t - w + v))
+set_tallied {i} {m} {s} {t} {w} {y} {v} {marks} {sums} {totals} h l rm rs rt ew ev u =
+    let n : s - m + y + get_or marks i 0 ≡ get_or sums (i / 64) 0 + y =
+    omega (arith, mark-read h l rm, sum-read i h (room-of h l) rs, mark-le-sum h l rm rs) in
+    let p : t - w + v + get_or marks i 0 ≡ get_or totals (i / 64 / 64) 0 + y =
+    omega (arith, mark-read h l rm, total-read i h (room-of h l) rt, mark-le-total h l rm rt) in
+    record {
+      ones = λ k. ones-set i y k marks h.ones u (cases_lt k (length marks)) (cases_eq k i);
+      sums_right = set_sums i y (s - m + y) marks sums h.sums_right l n;
+      totals_right =
+          set_sums (i / 64) (s - m + y) (t - w + v) sums totals h.totals_right (room-of h l)
+          (omega (arith, n, p));
+    }
 
 pub push_tallied : (y : ℕ) (marks sums totals : List ℕ) → IsTallied marks sums totals
     → length marks / 64 < length sums → y ≤ 1
@@ -441,11 +478,11 @@ push_tallied y marks sums totals h l u = record {
       (get_or totals (length marks / 64 / 64) 0 + y) sums totals h.totals_right l (omega arith);
 }
 
-pub pop_tallied : (l : ℕ) (marks sums totals : List ℕ) → IsTallied marks sums totals
+pop-last : (l : ℕ) (marks sums totals : List ℕ) → IsTallied marks sums totals
     → length marks ≡ l + 1
     → IsTallied (take l marks) (set sums (l / 64) (get_or sums (l / 64) 0 - get_or marks l 0))
     (set totals (l / 64 / 64) (get_or totals (l / 64 / 64) 0 - get_or marks l 0))
-pop_tallied l marks sums totals h e = record {
+pop-last l marks sums totals h e = record {
   ones = λ k. ones-take l k marks h.ones;
   sums_right = pop_sums l marks sums h.sums_right e;
   totals_right =
@@ -454,10 +491,21 @@ pop_tallied l marks sums totals h e = record {
       (omega (arith, e, h.sums_right.room))
       (omega (
         arith,
-        mark-le-sum l marks sums totals h,
+        part-le-sum l marks sums h.sums_right,
         mark-le-whole l marks sums totals h,
       ));
 }
+
+-- the last mark is taken away, with the sum and the total that were read
+pub pop_tallied : {n k m s t w : ℕ} {marks sums totals v : List ℕ} → IsTallied marks sums totals
+    → n ≡ length marks → 0 < n → v ≡ take (k - 1) marks → k ≡ n → m ≡ get_or marks (n - 1) m
+    → s ≡ get_or sums ((n - 1) / 64) s → t ≡ get_or totals ((n - 1) / 64 / 64) t → w ≡ m
+    → IsTallied v (set sums ((n - 1) / 64) (s - m)) (set totals ((n - 1) / 64 / 64) (t - w))
+pop_tallied {n} {marks = marks} {sums = sums} {totals = totals} h q p e same rm rs rt ew =
+    let l : n - 1 < length marks = omega arith in
+    let room = room-of h l in
+    rw (e, same, ew, sum-read (n - 1) h room rs, total-read (n - 1) h room rt, mark-read h l rm)
+    (pop-last (n - 1) marks sums totals h (omega arith))
 
 pub more_totals : (marks sums totals : List ℕ) → IsTallied marks sums totals
     → IsTallied marks sums (totals ++ 0 ∷ [])

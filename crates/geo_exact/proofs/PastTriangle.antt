@@ -1,5 +1,5 @@
 -- A segment that comes into a triangle, and has no end there, leaves it through another side.
-use Rattle.std.proofs.Common.{Bool, true, false, ◌≡◌, ℕ, zero, suc, ◌+◌, ◌-◌, ◌<◌, refl, sym, ◌∙◌, ap, [], ◌∷◌, ℤ, pos, negsuc, ◌+ℤ◌, ◌-ℤ◌, ◌*ℤ◌, neg_ℤ, ◌<ℤ◌, ◌≤ℤ◌, arith, ◌⊎◌, inl, inr}
+use Rattle.std.proofs.Common.{Bool, true, false, ◌≡◌, ℕ, zero, suc, ◌+◌, ◌-◌, ◌<◌, refl, sym, ◌∙◌, ap, List, [], ◌∷◌, ℤ, pos, negsuc, ◌+ℤ◌, ◌-ℤ◌, ◌*ℤ◌, neg_ℤ, ◌<ℤ◌, ◌≤ℤ◌, arith, ◌⊎◌, inl, inr}
 use Rattle.std.proofs.lemmas.Int.{ints, by_lt_z}
 use Rattle.geo_exact.specs.Position.{Position}
 use Rattle.std.specs.Prelude.{◌&&◌, ◌||◌, int_lt, if◌then◌else◌}
@@ -278,6 +278,13 @@ is_above z h = grind (arith, ints)
 is_below : (z : ℤ) → int_lt z (pos 0) ≡ true → z <ℤ pos 0
 is_below z h = grind (arith, ints)
 
+-- a triangle that runs clockwise runs counterclockwise the other way around
+around : (q a b : Position) → orientation q a b <ℤ pos 0 → pos 0 <ℤ orientation b a q
+around q a b h = negated (orientation b a q) (orientation a b q) (orientation q a b) (backwards a b q) (turned_area q a b) h
+  where
+    negated : (x y z : ℤ) → x ≡ neg_ℤ y → y ≡ z → z <ℤ pos 0 → pos 0 <ℤ x
+    negated x y z e f h = omega (arith, ints)
+
 outside-lies : (q a b c : Position) → is_outside q a b c ≡ true → LiesOutside q a b c
 outside-lies q a b c is = by (is_left q a b) refl is
   where
@@ -286,12 +293,6 @@ outside-lies q a b c is = by (is_left q a b) refl is
       where
         negated : (x y : ℤ) → x ≡ neg_ℤ y → pos 0 <ℤ y → x <ℤ pos 0
         negated x y e h = omega (arith, ints)
-
-    around : orientation q a b <ℤ pos 0 → pos 0 <ℤ orientation b a q
-    around h = negated (orientation b a q) (orientation a b q) (orientation q a b) (backwards a b q) (turned_area q a b) h
-      where
-        negated : (x y z : ℤ) → x ≡ neg_ℤ y → y ≡ z → z <ℤ pos 0 → pos 0 <ℤ x
-        negated x y z e f h = omega (arith, ints)
 
     by : (left : Bool) → is_left q a b ≡ left
         → (if left then (is_right q a c || (is_right a b c || is_right b q c)) else (is_right q a b && (is_left q a c || (is_left a b c || is_left b q c)))) ≡ true
@@ -302,7 +303,7 @@ outside-lies q a b c is = by (is_left q a b) refl is
     ])
     by false is out =
         let parts = and_parts (is_right q a b) (is_left q a c || (is_left a b c || is_left b q c)) out in
-        clockwise (around (is_below (orientation q a b) parts.0)) (elim (either (is_left q a c) (is_left a b c || is_left b q c) parts.1) [
+        clockwise (around q a b (is_below (orientation q a b) parts.0)) (elim (either (is_left q a c) (is_left a b c || is_left b q c) parts.1) [
           | inl h ↦ inr (inl (exchanged q a c (is_above (orientation q a c) h)))
           | inr rest ↦ elim (either (is_left a b c) (is_left b q c) rest) [
             | inl h ↦ inl (exchanged a b c (is_above (orientation a b c) h))
@@ -381,19 +382,17 @@ no_weights u v w x y z none hu hv hw some hx hy hz =
     left_over k l m hk hl h = omega (arith, ints)
 
 -- c weighs the corners by the sides that lie opposite
-weighted_x : (q a b c : Position) → orientation a b c *ℤ (q.x -ℤ c.x) +ℤ orientation b q c *ℤ (a.x -ℤ c.x) +ℤ orientation q a c *ℤ (b.x -ℤ c.x) ≡ pos 0
-weighted_x q a b c =
+weighted_offsets : (q a b c : Position)
+    → (orientation a b c *ℤ (q.x -ℤ c.x) +ℤ orientation b q c *ℤ (a.x -ℤ c.x) +ℤ orientation q a c *ℤ (b.x -ℤ c.x) ≡ pos 0)
+    × (orientation a b c *ℤ (q.y -ℤ c.y) +ℤ orientation b q c *ℤ (a.y -ℤ c.y) +ℤ orientation q a c *ℤ (b.y -ℤ c.y) ≡ pos 0)
+weighted_offsets q a b c =
     let QX = var 0 in let QY = var 1 in let AX = var 2 in let AY = var 3 in let BX = var 4 in let BY = var 5 in
-    (λ i. turned_to a b c i *ℤ (q.x -ℤ c.x) +ℤ turned_to b q c i *ℤ (a.x -ℤ c.x) +ℤ turned_to q a c i *ℤ (b.x -ℤ c.x))
-    ∙ by_parts ((q.x -ℤ c.x) ∷ (q.y -ℤ c.y) ∷ (a.x -ℤ c.x) ∷ (a.y -ℤ c.y) ∷ (b.x -ℤ c.x) ∷ (b.y -ℤ c.y) ∷ [])
-    ((AX ⊠ BY ⊟ AY ⊠ BX) ⊠ QX ⊞ (BX ⊠ QY ⊟ BY ⊠ QX) ⊠ AX ⊞ (QX ⊠ AY ⊟ QY ⊠ AX) ⊠ BX) (num (pos 0)) (omega arith)
-
-weighted_y : (q a b c : Position) → orientation a b c *ℤ (q.y -ℤ c.y) +ℤ orientation b q c *ℤ (a.y -ℤ c.y) +ℤ orientation q a c *ℤ (b.y -ℤ c.y) ≡ pos 0
-weighted_y q a b c =
-    let QX = var 0 in let QY = var 1 in let AX = var 2 in let AY = var 3 in let BX = var 4 in let BY = var 5 in
-    (λ i. turned_to a b c i *ℤ (q.y -ℤ c.y) +ℤ turned_to b q c i *ℤ (a.y -ℤ c.y) +ℤ turned_to q a c i *ℤ (b.y -ℤ c.y))
-    ∙ by_parts ((q.x -ℤ c.x) ∷ (q.y -ℤ c.y) ∷ (a.x -ℤ c.x) ∷ (a.y -ℤ c.y) ∷ (b.x -ℤ c.x) ∷ (b.y -ℤ c.y) ∷ [])
-    ((AX ⊠ BY ⊟ AY ⊠ BX) ⊠ QY ⊞ (BX ⊠ QY ⊟ BY ⊠ QX) ⊠ AY ⊞ (QX ⊠ AY ⊟ QY ⊠ AX) ⊠ BY) (num (pos 0)) (omega arith)
+    let at : List ℤ = (q.x -ℤ c.x) ∷ (q.y -ℤ c.y) ∷ (a.x -ℤ c.x) ∷ (a.y -ℤ c.y) ∷ (b.x -ℤ c.x) ∷ (b.y -ℤ c.y) ∷ [] in (
+      (λ i. turned_to a b c i *ℤ (q.x -ℤ c.x) +ℤ turned_to b q c i *ℤ (a.x -ℤ c.x) +ℤ turned_to q a c i *ℤ (b.x -ℤ c.x))
+          ∙ by_parts at ((AX ⊠ BY ⊟ AY ⊠ BX) ⊠ QX ⊞ (BX ⊠ QY ⊟ BY ⊠ QX) ⊠ AX ⊞ (QX ⊠ AY ⊟ QY ⊠ AX) ⊠ BX) (num (pos 0)) (omega arith),
+      (λ i. turned_to a b c i *ℤ (q.y -ℤ c.y) +ℤ turned_to b q c i *ℤ (a.y -ℤ c.y) +ℤ turned_to q a c i *ℤ (b.y -ℤ c.y))
+          ∙ by_parts at ((AX ⊠ BY ⊟ AY ⊠ BX) ⊠ QY ⊞ (BX ⊠ QY ⊟ BY ⊠ QX) ⊠ AY ⊞ (QX ⊠ AY ⊟ QY ⊠ AX) ⊠ BY) (num (pos 0)) (omega arith),
+    )
 
 -- what lies beyond all corners isn't on the inner side of all three sides
 not_within : (q a b c : Position) → IsBeyond q a b c → pos 0 <ℤ orientation q a b → pos 0 ≤ℤ orientation q a c → pos 0 ≤ℤ orientation a b c → pos 0 ≤ℤ orientation b q c → ⊥
@@ -411,17 +410,18 @@ not_within q a b c beyond some first second third = by beyond
     back : (x y : ℤ) → x <ℤ y → pos 0 <ℤ neg_ℤ (x -ℤ y)
     back x y h = omega (arith, ints)
 
+    -- the corners don't all lie on one side of c
+    one_side : (x y z : ℤ) → orientation a b c *ℤ x +ℤ orientation b q c *ℤ y +ℤ orientation q a c *ℤ z ≡ pos 0 → pos 0 <ℤ x → pos 0 <ℤ y → pos 0 <ℤ z → ⊥
+    one_side x y z sum = no_weights (orientation a b c) (orientation b q c) (orientation q a c) x y z sum second third first area
+
+    other_side : (x y z : ℤ) → orientation a b c *ℤ x +ℤ orientation b q c *ℤ y +ℤ orientation q a c *ℤ z ≡ pos 0 → pos 0 <ℤ neg_ℤ x → pos 0 <ℤ neg_ℤ y → pos 0 <ℤ neg_ℤ z → ⊥
+    other_side x y z sum = one_side (neg_ℤ x) (neg_ℤ y) (neg_ℤ z) (negated (orientation a b c) x (orientation b q c) y (orientation q a c) z sum)
+
     by : IsBeyond q a b c → ⊥
-    by (west hq ha hb) = no_weights (orientation a b c) (orientation b q c) (orientation q a c) (q.x -ℤ c.x) (a.x -ℤ c.x) (b.x -ℤ c.x) (weighted_x q a b c) second third first area
-        (less c.x q.x hq) (less c.x a.x ha) (less c.x b.x hb)
-    by (south hq ha hb) = no_weights (orientation a b c) (orientation b q c) (orientation q a c) (q.y -ℤ c.y) (a.y -ℤ c.y) (b.y -ℤ c.y) (weighted_y q a b c) second third first area
-        (less c.y q.y hq) (less c.y a.y ha) (less c.y b.y hb)
-    by (east hq ha hb) = no_weights (orientation a b c) (orientation b q c) (orientation q a c) (neg_ℤ (q.x -ℤ c.x)) (neg_ℤ (a.x -ℤ c.x)) (neg_ℤ (b.x -ℤ c.x))
-        (negated (orientation a b c) (q.x -ℤ c.x) (orientation b q c) (a.x -ℤ c.x) (orientation q a c) (b.x -ℤ c.x) (weighted_x q a b c)) second third first area
-        (back q.x c.x hq) (back a.x c.x ha) (back b.x c.x hb)
-    by (north hq ha hb) = no_weights (orientation a b c) (orientation b q c) (orientation q a c) (neg_ℤ (q.y -ℤ c.y)) (neg_ℤ (a.y -ℤ c.y)) (neg_ℤ (b.y -ℤ c.y))
-        (negated (orientation a b c) (q.y -ℤ c.y) (orientation b q c) (a.y -ℤ c.y) (orientation q a c) (b.y -ℤ c.y) (weighted_y q a b c)) second third first area
-        (back q.y c.y hq) (back a.y c.y ha) (back b.y c.y hb)
+    by (west hq ha hb) = one_side (q.x -ℤ c.x) (a.x -ℤ c.x) (b.x -ℤ c.x) (weighted_offsets q a b c).0 (less c.x q.x hq) (less c.x a.x ha) (less c.x b.x hb)
+    by (south hq ha hb) = one_side (q.y -ℤ c.y) (a.y -ℤ c.y) (b.y -ℤ c.y) (weighted_offsets q a b c).1 (less c.y q.y hq) (less c.y a.y ha) (less c.y b.y hb)
+    by (east hq ha hb) = other_side (q.x -ℤ c.x) (a.x -ℤ c.x) (b.x -ℤ c.x) (weighted_offsets q a b c).0 (back q.x c.x hq) (back a.x c.x ha) (back b.x c.x hb)
+    by (north hq ha hb) = other_side (q.y -ℤ c.y) (a.y -ℤ c.y) (b.y -ℤ c.y) (weighted_offsets q a b c).1 (back q.y c.y hq) (back a.y c.y ha) (back b.y c.y hb)
 
 -- what lies outside of the box of a triangle with area lies outside of it
 pub outside-of_box : (q a b c : Position) → IsBeyond q a b c → ¬ (orientation q a b ≡ pos 0) → is_outside q a b c ≡ true
@@ -453,12 +453,6 @@ outside-of_box q a b c beyond area =
         turned : (x y : ℤ) → x ≡ neg_ℤ y → int_lt (pos 0) y ≡ false → pos 0 ≤ℤ x
         turned x y e h = grind (arith, ints)
 
-    around : orientation q a b <ℤ pos 0 → pos 0 <ℤ orientation b a q
-    around h = turned (orientation b a q) (orientation a b q) (orientation q a b) (backwards a b q) (turned_area q a b) h
-      where
-        turned : (x y z : ℤ) → x ≡ neg_ℤ y → y ≡ z → z <ℤ pos 0 → pos 0 <ℤ x
-        turned x y z e f h = omega (arith, ints)
-
     back : IsBeyond q a b c → IsBeyond b a q c
     back (east hq ha hb) = east hb ha hq
     back (west hq ha hb) = west hb ha hq
@@ -477,4 +471,4 @@ outside-of_box q a b c beyond area =
     right less false true z first second third = simp (not_above (orientation q a b) less, below (orientation q a b) less, first, second)
     right less false false true first second third = simp (not_above (orientation q a b) less, below (orientation q a b) less, first, second, third)
     right less false false false first second third =
-        absurd (not_within b a q c (back beyond) (around less) (not_left a b c second) (not_left q a c first) (not_left b q c third))
+        absurd (not_within b a q c (back beyond) (around q a b less) (not_left a b c second) (not_left q a c first) (not_left b q c third))

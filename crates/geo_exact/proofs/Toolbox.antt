@@ -3,4 +3,4 @@
 pub use Rattle.geo_exact.proofs.Polynomial.{Polynomial, value, parts, by_parts}
 pub use Rattle.geo_exact.proofs.Polynomial.Polynomial.{var, num, ◌⊞◌, ◌⊟◌, ◌⊠◌}
 pub use Rattle.geo_exact.proofs.Signs.{positive-positive, positive-negative, negative-positive, negative-negative, zero-times, square, square_zero}
-pub use Rattle.geo_exact.proofs.Wide.{coordinate_small, coordinate_fits, coordinate_fits_wide, difference_fits, difference_fits_wide, difference_small, product_fits, product_small, small_fits, small_sum_fits, small_difference_fits, small_difference, orientation_fits, rectangle_small, rectangle_fits, rectangles_fit, rectangles_small, measure_fits}
+pub use Rattle.geo_exact.proofs.Wide.{coordinate_small, coordinate_fits, coordinate_fits_wide, position_read, difference_fits, difference_fits_wide, difference_small, product_fits, product_small, combined, orientation_fits, rectangle_small, rectangle_fits, measure_fits}

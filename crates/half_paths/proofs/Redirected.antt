@@ -107,3 +107,8 @@ sources-append (e ∷ es) fs g = ap (λ b. is_half g e.0 || b) (sources-append e
 -- whether a half is the first of a pair in three lists
 pub holds-pairs : (es fs gs : List (Half × Half)) (g : Half) → holds (sources (es ++ (fs ++ gs))) g ≡ (holds (sources es) g || (holds (sources fs) g || holds (sources gs) g))
 holds-pairs es fs gs g = sources-append es (fs ++ gs) g ∙ ap (λ b. holds (sources es) g || b) (sources-append fs gs g)
+
+-- a change of what was changed, by which it is what it was before
+pub changed-back : (change : (Half → Half) → Half → Half) {old now new other : Half → Half} → ((g : Half) → new g ≡ change now g)
+    → ((g : Half) → now g ≡ other g) → ((g : Half) → change other g ≡ old g) → (g : Half) → new g ≡ old g
+changed-back change made same back g = made g ∙ ap (λ f. change f g) (λ i q. same q i) ∙ back g

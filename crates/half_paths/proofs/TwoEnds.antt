@@ -8,6 +8,7 @@ use Rattle.half_table.specs.Surgery.{IsSpliced}
 use Rattle.half_table.proofs.Halves.{is_half-other, other-is_half, twin-twin, is_half-turned, exchanged-first, exchanged-second, exchanged-other, exchanged-twice}
 use Rattle.half_paths.specs.Redirect.{redirect}
 use Rattle.half_paths.proofs.Along.{splice-next}
+use Rattle.half_paths.proofs.Redirected.{changed-back}
 use Rattle.half_paths.specs.Ends.{put, CanPut, cut, CanCut, IsPut, closed, opened}
 
 -- two exchanges put a path in
@@ -61,6 +62,12 @@ closed-is first last f one two = λ i g. if is_half g last then one i else (if i
 -- and the same one opens
 pub opened-is : (first last : Half) (f : Half → Half) → f last ≡ first → f (twin first) ≡ twin last → exchanged last (twin first) f ≡ redirect (opened first last) f
 opened-is first last f one two = λ i g. if is_half g last then two i else (if is_half g (twin first) then one i else f g)
+
+-- one exchange after the other changes nothing, by whatever name the first goes
+pub exchanged-back : (first last : Half) (old : Half → Half) {now new changed : Half → Half} → ((g : Half) → new g ≡ exchanged last (twin first) now g)
+    → exchanged last (twin first) old ≡ changed → ((g : Half) → now g ≡ changed g) → (g : Half) → new g ≡ old g
+exchanged-back first last old made is same =
+    changed-back (exchanged last (twin first)) made (λ g. same g ∙ ap (λ f. f g) (sym is)) (exchanged-twice old last (twin first))
 
 -- where a path was put in, it is entered there
 put-enters : (before beyond first last : Half) (f : Half → Half) → CanPut before beyond first last f

@@ -1,5 +1,5 @@
 -- The list under a key gives way to another at its place.
-use Rattle.std.proofs.Common.{◌≡◌, ◌≢◌, ◌∙◌, sym, ap, subst, ℕ, [], Some, None, option_map, unwrap_or, slice_get, nat_eq, true, false, ◌⊎◌, inl, inr, Result, Ok, Err}
+use Rattle.std.proofs.Common.{◌≡◌, ◌≢◌, ◌<◌, ◌∙◌, sym, ap, subst, ℕ, length, [], Some, None, option_map, unwrap_or, slice_get, nat_eq, true, false, ◌⊎◌, inl, inr, Result, Ok, Err}
 use Rattle.std.specs.Prelude.{OnErr}
 use Rattle.key_lists.specs.Kept.{Kept}
 use Rattle.std.specs.Map.{values_of}
@@ -8,7 +8,7 @@ use Rattle.std.proofs.lemmas.Bool.{ne_eqb, eq-eqb}
 use Rattle.std.proofs.Common.{refl}
 use Rattle.number_table.specs.Rows.{AreDistinct}
 use Rattle.number_table.proofs.Found.{read-at}
-use Rattle.number_table.proofs.CallerLemmas.{updates-set}
+use Rattle.number_table.proofs.CallerLemmas.{within, updates-set}
 use Rattle.std.proofs.lemmas.Bool.Decides.{eqb_tells}
 use Rattle.indexmap.specs.Layout.{set_value_at}
 use Rattle.key_lists.specs.Held.{Held, list_at, items_at, KeepsOthers, IsSame, NoneAbove, IsUnderAt}
@@ -19,16 +19,22 @@ module _ {X : Type 0} where
     pub is : list_at new key ≡ Some other
     pub others : KeepsOthers key old new
 
-  pub written : (held : Held X) (place key : ℕ) (found other : Kept X) → IsUnderAt held place key
-      → slice_get (values_of held) place ≡ Some found → AreDistinct held → IsWritten held (set_value_at held place other) key found other
-  written held place key found other under value distinct =
-      let now = updates-set held place key under distinct other in
+  -- a place that is under a key lies within
+  pub lies-within : {old held : Held X} (place key : ℕ) → held ≡ old → IsUnderAt old place key → place < length held
+  lies-within {old} {held} place key viewed under = within held place key (rw viewed under)
+
+  -- whatever list comes to stand at such a place
+  pub written : {old held : Held X} (place key : ℕ) {found : Kept X} → held ≡ old → IsUnderAt old place key
+      → slice_get (values_of held) place ≡ Some found → AreDistinct held → (other : Kept X) → IsWritten old (set_value_at held place other) key found other
+  written {old} {held} place key viewed under value distinct other =
+      let there : IsUnderAt held place key = rw viewed under in
+      let now = updates-set held place key there distinct other in
       let same : nat_eq key key ≡ true = eq-eqb key key refl in
-      record {
-        was = sym (read-at held place key distinct under) ∙ value;
+      rw (← viewed) (record {
+        was = sym (read-at held place key distinct there) ∙ value;
         is = rw same at (now key);
         others = λ q apart. rw (ne_eqb key q apart) at (now q);
-      }
+      })
 
   -- with the same items the items under every key are as they were
   pub same-items : {old new : Held X} {key : ℕ} {list other : Kept X} → IsWritten old new key list other
@@ -40,10 +46,13 @@ module _ {X : Type 0} where
       by (inr apart) = ap (λ o. unwrap_or (option_map (λ (l : Kept X). l.items) o) []) (w.others q apart.1)
 
   -- no key above all others is given room
-  pub none-above : {old new : Held X} {key : ℕ} {list other : Kept X} (greatest : ℕ)
-      → IsWritten old new key list other → NoneAbove greatest old → NoneAbove greatest new
-  none-above {old} {new} {key} {list} greatest w above q more = by (eqb_tells key q)
+  pub none-above : {old held new : Held X} {key : ℕ} {list other : Kept X} (greatest : ℕ)
+      → IsWritten old new key list other → held ≡ old → NoneAbove greatest held → NoneAbove greatest new
+  none-above {old} {held} {new} {key} {list} greatest w viewed kept q more = by (eqb_tells key q)
     where
+      above : NoneAbove greatest old
+      above = rw (← viewed) kept
+
       by : ((eqb key q ≡ true) × (key ≡ q)) ⊎ ((eqb key q ≡ false) × (key ≢ q)) → list_at new q ≡ None
       by (inl one) =
           let there : list_at old q ≡ Some list = subst (λ (n : ℕ). list_at old n ≡ Some list) one.1 w.was in

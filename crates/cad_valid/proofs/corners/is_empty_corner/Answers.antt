@@ -1,4 +1,5 @@
-use Rattle.std.proofs.Common.{◌≡◌, ◌∙◌, ◌≤◌, ℕ, refl, sym, subst, Bool, true, false, true≢false, length, arith}
+use Rattle.std.proofs.Common.{◌≡◌, ◌∙◌, ◌≤◌, ℕ, sym, subst, true, true≢false, length, arith}
+use Rattle.std.proofs.lemmas.Bool.{false_from_ne_true}
 use Rattle.std.proofs.lemmas.List.Sorted.{length_permutation}
 use Rattle.std.specs.Prelude.{IsTrue}
 use Rattle.geo_exact.specs.Position.{Position}
@@ -40,11 +41,7 @@ returns-then-not-is_clear_of g c =
     let there = lent-there m c.args.at (is_clear_of m met) strings c.loop-place.place c.string_with.result c.unwrap-string.result c.string_with.ensures.string c.unwrap-string.ensures c.string_with.ensures.each in
     let is : c.is_clear_of.result ≡ is_clear_of m met row = c.is_clear_of.ensures ∙ clear-is m met _ _ _ row c.position.ensures c.position-2.ensures c.position-3.ensures in
     let fails = sym is ∙ c.if-not-is_clear_of.true in
-    by (is_empty_corner m met) refl (λ empty. true≢false (sym ((empty-is m met).0 empty row there.0) ∙ fails))
-  where
-    by : {e : Bool} → (b : Bool) → e ≡ b → (e ≡ true → ⊥) → false ≡ e
-    by true is never = absurd (never is)
-    by false is never = sym is
+    sym (false_from_ne_true (is_empty_corner m met) (λ empty. true≢false (sym ((empty-is m met).0 empty row there.0) ∙ fails)))
 
 pub loop-place-preserved : goal.loop-place-preserved
 loop-place-preserved g c =

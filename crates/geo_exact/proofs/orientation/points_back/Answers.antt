@@ -1,23 +1,17 @@
-use Rattle.std.proofs.Common.{ℤ, pos, ◌+ℤ◌, to_z-of_z, ◌∙◌, ap}
+use Rattle.std.proofs.Common.{ℤ, pos, ◌+ℤ◌, ◌∙◌, ap, lit≤}
 use Rattle.std.specs.Prelude.{int_lt}
-use Rattle.geo_exact.specs.Orientation.{dot}
-use Rattle.geo_exact.proofs.Wide.{coordinate_fits, small_fits, small_sum_fits}
+use Rattle.geo_exact.specs.Orientation.{dot, product_limit}
+use Rattle.geo_exact.proofs.Wide.{position_read, combined}
 use Rattle.geo_exact.proofs.orientation.points_back.Goals as goal
 
 pub overflow_add-result : goal.overflow_add-result
-overflow_add-result c =
-    let f = small_fits c.product.result c.product.ensures.small in
-    let g = small_fits c.product-2.result c.product-2.ensures.small in
-    simp to_z-of_z (small_sum_fits c.product.result c.product-2.result c.product.ensures.small c.product-2.ensures.small)
+overflow_add-result c = (combined product_limit c.product.result c.product-2.result (lit≤ tt) c.product.ensures.small c.product-2.ensures.small).sum_fits
 
 pub returns : goal.returns
 returns c =
-    let f = small_fits c.product.result c.product.ensures.small in
-    let g = small_fits c.product-2.result c.product-2.ensures.small in
-    let h = small_sum_fits c.product.result c.product-2.result c.product.ensures.small c.product-2.ensures.small in
-    let ax = coordinate_fits c.a.inside.x c.a.invariant.x_in_range in let ay = coordinate_fits c.a.inside.y c.a.invariant.y_in_range in
-    let bx = coordinate_fits c.b.inside.x c.b.invariant.x_in_range in let by = coordinate_fits c.b.inside.y c.b.invariant.y_in_range in
-    let vx = coordinate_fits c.v.inside.x c.v.invariant.x_in_range in let vy = coordinate_fits c.v.inside.y c.v.invariant.y_in_range in
-    let v = simp to_z-of_z at c.product.ensures.value in
-    let w = simp to_z-of_z at c.product-2.ensures.value in
-    simp to_z-of_z (ap (λ (z : ℤ). int_lt z (pos 0)) ((λ i. v i +ℤ w i) ∙ (λ i. dot (c.v.view_is i) (c.a.view_is i) (c.b.view_is i))))
+    let both = combined product_limit c.product.result c.product-2.result (lit≤ tt) c.product.ensures.small c.product-2.ensures.small in
+    let a = position_read c.a.invariant c.a.view_is in
+    let b = position_read c.b.invariant c.b.view_is in
+    let v = position_read c.v.invariant c.v.view_is in
+    ap (λ (z : ℤ). int_lt z (pos 0))
+    (both.sum ∙ (λ i. c.product.ensures.value i +ℤ c.product-2.ensures.value i) ∙ (λ i. dot (v i) (a i) (b i)))

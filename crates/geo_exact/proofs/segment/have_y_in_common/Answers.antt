@@ -1,11 +1,10 @@
-use Rattle.std.proofs.Common.{to_z-of_z, ◌∙◌}
+use Rattle.std.proofs.Common.{◌∙◌}
 use Rattle.geo_exact.specs.SignTest.{overlaps}
-use Rattle.geo_exact.proofs.Wide.{coordinate_fits}
+use Rattle.geo_exact.proofs.Wide.{position_read}
 use Rattle.geo_exact.proofs.segment.have_y_in_common.Goals as goal
 
 pub returns : goal.returns
 returns c =
-    let fa = coordinate_fits c.a.inside.y c.a.invariant.y_in_range in let fb = coordinate_fits c.b.inside.y c.b.invariant.y_in_range in
-    let fc = coordinate_fits c.c.inside.y c.c.invariant.y_in_range in let fd = coordinate_fits c.d.inside.y c.d.invariant.y_in_range in
-    ◌∙◌ {b = overlaps c.a.inside.y c.b.inside.y c.c.inside.y c.d.inside.y} (simp to_z-of_z at c.have_stretch_in_common.ensures)
-    (λ i. overlaps (c.a.view_is i).y (c.b.view_is i).y (c.c.view_is i).y (c.d.view_is i).y)
+    let a = position_read c.a.invariant c.a.view_is in let b = position_read c.b.invariant c.b.view_is in
+    let d = position_read c.c.invariant c.c.view_is in let e = position_read c.d.invariant c.d.view_is in
+    c.have_stretch_in_common.ensures ∙ (λ i. overlaps (a i).y (b i).y (d i).y (e i).y)

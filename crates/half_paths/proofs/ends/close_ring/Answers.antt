@@ -1,18 +1,12 @@
-use Rattle.std.proofs.Common.{◌∙◌, ap, sym}
-use Rattle.half_table.specs.Half.{twin}
-use Rattle.half_table.specs.Cycle.{exchanged}
+use Rattle.std.proofs.Common.{◌∙◌, ap}
 use Rattle.half_table.specs.Rows.{next}
-use Rattle.half_table.proofs.Halves.{exchanged-twice}
-use Rattle.half_paths.proofs.TwoEnds.{closed-is, opened-is}
+use Rattle.half_paths.proofs.TwoEnds.{closed-is, opened-is, exchanged-back}
 use Rattle.half_paths.proofs.ends.close_ring.Goals as goal
 
 pub returns-clause-next : goal.returns-clause-next
 returns-clause-next g c = λ h.
-    c.splice_between.ensures.spliced.next h
-    ∙ ap (λ f. f h) (closed-is c.args.first c.args.last (next c.args.table.now.rows) c.requires.first_free c.requires.last_free)
+    c.splice_between.ensures.spliced.next h ∙ ap (λ f. f h) (closed-is c.args.first c.args.last (next c.args.table.now.rows) c.requires.first_free c.requires.last_free)
 
 pub returns-clause-back : goal.returns-clause-back
-returns-clause-back g c = λ old one two same h.
-    c.splice_between.ensures.spliced.next h
-    ∙ ap (λ f. exchanged c.args.last (twin c.args.first) f h) ((λ i q. same q i) ∙ sym (opened-is c.args.first c.args.last old one two))
-    ∙ exchanged-twice old c.args.last (twin c.args.first) h
+returns-clause-back g c = λ old one two.
+    exchanged-back c.args.first c.args.last old c.splice_between.ensures.spliced.next (opened-is c.args.first c.args.last old one two)

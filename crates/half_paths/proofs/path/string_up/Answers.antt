@@ -1,24 +1,21 @@
 use Rattle.std.proofs.Common.{◌∙◌, ap}
-use Rattle.half_table.specs.Half.{twin}
-use Rattle.half_table.specs.Rows.{next}
 use Rattle.half_paths.specs.Redirect.{redirect}
-use Rattle.half_paths.specs.Path.{last_of}
 use Rattle.half_paths.specs.Strung.{strung}
+use Rattle.half_paths.proofs.Redirected.{changed-back}
 use Rattle.half_paths.proofs.Along.{along-strung, unstrung-back}
 use Rattle.half_paths.proofs.Apart.{path-of, first-strung, last-strung}
 use Rattle.half_paths.proofs.path.string_up.Goals as goal
 
 pub returns-clause-next : goal.returns-clause-next
 returns-clause-next g c = λ h.
-    ap (λ f. f h) (c.splice_along.ensures.next ∙ along-strung (next c.args.table.now.rows) c.args.first c.args.rest.now (path-of c.args.first c.args.rest.now c.requires.different) c.requires.unstrung)
+    ap (λ f. f h) (c.splice_along.ensures.next ∙ along-strung _ _ _ (path-of _ _ c.requires.different) c.requires.unstrung)
 
 pub returns-clause-first_end : goal.returns-clause-first_end
-returns-clause-first_end g c = returns-clause-next g c (twin c.args.first) ∙ first-strung (next c.args.table.now.rows) c.args.first c.args.rest.now c.requires.different
+returns-clause-first_end g c = returns-clause-next g c _ ∙ first-strung _ _ _ c.requires.different
 
 pub returns-clause-last_end : goal.returns-clause-last_end
-returns-clause-last_end g c = returns-clause-next g c (last_of c.args.first c.args.rest.now) ∙ last-strung (next c.args.table.now.rows) c.args.first c.args.rest.now c.requires.different
+returns-clause-last_end g c = returns-clause-next g c _ ∙ last-strung _ _ _ c.requires.different
 
 pub returns-clause-back : goal.returns-clause-back
-returns-clause-back g c = λ before was same h.
-    returns-clause-next g c h ∙ ap (λ f. redirect (strung c.args.first c.args.rest.now) f h) (λ i q. same q i)
-    ∙ unstrung-back before c.args.first c.args.rest.now was h
+returns-clause-back g c = λ before was same.
+    changed-back (redirect (strung c.args.first c.args.rest.now)) (returns-clause-next g c) same (unstrung-back before _ _ was)

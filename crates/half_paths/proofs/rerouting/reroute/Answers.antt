@@ -32,14 +32,9 @@ loosen-requires-clause-different g c = first-part (c.args.old_first ∷ c.args.o
 
 pub loosen-requires-clause-strung : goal.loosen-requires-clause-strung
 loosen-requires-clause-strung g c =
-    let r = c.args.table.now.rows in
-    let a : Half = c.args.old_first in
-    let ar = c.args.old_rest.now in
-    let q : Half = c.args.first in
-    let qr = c.args.rest.now in
-    let one : next c.string_up.new.table.rows ≡ redirect (strung q qr) (next r) = λ i h. c.string_up.ensures.next h i in
-    subst (λ n. IsStrung n a ar) (sym one)
-    (still-strung (next r) a ar q qr (prev r a) (prev r (twin (last_of a ar))) c.requires.different c.requires.can (c.requires.linked.next_prev a) (c.requires.linked.next_prev (twin (last_of a ar))))
+    let one : next c.string_up.new.table.rows ≡ redirect (strung c.args.first c.args.rest.now) (next c.args.table.now.rows) = λ i h. c.string_up.ensures.next h i in
+    subst (λ n. IsStrung n c.args.old_first c.args.old_rest.now) (sym one)
+    (still-strung _ _ _ _ _ _ _ c.requires.different c.requires.can (c.requires.linked.next_prev c.args.old_first) (c.requires.linked.next_prev _))
 
 pub put_path-requires-clause-before_in : goal.put_path-requires-clause-before_in
 put_path-requires-clause-before_in g c = c.loosen.ensures.halves.has _ ∙ c.string_up.ensures.halves.has _ ∙ c.prev-before.ensures.inside
@@ -59,14 +54,9 @@ put_path-requires-clause-last_in g c =
 
 pub put_path-requires-clause-free : goal.put_path-requires-clause-free
 put_path-requires-clause-free g c =
-    let r = c.args.table.now.rows in
-    let a : Half = c.args.old_first in
-    let ar = c.args.old_rest.now in
-    let q : Half = c.args.first in
-    let qr = c.args.rest.now in
     let two = both_tied g (goal.at.put_path-requires-clause-free g c).After-loosen in
-    subst (λ (t : Half × Half × Half × (Half → Half)). CanPut t.0 t.1 q t.2 t.3) (λ j. (sym c.prev-before.ensures.is j, sym c.last_half-old_last.ensures j, sym c.last_half-last.ensures j, sym two j))
-    (can-put (next r) a ar q qr (prev r a) (prev r (twin (last_of a ar))) c.requires.different c.requires.can (c.requires.linked.next_prev a) (c.requires.linked.next_prev (twin (last_of a ar))))
+    subst (λ (t : Half × Half × Half × (Half → Half)). CanPut t.0 t.1 c.args.first t.2 t.3) (λ j. (sym c.prev-before.ensures.is j, sym c.last_half-old_last.ensures j, sym c.last_half-last.ensures j, sym two j))
+    (can-put _ _ _ _ _ _ _ c.requires.different c.requires.can (c.requires.linked.next_prev c.args.old_first) (c.requires.linked.next_prev _))
 
 pub cut_path-requires-clause-first_in : goal.cut_path-requires-clause-first_in
 cut_path-requires-clause-first_in g c = c.put_path.ensures.halves.has _ ∙ c.loosen.ensures.halves.has _ ∙ c.string_up.ensures.halves.has _ ∙ c.requires.old_in.0

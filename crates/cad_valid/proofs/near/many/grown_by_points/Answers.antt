@@ -1,13 +1,12 @@
-use Rattle.std.proofs.Common.{◌≡◌, ◌+◌, Some, refl, sym, subst, take}
+use Rattle.std.proofs.Common.{refl, sym, subst}
 use Rattle.std.proofs.lemmas.List.{take_all}
 use Rattle.std.proofs.lemmas.Option.{slice_get_read}
-use Rattle.std.specs.Prelude.{slice_get}
 use Rattle.std.specs.List.{AllByRecursion}
 use Rattle.geo_exact.specs.Position.{Position}
-use Rattle.cad_valid.specs.declared.near.seen.Reach.{Reach}
+use Rattle.cad_rows.specs.declared.rows.PointRow.{PointRow}
 use Rattle.cad_valid.specs.Near.{OfPoint}
 use Rattle.cad_valid.specs.Seen.{IsInReach, HasInReach, lying_point}
-use Rattle.cad_valid.proofs.SeenNear.{point-more, no_point-more}
+use Rattle.cad_valid.proofs.SeenNear.{wider_of, row-more, no_row-more}
 use Rattle.cad_valid.proofs.near.many.grown_by_points.Goals as goal
 use Rattle.cad_valid.proofs.near.many.grown_by_points.Goals.{in-Some, in_default}
 
@@ -15,28 +14,27 @@ pub loop-place-init : goal.loop-place-init
 loop-place-init g c = record { all = tt; kept = λ q h. h }
 
 pub loop-place-preserved : goal.loop-place-preserved
+unfolding OfPoint
 loop-place-preserved g c =
     let m = g.M.MapView.map c.args.map.now in
-    let numbers = c.args.points.now in
-    let k = c.loop-place.place in
-    let n = c.index-points-place.result in
-    let at : slice_get numbers k ≡ Some n = slice_get_read numbers _ k n refl c.loop-place-test.true c.index-points-place.is in
+    let at = slice_get_read c.args.points.now _ c.loop-place.place c.index-points-place.result refl c.loop-place-test.true c.index-points-place.is in
     let old = c.loop-place.so_far in
+    let all = c.loop-place.invariant.all in
     elim c.match-point.branch [
       | in-Some w ↦
           let new = w.grown-so_far.result in
           let wider : (q : Position) → IsInReach old q → IsInReach new q = w.grown-so_far.ensures.kept in
-          record {
-            all = subst (λ (r : Reach). AllByRecursion (OfPoint m (λ p. HasInReach r (lying_point p))) (take (k + 1) numbers)) (sym w.so_far-is)
-                (point-more m c.requires (λ p. HasInReach old (lying_point p)) (λ p. HasInReach new (lying_point p)) (λ p h. record { a = wider p.position h.a; b = wider p.position h.b }) numbers k n at w.in-Some.row.now (sym w.in-Some.ensures)
-                (record { a = w.grown-so_far.ensures.within; b = w.grown-so_far.ensures.within }) c.loop-place.invariant.all);
-            kept = λ q h. subst (λ (r : Reach). IsInReach r q) (sym w.so_far-is) (wider q (c.loop-place.invariant.kept q h));
-          }
-      | in_default w ↦ record {
-        all = subst (λ (r : Reach). AllByRecursion (OfPoint m (λ p. HasInReach r (lying_point p))) (take (k + 1) numbers)) (sym w.so_far-is)
-            (no_point-more m c.requires (λ p. HasInReach old (lying_point p)) (λ p. HasInReach old (lying_point p)) (λ r h. h) numbers k n at (sym w.in_default.ensures) c.loop-place.invariant.all);
-        kept = λ q h. subst (λ (r : Reach). IsInReach r q) (sym w.so_far-is) (c.loop-place.invariant.kept q h);
-      }
+          rw w.so_far-is (record {
+            all = row-more (λ (r : PointRow). r.number) m.points c.requires.points.distinct c.args.points.now c.loop-place.place _ at
+                (λ p. HasInReach old (lying_point p)) (λ p. HasInReach new (lying_point p)) (λ p h. wider_of old new wider (lying_point p) h) all w.in-Some.row.now (sym w.in-Some.ensures)
+                (record { a = w.grown-so_far.ensures.within; b = w.grown-so_far.ensures.within });
+            kept = λ q h. wider q (c.loop-place.invariant.kept q h);
+          })
+      | in_default w ↦ rw w.so_far-is (record {
+        all = no_row-more (λ (r : PointRow). r.number) m.points c.requires.points.distinct c.args.points.now c.loop-place.place _ at
+            (λ p. HasInReach old (lying_point p)) (λ p. HasInReach old (lying_point p)) (λ p h. h) all (sym w.in_default.ensures);
+        kept = c.loop-place.invariant.kept;
+      })
     ]
 
 pub returns-clause-all : goal.returns-clause-all

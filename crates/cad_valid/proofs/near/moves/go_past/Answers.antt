@@ -1,13 +1,13 @@
-use Rattle.std.proofs.Common.{◌≡◌, ◌==◌, Bool, true, false, refl, subst, inl, rules, tests}
+use Rattle.std.proofs.Common.{◌==◌, refl, subst, inl, rules, tests}
+use Rattle.std.proofs.lemmas.Bool.{or_right}
 use Rattle.std.proofs.lemmas.Iterator.{cases_from_all}
 use Rattle.std.proofs.lemmas.Iterator.Consumers.{YieldsList-from_first}
-use Rattle.geo_exact.specs.SignTest.{boxes_overlap}
 use Rattle.cell_grid.specs.declared.entry.HeldPoint.{HeldPoint}
 use Rattle.cad_map.specs.Touched.{Moved}
 use Rattle.cad_valid.specs.Seen.{IsInReach}
 use Rattle.cad_valid.specs.Moves.{IsPast}
-use Rattle.cad_valid.proofs.MovedSides.{far-alike, or_second}
-use Rattle.cad_valid.proofs.Passed.{passed-where_true}
+use Rattle.cad_valid.proofs.MovedSides.{far-alike}
+use Rattle.cad_valid.proofs.Passed.{by_box, passed-where_true}
 use Rattle.cad_valid.proofs.near.moves.go_past.Goals as goal
 
 pub returns-then-is_small : goal.returns-then-is_small
@@ -24,10 +24,6 @@ returns-then-is_small g c = λ t n q held other.
     cases_from_all _ _ _ P (λ h. Unit {0}) c.all.ensures.ran (YieldsList-from_first (λ x. x) (λ w. w) c.point_candidates.result refl)
     (λ x q k. search (rules, tests)) (λ x q k. tt) in
     let each = passed-where_true P (λ h. Unit {0}) c.point_candidates.result _ passed t in
-    by (boxes_overlap reach.low reach.high q q) refl
+    by_box reach q
     (λ over. each (record { point = n; position = q }) (c.point_candidates.ensures.all n q held over))
-    (λ apart. inl (or_second (n == v.point) (far-alike reach at v.from around.at from_in rays around.rays q apart)))
-  where
-    by : {G : Type 0} (b : Bool) {o : Bool} → o ≡ b → (o ≡ true → G) → (o ≡ false → G) → G
-    by true is near far = near is
-    by false is near far = far is
+    (λ apart. inl (or_right (n == v.point) _ (far-alike reach at v.from around.at from_in rays around.rays q apart)))

@@ -1,15 +1,13 @@
-use Rattle.std.proofs.Common.{◌≡◌, ◌==◌, Bool, true, false, refl, subst, rules, tests, eqb-true}
+use Rattle.std.proofs.Common.{refl, subst, rules, tests}
 use Rattle.std.proofs.lemmas.Iterator.{cases_from_all}
 use Rattle.std.proofs.lemmas.Iterator.Consumers.{YieldsList-from_first}
-use Rattle.std.specs.Prelude.{IsTrue, ◌||◌}
-use Rattle.geo_exact.specs.Position.{Position}
-use Rattle.geo_exact.specs.SignTest.{boxes_overlap}
+use Rattle.std.specs.Prelude.{IsTrue}
 use Rattle.cell_grid.specs.declared.entry.HeldPoint.{HeldPoint}
 use Rattle.cad_map.specs.Touched.{Moved}
 use Rattle.cad_valid.specs.Seen.{IsInReach}
 use Rattle.cad_valid.specs.Moves.{goes_past_alike, is_past_alike}
 use Rattle.cad_valid.proofs.MovedSides.{far-alike}
-use Rattle.cad_valid.proofs.Passed.{passed-each}
+use Rattle.cad_valid.proofs.Passed.{passed-around}
 use Rattle.cad_valid.proofs.near.moves.go_past_alike.Goals as goal
 
 pub returns-then-is_small : goal.returns-then-is_small
@@ -19,21 +17,9 @@ returns-then-is_small c = λ t n q held other.
     let rays = c.args.rays.now in
     let reach = c.reach_round-reach.result in
     let around = c.reach_round-reach.ensures in
-    let from_in = subst (λ (w : Moved). IsInReach reach w.from) c.moved.view_is around.from in
     let P = λ (h : HeldPoint). IsTrue (is_past_alike at v rays h) in
     let passed =
     cases_from_all _ _ _ P (λ h. ¬ P h) c.all.ensures.ran (YieldsList-from_first (λ x. x) (λ w. w) c.point_candidates.result refl)
     (λ x q k. search (rules, tests)) (λ x q k. search (rules, tests)) in
-    let each = (passed-each P c.point_candidates.result _ passed).0 t in
-    by q (boxes_overlap reach.low reach.high q q) refl
-    (λ over. past (n == v.point) (goes_past_alike at v.from rays q) (λ same. other (eqb-true n v.point same))
-    (each (record { point = n; position = q }) (c.point_candidates.ensures.all n q held over)))
-    (λ apart. far-alike reach at v.from around.at from_in rays around.rays q apart)
-  where
-    by : {G : Type 0} (q : Position) (b : Bool) {o : Bool} → o ≡ b → (o ≡ true → G) → (o ≡ false → G) → G
-    by q true is near far = near is
-    by q false is near far = far is
-
-    past : (same alike : Bool) → ¬ (same ≡ true) → (same || alike) ≡ true → alike ≡ true
-    past true alike other is = absurd (other refl)
-    past false alike other is = is
+    passed-around v.point (λ h. goes_past_alike at v.from rays h.position) c.point_candidates.result _ passed t reach n q (c.point_candidates.ensures.all n q held) other
+    (far-alike reach at v.from around.at (subst (λ (w : Moved). IsInReach reach w.from) c.moved.view_is around.from) rays around.rays q)

@@ -1,4 +1,4 @@
-use Rattle.std.proofs.Common.{◌≡◌, ℕ, sym, subst, ap, ◌∙◌, [], ◌∷◌, ◌++◌, ℤ, ◌+ℤ◌, to_z, of_z, to_z-of_z, FitsSigned, length, ◌≤◌, arith}
+use Rattle.std.proofs.Common.{◌≡◌, ℕ, sym, subst, ap, ◌∙◌, [], ◌∷◌, ◌++◌, map, min, fold, ℤ, ◌+ℤ◌, to_z, of_z, to_z-of_z, FitsSigned, length, ◌≤◌, arith}
 use Rattle.std.specs.Int.{w128}
 use Rattle.std.proofs.lemmas.Int.{ints}
 use Rattle.std.specs.Prelude.{unsigned_abs}
@@ -12,7 +12,7 @@ use Rattle.cad_map.specs.Walk.{walking, IsOnRing}
 use Rattle.cad_map.proofs.CallerLemmas.{few-from, walked-from, placed-fits, sum-bounded, sum-fits, least-more, sum-more, position-on_map}
 use Rattle.cad_valid.specs.Moves.{position_before, lay}
 use Rattle.cad_valid.proofs.MovedRings.{HasRing, before-on_map, ring-with, ring_from, round-walked}
-use Rattle.cad_valid.proofs.near.rounds.round_along.Goals.{After-next, In-Some, After-of-area, After-of-area_before}
+use Rattle.cad_valid.proofs.near.rounds.round_along.Goals.{After-next, In-Some, After-of-area, After-of-area_before, After-get-in-loop-at}
 use Rattle.cad_valid.proofs.near.rounds.round_along.Goals as goal
 
 -- the side that the walk begins with, and the ring that has it
@@ -61,9 +61,9 @@ more_before g c =
     sum-more doubled_area (position_before (position_of m) v) c.loop-at.yielded (c.in-Some.at, c.in-Some.end)
     ∙ (λ i. sym c.loop-at.invariant.area_before i +ℤ doubled_area (sym from i) (sym end i)) ∙ ap (λ (z : ℤ). to_z w128 c.loop-at.area_before-bits +ℤ z) (sym c.of-area_before.ensures.value)
 
--- both fit
-one_fits : (z : ℤ) → unsigned_abs z ≤ measure_limit → FitsSigned w128 z
-one_fits z small = omega (arith, ints)
+-- a measure is what its bits stand for
+read : (z : ℤ) → unsigned_abs z ≤ measure_limit → to_z w128 (of_z w128 z) ≡ z
+read z small = let fits : FitsSigned w128 z = omega (arith, ints) in to_z-of_z fits
 
 sum_fits : (g : _) (c : goal.After-of-area g) → length (c.loop-at.yielded ++ (c.in-Some.at, c.in-Some.end) ∷ []) ≤ 400000 → FitsSigned w128 (to_z w128 c.loop-at.area-bits +ℤ c.of-area.result)
 sum_fits g c short =
@@ -83,46 +83,35 @@ before_fits g c short =
 pub overflow_add-area : goal.overflow_add-area
 overflow_add-area g c =
     let at = goal.at.overflow_add-area g c in
-    let one = one_fits c.of-area.result c.of-area.ensures.small in
-    let sum = sum_fits g at.After-of-area (few g at.In-Some) in
-    simp to_z-of_z sum
+    rw (read c.of-area.result c.of-area.ensures.small) (sum_fits g at.After-of-area (few g at.In-Some))
 
 pub overflow_add-area_before : goal.overflow_add-area_before
 overflow_add-area_before g c =
     let at = goal.at.overflow_add-area_before g c in
-    let one = one_fits c.of-area_before.result c.of-area_before.ensures.small in
-    let sum = before_fits g at.After-of-area_before (few g at.In-Some) in
-    simp to_z-of_z sum
+    rw (read c.of-area_before.result c.of-area_before.ensures.small) (before_fits g at.After-of-area_before (few g at.In-Some))
 
 next_area : (g : _) (c : goal.After-of-area g) → length (c.loop-at.yielded ++ (c.in-Some.at, c.in-Some.end) ∷ []) ≤ 400000
     → to_z w128 (of_z w128 (to_z w128 c.loop-at.area-bits +ℤ to_z w128 (of_z w128 c.of-area.result)))
     ≡ sum_over doubled_area (placed (position_of (g.M.MapView.map c.args.map.now)) (c.loop-at.yielded ++ (c.in-Some.at, c.in-Some.end) ∷ []))
-next_area g c short =
-    let one = one_fits c.of-area.result c.of-area.ensures.small in
-    let sum = sum_fits g c short in
-    simp to_z-of_z (sym (more g c))
+next_area g c short = rw (read c.of-area.result c.of-area.ensures.small) (to_z-of_z (sum_fits g c short) ∙ sym (more g c))
 
 next_before : (g : _) (c : goal.After-of-area_before g) → length (c.loop-at.yielded ++ (c.in-Some.at, c.in-Some.end) ∷ []) ≤ 400000
     → to_z w128 (of_z w128 (to_z w128 c.loop-at.area_before-bits +ℤ to_z w128 (of_z w128 c.of-area_before.result)))
     ≡ sum_over doubled_area (placed (position_before (position_of (g.M.MapView.map c.args.map.now)) c.args.moved.now) (c.loop-at.yielded ++ (c.in-Some.at, c.in-Some.end) ∷ []))
-next_before g c short =
-    let one = one_fits c.of-area_before.result c.of-area_before.ensures.small in
-    let sum = before_fits g c short in
-    simp to_z-of_z (sym (more_before g c))
+next_before g c short = rw (read c.of-area_before.result c.of-area_before.ensures.small) (to_z-of_z (before_fits g c short) ∙ sym (more_before g c))
+
+-- the least first point with one side more is its own or the one before
+next_least : (g : _) (c : goal.After-get-in-loop-at g) → fold min c.args.from (map (λ (s : Side). s.0) (c.loop-at.yielded ++ (c.in-Some.at, c.in-Some.end) ∷ [])) ≡ min c.loop-at.least c.in-Some.at
+next_least g c = least-more c.args.from c.loop-at.yielded (c.in-Some.at, c.in-Some.end) ∙ ap (λ (n : ℕ). min n c.in-Some.at) (sym c.loop-at.invariant.least)
 
 pub loop-at-preserved-then-get : goal.loop-at-preserved-then-get
 loop-at-preserved-then-get g c =
     let at = goal.at.loop-at-preserved-then-get g c in
     let short = few g at.In-Some in
-    let less = c.if-get.true in
-    let from = c.get.ensures.value in
-    let least = c.get-in-loop-at.ensures.value in
-    let so_far = c.loop-at.invariant.least in
-    let more = least-more c.args.from c.loop-at.yielded (c.in-Some.at, c.in-Some.end) in
     record {
       area = next_area g at.After-of-area short;
       area_before = next_before g at.After-of-area_before short;
-      least = omega (arith, less, from, least, so_far, more);
+      least = omega (arith, c.if-get.true, c.get.ensures.value, c.get-in-loop-at.ensures.value, next_least g at.After-get-in-loop-at);
       few = short;
     }
 
@@ -130,15 +119,10 @@ pub loop-at-preserved : goal.loop-at-preserved
 loop-at-preserved g c =
     let at = goal.at.loop-at-preserved g c in
     let short = few g at.In-Some in
-    let less = c.if-get.false in
-    let from = c.get.ensures.value in
-    let least = c.get-in-loop-at.ensures.value in
-    let so_far = c.loop-at.invariant.least in
-    let more = least-more c.args.from c.loop-at.yielded (c.in-Some.at, c.in-Some.end) in
     record {
       area = next_area g at.After-of-area short;
       area_before = next_before g at.After-of-area_before short;
-      least = omega (arith, less, from, least, so_far, more);
+      least = omega (arith, c.if-get.false, c.get.ensures.value, c.get-in-loop-at.ensures.value, next_least g at.After-get-in-loop-at);
       few = short;
     }
 

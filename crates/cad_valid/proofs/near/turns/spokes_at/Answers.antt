@@ -42,31 +42,19 @@ loop-place-preserved g c =
       each = λ _. c.string_with.ensures.each;
     }
 
-pub returns-clause-rays : goal.returns-clause-rays
-returns-clause-rays g c =
+pub returns : goal.returns
+returns g c =
     let m = g.M.MapView.map c.args.map.now in
     let p = c.args.point in
     let strings = g.M.MapView.view_strings c.args.map.now p in
     let past : length (strings_at m p) ≤ c.loop-place.place = subst (λ (n : ℕ). n ≤ c.loop-place.place) c.degree-degree.ensures c.loop-place-test.false in
+    let told = take c.loop-place.place strings in
+    let each = all-told m p strings c.loop-place.place past c.loop-place.invariant.each in
     record {
-      rays = map (ray_of m p) (take c.loop-place.place strings);
-      are = record {
-        strings = take c.loop-place.place strings;
-        each = all-told m p strings c.loop-place.place past c.loop-place.invariant.each;
-        seen = refl;
+      rays = record {
+        rays = map (ray_of m p) told;
+        are = record { strings = told; each = each; seen = refl };
+        each = subst (λ (rays : List Ray). IsPermutation (map (ray_of m p) told) rays) (sym c.loop-place.invariant.rays) (IsPermutation-refl (map (ray_of m p) told));
       };
-      each = subst (λ (rays : List Ray). IsPermutation (map (ray_of m p) (take c.loop-place.place strings)) rays) (sym c.loop-place.invariant.rays)
-          (IsPermutation-refl (map (ray_of m p) (take c.loop-place.place strings)));
-    }
-
-pub returns-clause-strings : goal.returns-clause-strings
-returns-clause-strings g c =
-    let m = g.M.MapView.map c.args.map.now in
-    let p = c.args.point in
-    let strings = g.M.MapView.view_strings c.args.map.now p in
-    let past : length (strings_at m p) ≤ c.loop-place.place = subst (λ (n : ℕ). n ≤ c.loop-place.place) c.degree-degree.ensures c.loop-place-test.false in
-    record {
-      strings = take c.loop-place.place strings;
-      each = all-told m p strings c.loop-place.place past c.loop-place.invariant.each;
-      seen = spokes-told m p strings c.loop-place.place c.loop-place.spokes.items c.loop-place.invariant.seen;
+      strings = record { strings = told; each = each; seen = spokes-told m p strings c.loop-place.place c.loop-place.spokes.items c.loop-place.invariant.seen };
     }

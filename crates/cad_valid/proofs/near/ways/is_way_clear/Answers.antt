@@ -1,4 +1,5 @@
-use Rattle.std.proofs.Common.{◌≡◌, Bool, true, false, sym, ◌∙◌, true≢false, refl, rules, tests}
+use Rattle.std.proofs.Common.{sym, ◌∙◌, true≢false, refl, rules, tests}
+use Rattle.std.proofs.lemmas.Bool.{false_from_ne_true}
 use Rattle.std.proofs.lemmas.Iterator.{cases_from_all}
 use Rattle.std.proofs.lemmas.Iterator.Consumers.{YieldsList-from_first}
 use Rattle.std.specs.Prelude.{IsTrue}
@@ -18,10 +19,6 @@ returns g c = λ t s there off.
     cases_from_all _ _ _ P (λ h. ¬ P h) c.all.ensures.ran (YieldsList-from_first (λ x. x) (λ w. w) c.candidates.result refl)
     (λ x q k. search (rules, tests)) (λ x q k. search (rules, tests)) in
     let each = (passed-each P c.candidates.result _ passed).0 t in
-    by (boxes_overlap c.args.from c.args.to (position_of m s.from) (position_of m s.to)) refl (λ over.
+    false_from_ne_true (boxes_overlap c.args.from c.args.to (position_of m s.from) (position_of m s.to)) (λ over.
     true≢false (sym (each (record { string = s.number; from = position_of m s.from; to = position_of m s.to })
     (c.candidates.ensures.all s.number (position_of m s.from) (position_of m s.to) (c.requires.held.strings s there) over) s there refl) ∙ off))
-  where
-    by : (b : Bool) {o : Bool} → o ≡ b → (o ≡ true → ⊥) → o ≡ false
-    by true is none = absurd (none is)
-    by false is none = is

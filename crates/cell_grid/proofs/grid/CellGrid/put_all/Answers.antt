@@ -1,8 +1,6 @@
-use Rattle.std.proofs.Common.{◌≡◌, sym, subst}
+use Rattle.std.proofs.Common.{◌≡◌}
 use Rattle.cell_grid.specs.Kept.{kept}
-use Rattle.cell_grid.specs.Grid.{Grid}
-use Rattle.cell_grid.specs.Together.{Listed, AreNew}
-use Rattle.cell_grid.proofs.Levels.{OnErr_always}
+use Rattle.cell_grid.proofs.Levels.{unmoved, OnErr_always}
 use Rattle.cell_grid.proofs.Together.{now-held, all-back, held-each}
 use Rattle.cell_grid.proofs.grid.CellGrid.put_all.Goals as goal
 
@@ -19,14 +17,11 @@ returns-in_err-put_all-clause-err_strings c =
 
 pub returns-in_err-put_all-clause-err_points : goal.returns-in_err-put_all-clause-err_points
 returns-in_err-put_all-clause-err_points c =
-    rw (← c.self.view_is) (OnErr_always c.from_residual.result (λ e. ((λ h. h), (λ h. h))))
+    rw (← c.self.view_is) (OnErr_always c.from_residual.result (λ e. unmoved _))
 
 pub take_all-requires-clause-held : goal.take_all-requires-clause-held
 take_all-requires-clause-held c =
-    let fresh : AreNew (kept c.self.inside.strings) c.entries.inside.strings.items =
-    subst (λ (g : Grid). AreNew g.strings c.entries.inside.strings.items) (sym c.self.view_is)
-    (subst (λ (l : Listed). AreNew c.args.self.now.strings l.strings) (sym c.entries.view_is)
-    c.requires.strings) in
+    let fresh = rw (← c.self.view_is, ← c.entries.view_is) at c.requires.strings in
     rw c.as_slice-in-Err.ensures.value
     (now-held (kept c.self.inside.strings) (kept c.put_all.new.self) _ fresh
     (rw c.as_slice.ensures.value at c.in_ok-put_all.ensures.put))
@@ -42,10 +37,7 @@ invariant_of-self-in-Err c =
 
 pub returns-in-Err-clause-err_strings : goal.returns-in-Err-clause-err_strings
 returns-in-Err-clause-err_strings c =
-    let fresh : AreNew (kept c.self.inside.strings) c.entries.inside.strings.items =
-    subst (λ (g : Grid). AreNew g.strings c.entries.inside.strings.items) (sym c.self.view_is)
-    (subst (λ (l : Listed). AreNew c.args.self.now.strings l.strings) (sym c.entries.view_is)
-    c.requires.strings) in
+    let fresh = rw (← c.self.view_is, ← c.entries.view_is) at c.requires.strings in
     rw (← c.self.view_is)
     (all-back (kept c.self.inside.strings) (kept c.put_all.new.self) (kept c.take_all.new.self)
     c.entries.inside.strings.items fresh

@@ -12,15 +12,7 @@ slots_are g c =
     c.in-Ok.ensures.rows
 
 pub overflow_add-self : goal.overflow_add-self
-overflow_add-self g c =
-    omega (
-      arith,
-      c.self.invariant.0.1,
-      rows-le c.self.inside.slots,
-      c.len-slots.ensures.len,
-      c.len-slots.ensures.small,
-      c.mark_of-mark.ensures.small,
-    )
+overflow_add-self g c = omega (arith, c.self.invariant.0.1, rows-le c.self.inside.slots)
 
 pub invariant_of-self-in-Ok : goal.invariant_of-self-in-Ok
 invariant_of-self-in-Ok g c =

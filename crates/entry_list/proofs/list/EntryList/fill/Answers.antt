@@ -6,14 +6,7 @@ use Rattle.entry_list.proofs.Found.{slots-set}
 use Rattle.entry_list.proofs.list.EntryList.fill.Goals as goal
 
 pub overflow_add-self : goal.overflow_add-self
-overflow_add-self g c =
-    omega (
-      arith,
-      c.self.invariant.0.1,
-      rows-le c.self.inside.slots,
-      c.len-slots.ensures.len,
-      c.len-slots.ensures.small,
-    )
+overflow_add-self g c = omega (arith, c.self.invariant.0.1, rows-le c.self.inside.slots)
 
 pub invariant_of-self : goal.invariant_of-self
 invariant_of-self g c =

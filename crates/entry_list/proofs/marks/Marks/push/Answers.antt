@@ -1,12 +1,11 @@
 use Rattle.std.proofs.Common.{◌≡◌, ◌<◌, ◌≤◌, ◌+◌, ◌/◌, ℕ, List, get_or, set, length, arith, sym, length-append, subst, [], ◌∷◌, ◌++◌}
-use Rattle.std.proofs.lemmas.List.{get_or_read}
 use Rattle.entry_list.specs.Totals.{IsTallied}
 use Rattle.entry_list.specs.declared.marks.Marks.TheInside.{Inside}
-use Rattle.entry_list.proofs.Totals.{more_sums, more_totals, push_tallied, sum-small, whole-small}
+use Rattle.entry_list.proofs.Totals.{more_sums, more_totals, push_tallied, sum-read, total-read, sum-read-small, total-read-small}
 use Rattle.entry_list.proofs.marks.Marks.push.Goals as goal
 use Rattle.entry_list.proofs.marks.Marks.push.Goals.{then-whole-len+in_ok-push, else-whole-len}
 use Rattle.entry_list.proofs.marks.Marks.push.Goals.{then-block-len+in_ok-push-2, else-block-len}
-use Rattle.entry_list.proofs.marks.Marks.push.Goals.{After-index, After-index-2}
+use Rattle.entry_list.proofs.marks.Marks.push.Goals.{After-index}
 
 -- there is a total for the block of a further mark
 abbrev HasTotal : List ℕ → List ℕ → List ℕ → ℕ → Type 0
@@ -85,42 +84,15 @@ ready c =
           (λ e. w.if-block-len.false (omega arith)))
     ]
 
-sum_read : (c : goal.After-index)
-    → c.index.result.now ≡ get_or c.if-block-len.self-inside.sums.items (c.len-block.result / 64) 0
-sum_read c =
-    get_or_read c.if-block-len.self-inside.sums.items (c.len-block.result / 64) c.index.result.now
-    (ready c).1 c.index.ensures 0
-
-total_read : (c : goal.After-index-2)
-    → IsReady c.if-block-len.self-inside.marks.items c.if-block-len.self-inside.sums.items
-    c.if-block-len.self-inside.totals.items c.len-block.result
-    → c.index-2.result.now
-    ≡ get_or c.if-block-len.self-inside.totals.items (c.len-block.result / 64 / 64) 0
-total_read c r =
-    get_or_read c.if-block-len.self-inside.totals.items (c.len-block.result / 64 / 64)
-    c.index-2.result.now (omega (arith, r.1, r.0.totals_right.room)) c.index-2.ensures 0
-
 pub overflow_add-sum : goal.overflow_add-sum
 overflow_add-sum c =
-    let at = goal.at.overflow_add-sum c in
-    omega (
-      arith,
-      sum_read at.After-index,
-      sum-small (c.len-block.result / 64) _ _ _ (ready at.After-index).0,
-      c.requires.mark,
-    )
+    let r = ready (goal.at.overflow_add-sum c).After-index in
+    omega (arith, sum-read-small c.len-block.result r.0 r.1 c.index.ensures)
 
 pub overflow_add-total : goal.overflow_add-total
 overflow_add-total c =
-    let at = goal.at.overflow_add-total c in
-    let r = ready at.After-index in
-    omega (
-      arith,
-      total_read at.After-index-2 r,
-      whole-small (c.len-block.result / 64 / 64) _ _ _ r.0,
-      c.from.ensures,
-      c.requires.mark,
-    )
+    let r = ready (goal.at.overflow_add-total c).After-index in
+    omega (arith, total-read-small c.len-block.result r.0 r.1 c.index-2.ensures)
 
 pub invariant_of-self-in_err-push-3 : goal.invariant_of-self-in_err-push-3
 invariant_of-self-in_err-push-3 c =
@@ -129,9 +101,8 @@ invariant_of-self-in_err-push-3 c =
 
 pub invariant_of-self-2 : goal.invariant_of-self-2
 invariant_of-self-2 c =
-    let at = goal.at.invariant_of-self-2 c in
-    let r = ready at.After-index in
+    let r = ready (goal.at.invariant_of-self-2 c).After-index in
     pushed c.if-block-len.self-inside.marks.items c.if-block-len.self-inside.sums.items
     c.if-block-len.self-inside.totals.items _ c.len-block.result c.index.result.now c.args.mark
-    c.index-2.result.now c.from.result c.in_ok-push-3.ensures.items r (sum_read at.After-index)
-    (total_read at.After-index-2 r) c.from.ensures c.requires.mark
+    c.index-2.result.now c.from.result c.in_ok-push-3.ensures.items r
+    (sum-read _ r.0 r.1 c.index.ensures) (total-read _ r.0 r.1 c.index-2.ensures) c.from.ensures c.requires.mark
