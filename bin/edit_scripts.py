@@ -30,14 +30,22 @@ On a town of `bin/bench --write town SIZE`:
 On a field of `bin/bench --write holes SIZE`:
 
     island        the tip of an island, to another place near it
+    piece         a point added beside an island, a piece of the field there divided off, two undo
 
 On a star of `bin/bench --write star SIZE`:
 
     centre        the star's centre, to another place near it
+    rim           a side of the rim split at its middle, its triangle divided there and merged again, three undo
+
+On a comb of `bin/bench --write comb SIZE` or `--write combholes SIZE`:
+
+    tip           a corner at the tip of a tooth, to another place near it
+    tooth         a tooth divided off, and merged again; 100,000 mergers at most
 
 On strips of `bin/bench --write long SIZE`:
 
     strip         a boundary between two strips, split somewhere, and undo
+    end           the eastern end of a boundary, to another place near it
 
 On petals of `bin/bench --write petals SIZE`:
 
@@ -144,10 +152,39 @@ class Islands:
 
 
 class Star:
-    """The number of the point that all strings of a star have, behind those of its rim."""
+    """The numbers and positions of a star's points: those of its rim, and behind them the one that all its spokes have."""
+
+    RADIUS = 10_000_000
 
     def __init__(self, size):
-        self.centre = size + 1
+        self.size, self.centre = size, size + 1
+
+    def position(self, place):
+        """A place of the rim, counterclockwise from the east."""
+        turn = 2 * math.pi * (place % self.size) / self.size
+        return round(self.RADIUS * math.cos(turn)), round(self.RADIUS * math.sin(turn))
+
+    def rim(self, place):
+        """The string from a place of the rim to the next, behind the spokes."""
+        return self.size + place + 1
+
+
+class Comb:
+    """The numbers and positions of a comb's teeth, from the east to the west."""
+
+    HEIGHT, GAP, BASE = 10_000_000, 200, 1_000_000
+
+    def __init__(self, size):
+        self.teeth = (size - 2) // 4
+
+    def foot(self, tooth):
+        """The first of a tooth's four points, at the foot of its eastern side, behind the two of the comb's back."""
+        return 3 + 4 * tooth
+
+    def tip(self, tooth):
+        """The position of its third point, the western one at its tip."""
+        from_west = self.teeth - 1 - tooth
+        return (2 * from_west + 1) * self.GAP, self.BASE + self.HEIGHT + from_west % 5
 
 
 class Strips:
@@ -162,6 +199,10 @@ class Strips:
         """The place of a boundary so far in the east."""
         rise = boundary * boundary % 13
         return x, boundary * self.BREADTH + x * rise // self.LENGTH
+
+    def end(self, boundary):
+        """The point at its eastern end."""
+        return 2 * boundary + 2
 
 
 class Petals:
@@ -396,10 +437,45 @@ def island(islands, draws):
         yield f'move,{islands.tip(place)},{east},{north}'
 
 
+def piece(islands, draws):
+    while True:
+        place = draws.below(islands.size)
+        x, y = islands.position(place)
+        tip = islands.tip(place)
+        yield f'add-point,{NEW_POINT},{x + 450},{y + 300 + draws.below(50)}'
+        yield f'divide,1,{tip - 1} {NEW_POINT} {tip},{NEW_STRING} {NEW_STRING + 1},{NEW_PARCEL},Piece,1'
+        yield from ['undo'] * 2
+
+
 def centre(star, draws):
     while True:
         east, north = draws.near((0, 0), 1000)
         yield f'move,{star.centre},{east},{north}'
+
+
+def rim(star, draws):
+    while True:
+        place = draws.below(star.size)
+        (x, y), (far_x, far_y) = star.position(place), star.position(place + 1)
+        halves = f'{NEW_STRING},{NEW_STRING + 1}'
+        yield f'split,{star.rim(place)},{NEW_POINT},{(x + far_x) // 2},{(y + far_y) // 2},{halves}'
+        yield f'divide,{place + 1},{star.centre} {NEW_POINT},{NEW_STRING + 2},{NEW_PARCEL},Half,1'
+        yield f'merge,{place + 1},{NEW_PARCEL}'
+        yield from ['undo'] * 3
+
+
+def tip(comb, draws):
+    while True:
+        tooth = draws.below(comb.teeth)
+        x, y = comb.tip(tooth)
+        yield f'move,{comb.foot(tooth) + 2},{x},{y + 5 + draws.below(30)}'
+
+
+def tooth(comb, draws):
+    for parcel in range(NEW_PARCEL, NEW_PARCEL + 100_000):
+        foot = comb.foot(draws.below(comb.teeth))
+        yield f'divide,1,{foot} {foot + 3},{NEW_STRING + parcel - NEW_PARCEL},{parcel},Tooth,1'
+        yield f'merge,1,{parcel}'
 
 
 def strip(strips, draws):
@@ -410,6 +486,13 @@ def strip(strips, draws):
         yield 'undo'
 
 
+def end(strips, draws):
+    while True:
+        boundary = 1 + draws.below(strips.size - 1)
+        x, y = strips.position(boundary, strips.LENGTH)
+        yield f'move,{strips.end(boundary)},{x - 1 - draws.below(1000)},{y}'
+
+
 def common(petals, draws):
     while True:
         east, north = draws.near((0, 0), 50)
@@ -418,8 +501,9 @@ def common(petals, draws):
 
 KINDS = {'divide-undo': divide_undo, 'divide-merge': divide_merge, 'chain': chain, 'split-join': split_join,
          'move': move, 'points': points, 'enclose': enclose, 'attach': attach, 'undo-walk': undo_walk, 'mixed': mixed}
-FACE_KINDS = {'edge': (Town, edge), 'kerb': (Town, kerb), 'island': (Islands, island), 'centre': (Star, centre),
-              'strip': (Strips, strip), 'common': (Petals, common)}
+FACE_KINDS = {'edge': (Town, edge), 'kerb': (Town, kerb), 'island': (Islands, island), 'piece': (Islands, piece),
+              'centre': (Star, centre), 'rim': (Star, rim), 'tip': (Comb, tip), 'tooth': (Comb, tooth),
+              'strip': (Strips, strip), 'end': (Strips, end), 'common': (Petals, common)}
 
 
 def script(kind, size, records):
