@@ -35,3 +35,12 @@ pub use Rattle.cad_laws.proofs.CountedShared.{shared-counted}
 pub use Rattle.cad_laws.proofs.WholeFaces.{one-ring, face-told, one-face, side-face, side-string, string-sides, faces-differ}
 -- rows that are put back, or changed and changed back
 pub use Rattle.cad_laws.proofs.RowsBack.{filter-push, found-at, found-changed, insert-found, insert-with, insert-without, none-any, none-taken, placed-within, with-again, with-same, without-push}
+-- sums of faces that an edit leaves as they are, and what an area gains where a point goes elsewhere
+pub use Rattle.cad_laws.proofs.StandingAreas.{placed-stand, no-rings, face-stays, sums-stand}
+pub use Rattle.cad_laws.proofs.SweptAreas.{by-strings, gained-beside, areas-swept}
+-- integers added up over lists, and over strings
+pub use Rattle.cad_laws.proofs.Totals.{total, total-append, total-same, total-none, total-filter, total-permuted, total-flat_map, strings-total, sum_of_strings-permuted, sum_of_strings-append, sum_of_strings-push, sum_of_strings-same}
+-- what a face has more by a point than straight, and which of its sides stand for straight ones
+pub use Rattle.cad_laws.proofs.BentAreas.{area-bent, along-bent, against-bent}
+-- which areas an edit leaves as they are, and the point that a split, a join or a move is at
+pub use Rattle.cad_laws.proofs.TurnedAreas.{split-straight, split-lies, join-straight, move-from, move-to, move-from_after, move-to_after, areas-of_others, areas-of_rows}

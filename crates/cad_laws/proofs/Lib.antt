@@ -33,3 +33,8 @@ pub mod WholeFaces
 pub mod WorkedCounts
 pub mod NamedParcels
 pub mod RowsBack
+pub mod Totals
+pub mod StandingAreas
+pub mod SweptAreas
+pub mod BentAreas
+pub mod TurnedAreas

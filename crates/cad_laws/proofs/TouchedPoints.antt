@@ -23,7 +23,7 @@ use Rattle.cad_map.specs.Map.{Map, point_of, string_of, has_point, has_face, pos
 use Rattle.cad_map.specs.Refusals.{first_refusal}
 use Rattle.cad_map.specs.Rings.{HasWholeRings}
 use Rattle.cad_map.specs.Table.{row_with}
-use Rattle.cad_map.specs.Touched.{Touched, neighbours, ComesByMove, ComesByJoin, IsTouched}
+use Rattle.cad_map.specs.Touched.{Touched, neighbours, GoesStraight, ComesByMove, ComesByJoin, IsTouched}
 use Rattle.cad_map.specs.Valid.{IsValid}
 use Rattle.cad_map.proofs.CallerLemmas.{IsAllowed, allowed, canonical_order-canonical_order, free-split, there-one, two-joined, Contains-cases, Contains-first, Contains-later, Contains-map, list_any-Contains, Contains-filter, find-Contains, is_face-same, row-found, dropped, MeetAt, meet-at, differs, split_boundary, found-number, found-with_row, ends, is_end-of, other_end, whole_valid}
 use Rattle.cad_laws.specs.Joining.{IsJoinedAt}
@@ -226,6 +226,13 @@ module _ (m : Map) (valid : IsValid m) (row : StringRow) (there : Contains m.str
       (ap (row_with number q) (sym (without-push number m.points point new))
       ∙ same-without number q p (m.points ++ point ∷ []) off)
 
+  -- without the point, the rings go straight between the string's ends
+  pub straight-split : point_of m p ≡ None → IsJoinedAt made m p row.from row.to
+      → HasWholeRings made → GoesStraight made m p row.from row.to
+  straight-split new it rings =
+      straight-at made m p row.from row.to rings it valid.sound.v1.canonical refl
+      (lies-beside new)
+
   touched-split : point_of m p ≡ None → IsJoinedAt made m p row.from row.to → HasWholeRings made
       → IsTouched m made named
   touched-split new it rings =
@@ -251,9 +258,7 @@ module _ (m : Map) (valid : IsValid m) (row : StringRow) (there : Contains m.str
         first = row.from;
         second = row.to;
         from = refl;
-        straight =
-            straight-at made m p row.from row.to rings it valid.sound.v1.canonical refl
-            (lies-beside new);
+        straight = straight-split new it rings;
       })) tt
 
 pub split-touched : (m : Map) (s p : ℕ) (x y : ℤ) (first second : ℕ) → IsValid m
@@ -381,6 +386,12 @@ module _ (m : Map) (valid : IsValid m) (p new : ℕ) (two : MeetAt m p) where
   join-face Outside known = refl
   join-face (Parcel n) known = known
 
+  -- without the point, the rings go straight between the points beside it
+  pub straight-join : (a b : ℕ) → IsJoinedAt m joined p a b → GoesStraight m joined p a b
+  straight-join a b it =
+      straight-at m joined p a b (whole_valid m valid) it
+      (canonical_order-canonical_order (map (dropped p) m.boundaries)) refl lies-off
+
   -- the new string goes straight from one far end to the other
   comes-by_join : IfSome (joined_between m p (neighbours m p)) (ComesByJoin m joined)
   comes-by_join = by (strings_at m p) refl
@@ -396,10 +407,7 @@ module _ (m : Map) (valid : IsValid m) (p new : ℕ) (two : MeetAt m p) where
           record {
             lay = refl;
             straight =
-                straight-at m joined p (far_end s p) (far_end t p) (whole_valid m valid)
-                (joined-at m valid p s t at joined)
-                (canonical_order-canonical_order (map (dropped p) m.boundaries)) refl
-                lies-off;
+                straight-join (far_end s p) (far_end t p) (joined-at m valid p s t at joined);
           }
 
   touched-join : IsJoinedAt m joined p (far_end two.first p) (far_end two.second p)
@@ -451,7 +459,7 @@ module _ (m : Map) (valid : IsValid m) (p : ℕ) (x y : ℤ) (row : PointRow)
   Away q = q ≢ p
 
   -- each other point lies where it lay
-  lies-elsewhere : (q : ℕ) → q ≢ p → position_of moved q ≡ position_of m q
+  pub lies-elsewhere : (q : ℕ) → q ≢ p → position_of moved q ≡ position_of m q
   lies-elsewhere q off =
       ap (λ (o : Option PointRow). unwrap_or (option_map (λ r. r.position) o) origin)
       (same-with_row (λ (r : PointRow). r.number) q moved_row m.points

@@ -7,3 +7,4 @@ pub mod Tables
 pub mod Touching
 pub mod Counts
 pub mod Taken
+pub mod Areas

@@ -1,25 +1,28 @@
 //! The laws of edits. Each function does nothing, and its contract holds for all maps. A store
 //! that keeps rings as half-edges reads from them which half's next changes, which face each half
 //! has, and which rings pass over.
-ghost use Rattle.std.specs.Prelude.{◌≡◌, ◌≢◌, ℕ, ℤ, ◌≤◌, ◌+◌, ◌*◌, List, [], ◌∷◌, length, Some, reverse};
+ghost use Rattle.std.specs.Prelude.{◌≡◌, ◌≢◌, ℕ, ℤ, ◌≤◌, ◌+◌, ◌*◌, ◌+ℤ◌, List, [], ◌∷◌, length, Some, reverse};
 ghost use Rattle.std.specs.List.{Contains};
+ghost use Rattle.geo_exact.specs.Measure.{doubled_area};
+ghost use Rattle.geo_exact.specs.Position.{Position};
 ghost use Rattle.cad_rows.specs.declared.edits.Edit.{Edit};
 ghost use Rattle.cad_rows.specs.declared.edits.Edit.TheVariants.{Split, Join, Divide, Merge, Enclose};
 ghost use Rattle.cad_rows.specs.declared.names.Face.{Face};
 ghost use Rattle.cad_rows.specs.declared.names.Face.TheVariants.{Parcel};
 ghost use Rattle.cad_rows.specs.declared.refusals.Rule.TheVariants.{V4};
 ghost use Rattle.cad_rows.specs.declared.rows.StringRow.{StringRow};
-ghost use Rattle.cad_rings.specs.Cycle.{Ring, Corner};
+ghost use Rattle.cad_rings.specs.Cycle.{Ring, Corner, has_side};
 ghost use Rattle.cad_map.specs.Changes.{by_number};
 ghost use Rattle.cad_map.specs.Costs.{rows_changed, rings_moved, sources_removed, sides_changed, weight_bound, work_bound};
 ghost use Rattle.cad_map.specs.Effects.{after};
-ghost use Rattle.cad_map.specs.Map.{Map, string_of, far_end, strings_at};
+ghost use Rattle.cad_map.specs.Map.{Map, string_of, face_sides, far_end, strings_at, sum_of_face};
 ghost use Rattle.cad_map.specs.Merger.{ChainInRings, shared_chains, shared_sides, boundaries_by};
 ghost use Rattle.cad_map.specs.Rings.{HasWholeRings};
-ghost use Rattle.cad_map.specs.Touched.{IsTouched};
+ghost use Rattle.cad_map.specs.Touched.{Touched, GoesStraight, IsTouched};
 ghost use Rattle.cad_map.specs.Valid.{HasTwoEnds, IsValid, FirstBroken};
 ghost use Rattle.half_table.specs.declared.half.Half.{Half};
 ghost use Rattle.half_table.specs.Rows.{HalfRows};
+ghost use Rattle.cad_laws.specs.Areas.{bend_beside, ended_by, HasPointAt, swept_beside, sum_of_strings};
 ghost use Rattle.cad_laws.specs.Tried.{IsTried, AreChosen};
 ghost use Rattle.cad_laws.specs.Parting.{IsParted, HasIsland, IsMergedBy};
 ghost use Rattle.cad_laws.specs.Faces.{HasPlaced, IsDividedIn, IsMergedIn};
@@ -156,4 +159,36 @@ pub fn tables()
     ensures apart { (m : Map) (rows : HalfRows) → HasTwoEnds m → HasWholeRings m
         → BeginAtEnds m rows
         → (g h : Half) → IsShown m g → IsShown m h → side_by rows g ≡ side_by rows h → g ≡ h }
+{}
+
+/// A face that an edit doesn't touch keeps its area, and so does one that neither map has.
+pub fn areas_stand()
+    ensures { (m : Map) (e : Edit) (t : Touched) (f : Face) → IsTried m e
+        → IsTouched m (after m e) t → ¬ Contains t.faces f → ¬ Contains (ended_by e) f
+        → sum_of_face doubled_area (after m e) f ≡ sum_of_face doubled_area m f }
+{}
+
+/// What a face's area gains where a point goes from a to b is told by the point's strings alone.
+pub fn areas_swept()
+    ensures { (m x y : Map) (p : ℕ) (a b : Position) (f : Face) → HasWholeRings m
+        → HasPointAt m x p a → HasPointAt m y p b
+        → sum_of_face doubled_area y f
+        ≡ sum_of_face doubled_area x f
+        +ℤ sum_of_strings (swept_beside m f p a b) (strings_at m p) }
+{}
+
+/// What a face's area has more in the map that goes round by a point than in the one that goes
+/// straight: the bend, on the left of the sides by the point. Such a side, with its face, stands
+/// for the straight one, either way.
+pub fn areas_bent()
+    ensures area { (bent straight : Map) (p a b : ℕ) (f : Face) → HasWholeRings bent
+        → GoesStraight bent straight p a b
+        → sum_of_face doubled_area bent f
+        ≡ sum_of_face doubled_area straight f +ℤ bend_beside bent f p a b }
+    ensures along { (bent straight : Map) (p a b : ℕ) (f : Face) → HasWholeRings bent
+        → GoesStraight bent straight p a b → AreNotJoined bent a b
+        → has_side (a, p) (face_sides bent f) ≡ has_side (a, b) (face_sides straight f) }
+    ensures against { (bent straight : Map) (p a b : ℕ) (f : Face) → HasWholeRings bent
+        → GoesStraight bent straight p a b → AreNotJoined bent a b
+        → has_side (p, a) (face_sides bent f) ≡ has_side (b, a) (face_sides straight f) }
 {}

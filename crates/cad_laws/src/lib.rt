@@ -4,5 +4,6 @@
 mod laws;
 
 pub use laws::{
-    counts, divided, enclosed, joined, merged, split_between, tables, touched, whole_rings,
+    areas_bent, areas_stand, areas_swept, counts, divided, enclosed, joined, merged, split_between,
+    tables, touched, whole_rings,
 };
