@@ -24,6 +24,8 @@ mod files;
 #[cfg(test)]
 mod history;
 #[cfg(test)]
+mod long_rings;
+#[cfg(test)]
 mod merging;
 #[cfg(test)]
 mod plans;

@@ -59,3 +59,4 @@ pub mod ToldMergers
 pub mod PlacedChains
 pub mod RecordedStrings
 pub mod RecordedMergers
+pub mod KeptAreas

@@ -1,8 +1,8 @@
 -- The halves that are kept of the holes that pass to a new face.
 use Rattle.std.proofs.Common.{◌≡◌, ◌≢◌, ◌⊎◌, inl, inr, ℕ, zero, suc, ◌+◌, ◌<◌, ◌&&◌, Bool, true, false, refl, sym, ap, subst, ◌∙◌, List, [], ◌∷◌, ◌++◌, map, filter, take, length, Option, Some, slice_get, cond, arith}
-use Rattle.std.specs.Prelude.{option_map, int_lt, pos, flat_map, count_by, IsPermutation}
+use Rattle.std.specs.Prelude.{option_map, int_lt, pos, flat_map, count_by, slice_index_or, IsPermutation}
 use Rattle.std.specs.List.{AllByRecursion, Contains}
-use Rattle.std.proofs.lemmas.List.{append-nil, length-map}
+use Rattle.std.proofs.lemmas.List.{append-nil, length-map, map-append}
 use Rattle.std.proofs.lemmas.List.Elements.{filter-append}
 use Rattle.std.proofs.lemmas.List.Sorted.{sum_by-IsPermutation}
 use Rattle.std.proofs.lemmas.Option.{slice_get-map, get_or_from_slice_get}
@@ -90,6 +90,14 @@ pub at-place : {X : Type 0} (xs : List X) (i : ℕ) → i < length xs → (x : X
 at-place [] i low = absurd (omega (arith, low))
 at-place (x ∷ xs) zero low = (x, refl)
 at-place (x ∷ xs) (suc i) low = at-place xs i (omega (arith, low))
+
+-- what is told of the elements before a place, and of the one there
+pub told-push : {X Y : Type 0} (f : X → Y) (xs : List X) (i : ℕ) (d : X) → i < length xs
+    → map f (take i xs) ++ f (slice_index_or xs i d) ∷ [] ≡ map f (take (i + 1) xs)
+told-push f xs i d low =
+    let there = at-place xs i low in
+    ap (λ x. map f (take i xs) ++ f x ∷ []) (get_or_from_slice_get xs i there.0 d there.1)
+    ∙ sym (map-append f (take i xs) (there.0 ∷ [])) ∙ ap (map f) (take-more xs i there.0 there.1)
 
 -- ---- Halves that are kept
 

@@ -10,13 +10,14 @@ use Rattle.cad_map.specs.Outcome.{MayRefuse, refused, breaking}
 use Rattle.cad_map.specs.Touched.{IsTouched}
 use Rattle.cad_map.specs.Valid.{IsValid, CanBeTested, FirstBroken, KeepsAll}
 use Rattle.cad_map.proofs.CallerLemmas.{valid-from_kept}
+use Rattle.cad_valid.specs.KeptAreas.{KeptAreas, HoldsAreas}
 use Rattle.cad_valid.specs.Near.{HoldsMap, ComesFromValid, touched_of}
 use Rattle.cad_valid.specs.declared.near.Touched.{Touched as Listed}
 use Rattle.map_parts.specs.Parts.{Parts, map_of}
 use Rattle.cad_surgery.specs.Trials.{IsReadyFor}
 use Rattle.cad_surgery.proofs.Played.{tested}
 
-module _ {v : Parts} {e : Edit} {listed : Listed} (ready : IsReadyFor e v listed) {made : Map} (is : made ≡ after (map_of v) e) where
+module _ {v : Parts} {e : Edit} {areas : KeptAreas} {listed : Listed} (ready : IsReadyFor e v areas listed) {made : Map} (is : made ≡ after (map_of v) e) where
   -- what it asks for
   pub near-tested : CanBeTested made
   near-tested = subst CanBeTested (sym is) (tested (map_of v) e ready.tried)
@@ -24,6 +25,9 @@ module _ {v : Parts} {e : Edit} {listed : Listed} (ready : IsReadyFor e v listed
   pub near-held : (seen grid : Grid) → seen ≡ grid → grid ≡ v.grid → HoldsMap seen made
   near-held seen grid same own =
       subst (λ (s : Grid). HoldsMap s made) (sym (same ∙ own)) (subst (HoldsMap v.grid) (sym is) ready.held)
+
+  pub near-areas : HoldsAreas areas made
+  near-areas = subst (HoldsAreas areas) (sym is) ready.areas
 
   pub near-touched : ComesFromValid (touched_of listed) made
   near-touched = record {

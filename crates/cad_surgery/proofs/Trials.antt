@@ -14,6 +14,7 @@ use Rattle.cad_map.specs.Costs.{work_bound}
 use Rattle.cad_map.specs.Effects.{after}
 use Rattle.cad_map.specs.Map.{Map}
 use Rattle.cad_map.specs.Outcome.{MayRefuse}
+use Rattle.cad_valid.specs.KeptAreas.{KeptAreas}
 use Rattle.cad_valid.specs.declared.near.Touched.{Touched}
 use Rattle.map_parts.specs.Parts.{Parts, map_of, kept_at}
 use Rattle.cad_surgery.specs.Proper.{IsProper}
@@ -108,7 +109,7 @@ is-idle {d} {r = Err f} is proper = is-left refl proper (idle d d _ refl) refl
 -- ---- Trials that are refused
 
 -- before anything was done
-pub stays : (e : Edit) (d : Parts) (t : Touched) (why : Refusal) → IsReadyFor e d t → MayRefuse (map_of d) e why → IsTrialOf e d d (Err why)
+pub stays : {kept : KeptAreas} (e : Edit) (d : Parts) (t : Touched) (why : Refusal) → IsReadyFor e d kept t → MayRefuse (map_of d) e why → IsTrialOf e d d (Err why)
 stays e d t why ready may = record {
   played = record { made = is-left refl ready.proper (idle d d _ refl) refl; valid = tt; refused = may };
   edit = tt;

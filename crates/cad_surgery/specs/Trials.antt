@@ -9,6 +9,7 @@ use Rattle.cad_map.specs.Outcome.{MayRefuse}
 use Rattle.cad_map.specs.Touched.{IsTouched}
 use Rattle.cad_map.specs.Valid.{IsValid}
 use Rattle.cad_laws.specs.Tried.{IsTried}
+use Rattle.cad_valid.specs.KeptAreas.{KeptAreas, HoldsAreas}
 use Rattle.cad_valid.specs.Near.{HoldsMap, touched_of}
 use Rattle.cad_valid.specs.declared.near.Touched.{Touched}
 use Rattle.edit_records.specs.Record.{edit_of, Holds}
@@ -18,11 +19,14 @@ use Rattle.cad_surgery.specs.Proper.{IsProper}
 use Rattle.cad_surgery.specs.Work.{TakesWork}
 
 -- These parts are ready for a trial of the edit, which touches what is listed.
-pub record IsReadyFor (e : Edit) (d : Parts) (listed : Touched) : Type 0 where
+pub record IsReadyFor (e : Edit) (d : Parts) (kept : KeptAreas) (listed : Touched)
+    : Type 0 where
   -- nothing speaks against the edit at once
   pub tried : IsTried (map_of d) e
   -- the grid holds the strings and points of the map after it
   pub held : HoldsMap d.grid (after (map_of d) e)
+  -- the areas that are kept are those of the map after it
+  pub areas : HoldsAreas kept (after (map_of d) e)
   -- what isn't listed stands as it stood
   pub touched : IsTouched (map_of d) (after (map_of d) e) (touched_of listed)
   -- the table is the map's

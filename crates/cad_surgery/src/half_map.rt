@@ -7,10 +7,12 @@ ghost use Rattle.map_parts.specs.Parts.{map_of, kept_at};
 ghost use Rattle.cad_surgery.specs.Proper.{IsProper};
 
 use crate::draft::Draft;
+use crate::draft_areas::{faces_of_long_rings, keep_areas};
 use cad_map::{Counts, MapView, PlainMap, Span};
 use cad_rows::{
     Face, Memory, ParcelNo, ParcelRow, PointNo, PointRow, SourceNo, SourceRow, StringNo, StringRow,
 };
+use cad_valid::FaceAreas;
 use cell_grid::CellGrid;
 use half_table::{HalfTable, Tally};
 use std::alloc::Global;
@@ -22,17 +24,19 @@ use std::marker::Model;
 #[derive(Drop)]
 pub struct HalfMap<T: Tally> {
     pub(crate) draft: Draft<T>,
+    /// The areas of its long rings, as far as there was memory to keep them.
+    pub(crate) areas: FaceAreas,
 }
 
 impl<T: Tally> Model for HalfMap<T> {
     ghost use Rattle.map_parts.specs.Parts.{Parts};
-    ghost use Rattle.cad_surgery.specs.AtRest.{IsAtRest};
+    ghost use Rattle.cad_surgery.specs.AtRest.{IsWhole};
 
     ghost Value = { Parts };
 
     ghost view = { λ a. a.draft };
 
-    ghost invariant = { λ a. IsAtRest a.draft };
+    ghost invariant = { λ a. IsWhole a.draft a.areas };
 }
 
 impl<T: Tally> HalfMap<T> {
@@ -53,8 +57,12 @@ impl<T: Tally> HalfMap<T> {
         ensures is { IfOk result (λ made. map_of made ≡ map) }
         ensures proper { IfOk result (λ made. IsProper map made.table.rows (kept_at made)) }
     {
+        let hash = map.hash();
+        let long = faces_of_long_rings(alloc, &map)?;
         let draft = Draft::of(alloc, map, tally)?;
-        Ok(HalfMap { draft })
+        let mut areas = FaceAreas::none(alloc, hash);
+        keep_areas(&draft, &mut areas, long.as_slice());
+        Ok(HalfMap { draft, areas })
     }
 
     /// The doubly connected edge list of the map. It takes no memory.

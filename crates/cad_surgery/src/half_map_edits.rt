@@ -38,7 +38,7 @@ impl<T: Tally> HalfMap<T> {
             return Err(refusal);
         }
         are_in_range(edit);
-        play(&mut self.draft, edit)
+        play(&mut self.draft, &mut self.areas, edit)
     }
 
     /// Goes from the map after an edit to the map before it. Where memory runs out the map stays.
@@ -51,7 +51,7 @@ impl<T: Tally> HalfMap<T> {
             → TakesWork self.old.table self.new.table (work_bound before (map_of self.old)) }
     {
         gives_in_range(change);
-        play_back(&mut self.draft, change)
+        play_back(&mut self.draft, &mut self.areas, change)
     }
 
     /// Goes from the map before an edit to the map after it. Where memory runs out the map stays.
@@ -64,6 +64,6 @@ impl<T: Tally> HalfMap<T> {
             → TakesWork self.old.table self.new.table (work_bound (map_of self.old) after) }
     {
         gives_in_range(change);
-        play_again(&mut self.draft, change)
+        play_again(&mut self.draft, &mut self.areas, change)
     }
 }

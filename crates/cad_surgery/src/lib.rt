@@ -3,6 +3,7 @@
 
 mod areas;
 mod draft;
+mod draft_areas;
 mod draft_grid;
 mod draft_rows;
 mod edits;

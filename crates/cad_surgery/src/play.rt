@@ -8,6 +8,7 @@ ghost use Rattle.cad_map.specs.Outcome.{MayRefuse};
 ghost use Rattle.cad_map.specs.Touched.{IsTouched};
 ghost use Rattle.cad_map.specs.Valid.{IsValid};
 ghost use Rattle.cad_laws.specs.Tried.{IsTried};
+ghost use Rattle.cad_valid.specs.KeptAreas.{HoldsAreas};
 ghost use Rattle.cad_valid.specs.Near.{HoldsMap, touched_of};
 ghost use Rattle.cad_surgery.specs.AtRest.{IsAtRest};
 ghost use Rattle.edit_records.specs.GridEdits.{gone_by, come_by};
@@ -26,9 +27,12 @@ use crate::edits::try_join::{back_join, forward_join, try_join};
 use crate::edits::try_merge::try_merge;
 use crate::edits::try_split::{Halving, back_split, forward_split, try_split};
 use cad_rows::{Edit, Memory, Refusal};
-use cad_valid::{Touched, first_broken_near};
+use cad_valid::{FaceAreas, Touched, first_broken_near};
 use cell_grid::Entries;
-use edit_records::{SmallRecord, at, coming, going, touched_by, what_comes, what_goes};
+use edit_records::{
+    SmallRecord, areas_again, areas_back, at, coming, going, return_areas, touched_by, turn_areas,
+    what_comes, what_goes,
+};
 use half_table::Tally;
 
 // Whether a point came, or lies elsewhere: of the edits of rows alone no other can break a rule.
@@ -46,11 +50,13 @@ fn is_placed(change: &SmallRecord) -> bool
 fn try_rows<T: Tally>(
     draft: &mut Draft<T>,
     edit: &Edit,
+    areas: &FaceAreas,
     touched: &Touched,
 ) -> Result<SmallRecord, Refusal>
     requires alone { IsTrue (is_of_rows edit.now) }
     requires tried { IsTried (map_of draft.old) edit.now }
     requires held { HoldsMap draft.old.grid (after (map_of draft.old) edit.now) }
+    requires areas { HoldsAreas areas.now (after (map_of draft.old) edit.now) }
     requires touched { IsTouched (map_of draft.old) (after (map_of draft.old) edit.now)
         (touched_of touched.now) }
     ensures made { OnOk result (map_of draft.new ≡ after (map_of draft.old) edit.now) }
@@ -68,7 +74,7 @@ fn try_rows<T: Tally>(
         return Ok(change);
     }
     let alloc = draft.rows.points.allocator();
-    if let Some(rule) = first_broken_near(alloc, draft, draft.grid(), touched) {
+    if let Some(rule) = first_broken_near(alloc, draft, draft.grid(), areas, touched) {
         let _ = draft.unmake_rows(&change);
         return Err(Refusal::Breaks(rule));
     }
@@ -80,9 +86,10 @@ fn try_rows<T: Tally>(
 fn try_edit<T: Tally>(
     draft: &mut Draft<T>,
     edit: &Edit,
+    areas: &FaceAreas,
     touched: &Touched,
 ) -> Result<SmallRecord, Refusal>
-    requires { IsReadyFor edit.now draft.old touched.now }
+    requires { IsReadyFor edit.now draft.old areas.now touched.now }
     ensures { IsTrialOf edit.now draft.old draft.new result }
 {
     match edit {
@@ -101,12 +108,12 @@ fn try_edit<T: Tally>(
                 first: *first,
                 second: *second,
             };
-            try_split(draft, *string, &halving, touched)
+            try_split(draft, *string, &halving, areas, touched)
         }
-        Edit::Join { point, string } => try_join(draft, *point, *string, touched),
-        Edit::Divide { .. } | Edit::Enclose { .. } => try_adding(draft, edit, touched),
-        Edit::Merge { kept, ended } => try_merge(draft, *kept, *ended, touched),
-        _ => try_rows(draft, edit, touched),
+        Edit::Join { point, string } => try_join(draft, *point, *string, areas, touched),
+        Edit::Divide { .. } | Edit::Enclose { .. } => try_adding(draft, edit, areas, touched),
+        Edit::Merge { kept, ended } => try_merge(draft, *kept, *ended, areas, touched),
+        _ => try_rows(draft, edit, areas, touched),
     }
 }
 
@@ -150,10 +157,15 @@ fn exchange_by<T: Tally>(draft: &Draft<T>, edit: &Edit) -> Result<Exchange, Memo
 }
 
 /// Makes an edit that nothing speaks against at once, and gives its record. Where memory runs out,
-/// or it breaks a rule, the map stays.
-pub(crate) fn play<T: Tally>(draft: &mut Draft<T>, edit: &Edit) -> Result<SmallRecord, Refusal>
+/// or it breaks a rule, the map stays. The areas are those that are kept of the map.
+pub(crate) fn play<T: Tally>(
+    draft: &mut Draft<T>,
+    areas: &mut FaceAreas,
+    edit: &Edit,
+) -> Result<SmallRecord, Refusal>
     requires tried { IsTried (map_of draft.old) edit.now }
     requires rest { IsAtRest draft.old }
+    requires areas { HoldsAreas areas.old (map_of draft.old) }
     ensures made { OnOk result (map_of draft.new ≡ after (map_of draft.old) edit.now) }
     ensures valid { OnOk result (IsValid (map_of draft.new)) }
     ensures edit { IfOk result (λ r. edit_of r ≡ edit.now) }
@@ -161,6 +173,7 @@ pub(crate) fn play<T: Tally>(draft: &mut Draft<T>, edit: &Edit) -> Result<SmallR
     ensures refused { IfErr result (MayRefuse (map_of draft.old) edit.now) }
     ensures err { OnErr result (map_of draft.new ≡ map_of draft.old) }
     ensures rest { IsAtRest draft.new }
+    ensures areas { HoldsAreas areas.new (map_of draft.new) }
     ensures work { TakesWork draft.old.table draft.new.table
         (work_bound (map_of draft.old) (after (map_of draft.old) edit.now)) }
 {
@@ -170,13 +183,17 @@ pub(crate) fn play<T: Tally>(draft: &mut Draft<T>, edit: &Edit) -> Result<SmallR
     let Ok(()) = draft.enter(&plan.exchange.come) else {
         return Err(Refusal::Memory);
     };
-    match try_edit(draft, edit, &plan.touched) {
+    turn_areas(areas, draft, edit, &plan.touched);
+    match try_edit(draft, edit, areas, &plan.touched) {
         Ok(change) => {
             draft.withdraw(&plan.exchange.gone);
+            draft.keep_bent(areas, edit, &plan.touched);
             Ok(change)
         }
         Err(refusal) => {
+            return_areas(areas, draft, edit, &plan.touched);
             draft.withdraw(&plan.exchange.come);
+            draft.keep_bent(areas, edit, &plan.touched);
             Err(refusal)
         }
     }
@@ -230,51 +247,69 @@ fn exchange_of<T: Tally>(draft: &Draft<T>, change: &SmallRecord) -> Result<Excha
     Ok(Exchange { gone, come })
 }
 
-/// Goes from the map after an edit to the map before it. Where memory runs out the map stays.
-pub(crate) fn play_back<T: Tally>(draft: &mut Draft<T>, change: &SmallRecord) -> Result<(), Memory>
+/// Goes from the map after an edit to the map before it. Where memory runs out the map stays, and no
+/// area is kept.
+pub(crate) fn play_back<T: Tally>(
+    draft: &mut Draft<T>,
+    areas: &mut FaceAreas,
+    change: &SmallRecord,
+) -> Result<(), Memory>
     requires given { GivesInRange (edit_of change.now) }
     requires made { (m : Map) × Belongs change.now m (map_of draft.old) }
     requires rest { IsAtRest draft.old }
+    requires areas { HoldsAreas areas.old (map_of draft.old) }
     ensures before { OnOk result ((m : Map) → Belongs change.now m (map_of draft.old)
         → map_of draft.new ≡ m) }
     ensures err { OnErr result (map_of draft.new ≡ map_of draft.old) }
     ensures rest { IsAtRest draft.new }
+    ensures areas { HoldsAreas areas.new (map_of draft.new) }
     ensures work { (m : Map) → Belongs change.now m (map_of draft.old)
         → TakesWork draft.old.table draft.new.table (work_bound m (map_of draft.old)) }
 {
     let exchange = exchange_of(draft, change)?;
     draft.enter(&exchange.gone)?;
+    areas_back(areas, draft, change);
     match back_edit(draft, change) {
         Ok(()) => {
             draft.withdraw(&exchange.come);
             Ok(())
         }
         Err(memory) => {
+            areas.clear();
             draft.withdraw(&exchange.gone);
             Err(memory)
         }
     }
 }
 
-/// Goes from the map before an edit to the map after it. Where memory runs out the map stays.
-pub(crate) fn play_again<T: Tally>(draft: &mut Draft<T>, change: &SmallRecord) -> Result<(), Memory>
+/// Goes from the map before an edit to the map after it. Where memory runs out the map stays, and no
+/// area is kept.
+pub(crate) fn play_again<T: Tally>(
+    draft: &mut Draft<T>,
+    areas: &mut FaceAreas,
+    change: &SmallRecord,
+) -> Result<(), Memory>
     requires given { GivesInRange (edit_of change.now) }
     requires made { (n : Map) × Belongs change.now (map_of draft.old) n }
     requires rest { IsAtRest draft.old }
+    requires areas { HoldsAreas areas.old (map_of draft.old) }
     ensures after { OnOk result (map_of draft.new ≡ after (map_of draft.old) (edit_of change.now)) }
     ensures err { OnErr result (map_of draft.new ≡ map_of draft.old) }
     ensures rest { IsAtRest draft.new }
+    ensures areas { HoldsAreas areas.new (map_of draft.new) }
     ensures work { TakesWork draft.old.table draft.new.table
         (work_bound (map_of draft.old) (after (map_of draft.old) (edit_of change.now))) }
 {
     let exchange = exchange_of(draft, change)?;
     draft.enter(&exchange.come)?;
+    areas_again(areas, draft, change);
     match forward_edit(draft, change) {
         Ok(()) => {
             draft.withdraw(&exchange.gone);
             Ok(())
         }
         Err(memory) => {
+            areas.clear();
             draft.withdraw(&exchange.come);
             Err(memory)
         }

@@ -23,6 +23,7 @@ mod PlacedRings
 mod FaceShapes
 mod RingsInMap
 mod OutlineCounts
+mod AreasKept
 mod Passed
 mod RowsByNumber
 mod StringsTold

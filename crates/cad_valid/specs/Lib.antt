@@ -9,6 +9,7 @@ pub mod Near
 pub mod Seen
 pub mod Rays
 pub mod Outlines
+pub mod KeptAreas
 pub mod Extents
 pub mod Shapes
 pub mod Rings

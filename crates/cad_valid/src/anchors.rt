@@ -1,7 +1,7 @@
-//! Anchors of holes in the order of their heights, at which the sides of an outline are counted:
-//! each side at those alone whose height it spans.
+//! Positions in the order of their heights, at which the sides of an outline are counted: each side
+//! at those alone whose height it spans.
 ghost use Rattle.std.specs.Prelude.{◌≡◌, ◌≤◌, ◌<◌, ◌+ℤ◌, pos, [], length, map, IfOk};
-ghost use Rattle.std.specs.List.{list_all};
+ghost use Rattle.std.specs.List.{list_all, enumerate_from};
 ghost use Rattle.std.specs.List.Sorted.{IsPermutation, IsNonDecreasingBy, IsPartitionPoint};
 ghost use Rattle.geo_exact.specs.Inside.{is_inside};
 ghost use Rattle.geo_exact.specs.Position.{coordinate_limit};
@@ -14,10 +14,12 @@ use cad_rows::Memory;
 use geo_exact::{Pt, crosses};
 use std::alloc::Global;
 
-/// The anchor of a hole, and whether an odd number of the sides so far is counted there.
+/// A position, the place that it has among those asked of, and whether an odd number of the sides so
+/// far is counted there.
 #[derive(Clone, Copy, Debug)]
 pub(crate) struct Anchor {
     at: Pt,
+    place: usize,
     inside: bool,
 }
 
@@ -36,14 +38,15 @@ fn height(anchor: &Anchor) -> u64
     height_at(anchor.at)
 }
 
-// The anchors of these holes, with no side counted.
-fn anchors_of(alloc: Global, holes: &[PlacedRing]) -> Result<Vec<Anchor>, Memory>
-    ensures { IfOk result (λ anchors. anchors.items ≡ map (counted_at []) holes.now) }
+// The anchors at these positions, with no side counted.
+fn anchors_of(alloc: Global, positions: &[Pt]) -> Result<Vec<Anchor>, Memory>
+    ensures { IfOk result (λ anchors. anchors.items ≡ map (counted_at []) (enumerate_from 0 positions.now)) }
 {
-    let mut anchors = Vec::with_capacity(alloc, holes.len())?;
-    for hole in holes {
+    let mut anchors = Vec::with_capacity(alloc, positions.len())?;
+    for place in 0..positions.len() {
         anchors.push(Anchor {
-            at: hole.anchor(),
+            at: positions[place],
+            place,
             inside: false,
         })?;
     }
@@ -56,6 +59,14 @@ fn sort_up(anchors: &mut [Anchor])
     ensures rise { IsNonDecreasingBy height_of anchors.new }
 {
     anchors.sort_unstable_by_key(|anchor| height(anchor));
+}
+
+// Puts anchors back into the order of their places.
+fn sort_back(anchors: &mut [Anchor])
+    ensures same { IsPermutation anchors.old anchors.new }
+    ensures rise { IsNonDecreasingBy (λ a. a.place) anchors.new }
+{
+    anchors.sort_unstable_by_key(|anchor| anchor.place);
 }
 
 // How many of these anchors lie lower than a height, by halving.
@@ -74,6 +85,7 @@ fn with_side(anchor: &Anchor, a: Pt, b: Pt) -> Anchor
 {
     Anchor {
         at: anchor.at,
+        place: anchor.place,
         inside: anchor.inside != crosses(a, b, anchor.at),
     }
 }
@@ -91,11 +103,52 @@ fn count_side(anchors: &mut [Anchor], a: Pt, b: Pt)
     }
 }
 
-// Whether each of these anchors has been found inside.
-fn are_all_inside(anchors: &[Anchor]) -> bool
-    ensures { result ≡ list_all (λ a. a.inside) anchors.now }
+// Which of these anchors have been found inside.
+fn flags_of(alloc: Global, anchors: &[Anchor]) -> Result<Vec<bool>, Memory>
+    ensures { IfOk result (λ flags. flags.items ≡ map (λ a. a.inside) anchors.now) }
 {
-    anchors.iter().all(|anchor| anchor.inside)
+    let mut flags = Vec::with_capacity(alloc, anchors.len())?;
+    for anchor in anchors {
+        flags.push(anchor.inside)?;
+    }
+    Ok(flags)
+}
+
+/// Whether each of these positions is inside a closed list of sides: an odd number of them is counted
+/// there. Takes memory for the positions, and time for their sort and for each side with the positions
+/// whose height it spans.
+///
+/// # Errors
+/// Memory ran out.
+pub fn insides_of(alloc: Global, positions: &[Pt], sides: &[(Pt, Pt)]) -> Result<Vec<bool>, Memory>
+    ensures { IfOk result (λ each. each.items ≡ map (is_inside sides.now) positions.now) }
+{
+    let mut held = anchors_of(alloc, positions)?;
+    let anchors = held.as_mut_slice();
+    sort_up(anchors);
+    for (a, b) in sides {
+        count_side(anchors, *a, *b);
+    }
+    sort_back(anchors);
+    flags_of(alloc, anchors)
+}
+
+// Where the anchors of these holes are.
+fn positions_of(alloc: Global, holes: &[PlacedRing]) -> Result<Vec<Pt>, Memory>
+    ensures { IfOk result (λ positions. positions.items ≡ map (λ hole. hole.anchor) holes.now) }
+{
+    let mut positions = Vec::with_capacity(alloc, holes.len())?;
+    for hole in holes {
+        positions.push(hole.anchor())?;
+    }
+    Ok(positions)
+}
+
+// Whether all of these flags are true.
+fn are_all(flags: &[bool]) -> bool
+    ensures { result ≡ list_all (λ flag. flag) flags.now }
+{
+    flags.iter().all(|flag| *flag)
 }
 
 /// Whether the anchor of each of these holes is inside an outline. Takes memory for the anchors, and
@@ -107,11 +160,7 @@ pub(crate) fn are_each_inside(
 ) -> Result<bool, Memory>
     ensures { IfOk result (λ b. b ≡ list_all (λ hole. is_inside outline.now.sides hole.anchor) holes.now) }
 {
-    let mut held = anchors_of(alloc, holes)?;
-    let anchors = held.as_mut_slice();
-    sort_up(anchors);
-    for (a, b) in outline.sides() {
-        count_side(anchors, *a, *b);
-    }
-    Ok(are_all_inside(anchors))
+    let positions = positions_of(alloc, holes)?;
+    let insides = insides_of(alloc, positions.as_slice(), outline.sides())?;
+    Ok(are_all(insides.as_slice()))
 }

@@ -2,6 +2,7 @@
 #![tactic(auto)]
 
 mod anchors;
+mod areas;
 mod boxes;
 mod corners;
 mod crossings;
@@ -31,6 +32,8 @@ use crate::outlines::has_one_outline_each;
 use crate::outlines_by_runs::has_one_outline_each_by_runs;
 use crate::points::has_distinct_positions;
 use crate::swept::first_broken_of_places;
+pub use anchors::insides_of;
+pub use areas::FaceAreas;
 use cad_map::{MapView, PlainMap};
 use cad_rows::{Memory, Rule};
 pub use near::{Joined, Moved, Touched, first_broken_near};

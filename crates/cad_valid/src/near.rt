@@ -7,6 +7,7 @@ ghost use Rattle.cad_map.specs.Valid.{CanBeTested, Keeps, KeepsAll, FirstBroken}
 ghost use Rattle.cad_map.specs.Crossings.{HasPlacedRows};
 ghost use Rattle.cad_map.specs.Rings.{HasWholeRings};
 ghost use Rattle.cad_map.specs.Touched.{Touched as TouchedOf};
+ghost use Rattle.cad_valid.specs.KeptAreas.{HoldsAreas};
 ghost use Rattle.cad_valid.specs.Near.{HoldsMap, ComesFromValid, touched_of};
 ghost use Rattle.cad_valid.specs.Near.{AreUncrossed, HasEmptyCornersAt};
 ghost use Rattle.cad_valid.specs.Seen.{IsSeenAlone};
@@ -26,6 +27,7 @@ mod strings;
 mod turns;
 mod ways;
 
+use crate::areas::FaceAreas;
 use crate::near::corners::{are_empty_at, are_empty_at_ends, are_empty_round};
 use crate::near::faces::{FaceRules, rules_of_faces};
 use crate::near::many::are_many_uncrossed;
@@ -117,7 +119,8 @@ pub struct Touched {
 /// 32 bytes a side, with a box for each hole and at most three spans a box. Where there is no memory
 /// it does without and answers the same, by walks round each two of the rings. Where a point was moved
 /// that few strings have, a string was split or two were joined, and that is seen to leave the rings as
-/// they were to one another, only those that pass there are walked. At a touched point of
+/// they were to one another, only those that pass there are walked. Of a touched face of one ring the
+/// area is looked up in `areas`, and the ring is walked only where none is kept. At a touched point of
 /// more than eight strings these are laid out too and sorted by their directions, 32 bytes a string;
 /// without memory each corner there is compared with each of them. Where a point was moved, of the other
 /// strings at the far end of one of its own only the two next to that are looked at, if it is still seen
@@ -135,10 +138,12 @@ pub fn first_broken_near<M: MapView>(
     alloc: Global,
     map: &M,
     grid: &CellGrid,
+    areas: &FaceAreas,
     touched: &Touched,
 ) -> Option<Rule>
     requires tested { CanBeTested (M.map map.now) }
     requires held { HoldsMap grid.now (M.map map.now) }
+    requires areas { HoldsAreas areas.now (M.map map.now) }
     requires touched { ComesFromValid (touched_of touched.now) (M.map map.now) }
     ensures broken { IfSome result (FirstBroken (M.map map.now)) }
     ensures kept { IfNone result (KeepsAll (M.map map.now)) }
@@ -149,7 +154,7 @@ pub fn first_broken_near<M: MapView>(
     if !has_empty_corners(alloc, map, touched) {
         return Some(Rule::V6);
     }
-    let rules = rules_near(alloc, map, grid, touched);
+    let rules = rules_near(alloc, map, grid, areas, touched);
     if !rules.outlines {
         return Some(Rule::V7);
     }
@@ -299,9 +304,16 @@ fn has_empty_corners_beside<M: MapView>(alloc: Global, map: &M, touched: &Touche
 
 /// Whether each parcel has one outline and the outside none, and whether the holes of each face are in
 /// place. A face that wasn't touched has its own from before, and in their places.
-fn rules_near<M: MapView>(alloc: Global, map: &M, grid: &CellGrid, touched: &Touched) -> FaceRules
+fn rules_near<M: MapView>(
+    alloc: Global,
+    map: &M,
+    grid: &CellGrid,
+    areas: &FaceAreas,
+    touched: &Touched,
+) -> FaceRules
     requires whole { HasWholeRings (M.map map.now) }
     requires held { HoldsMap grid.now (M.map map.now) }
+    requires areas { HoldsAreas areas.now (M.map map.now) }
     requires touched { ComesFromValid (touched_of touched.now) (M.map map.now) }
     ensures outlines { IsTrue result.outlines ↔ Keeps (M.map map.now) V7 }
     ensures holes { IsTrue result.holes ↔ Keeps (M.map map.now) V8 }
@@ -310,6 +322,7 @@ fn rules_near<M: MapView>(alloc: Global, map: &M, grid: &CellGrid, touched: &Tou
         alloc,
         map,
         grid,
+        areas,
         touched.faces.as_slice(),
         touched.moved.as_ref(),
         touched.joined.as_ref(),

@@ -1,14 +1,25 @@
 //! The rings of a face, each walked along its sides.
-ghost use Rattle.std.specs.Prelude.{◌≡◌, ◌<◌, length, IsTrue};
+ghost use Rattle.std.specs.Prelude.{◌≡◌, ◌↔◌, ◌<◌, length, IsTrue};
 ghost use Rattle.geo_exact.specs.Measure.{doubled_area};
 ghost use Rattle.geo_exact.specs.Inside.{is_inside};
 ghost use Rattle.cad_rings.specs.Cycle.{anchor_of as anchor_of_ring, placed, sides_of};
-ghost use Rattle.cad_map.specs.Map.{rings_at, position_of, has_point, sum_of_ring, is_positive, is_negative};
+ghost use Rattle.cad_map.specs.Boundaries.{canonical_order};
+ghost use Rattle.cad_map.specs.Map.{rings_at, rings_of, position_of, has_point, sum_of_ring, is_positive, is_negative};
 ghost use Rattle.cad_map.specs.Rings.{HasWholeRings, ring_at};
 
 use cad_map::{MapView, Walk, position};
 use cad_rows::{Face, PointNo};
 use geo_exact::{Pt, crosses};
+
+/// Whether a face has one ring, and no more.
+#[tactic(auto, using(crate::proofs::AreasKept::rings_counted))]
+pub(crate) fn has_one_ring<M: MapView>(map: &M, face: &Face) -> bool
+    ensures one { IsTrue result ↔ (length (rings_of (M.map map.now) face.now) ≡ 1) }
+    // The rings are those of the map.
+    ensures canonical_order { canonical_order (M.rings map.now) ≡ (M.map map.now).boundaries }
+{
+    map.ring_count(*face) == 1
+}
 
 /// Whether a ring of a face has positive doubled area.
 pub(crate) fn is_outline<M: MapView>(map: &M, face: &Face, place: usize) -> bool

@@ -9,3 +9,8 @@ pub mod ChainSpans
 pub mod GridRecords
 pub mod TouchedLists
 pub mod SharedStrings
+pub mod AreaGains
+pub mod AreaSides
+pub mod AreasLeft
+pub mod AreaRecords
+pub mod AreaNumbers

@@ -5,3 +5,4 @@ pub mod Exchanged
 pub mod GridEdits
 pub mod GridLists
 pub mod Told
+pub mod Recut

@@ -2,6 +2,7 @@
 //! that it is of, and what that edit touches of a map and of its grid.
 #![tactic(auto)]
 
+mod areas;
 mod grid;
 mod grid_edits;
 mod grid_lists;
@@ -11,6 +12,7 @@ mod record;
 mod shared_strings;
 mod touched;
 
+pub use areas::{areas_again, areas_back, recut_by, return_areas, turn_areas};
 pub use grid::{enter, grid_of, withdraw};
 pub use grid_edits::{at, coming, going};
 pub use grid_lists::span_between;

@@ -4,6 +4,7 @@ ghost use Rattle.std.specs.Prelude.{◌≡◌, ◌≤◌, length};
 ghost use Rattle.cad_map.specs.Effects.{after};
 ghost use Rattle.cad_map.specs.Valid.{IsValid, CanBeTested};
 ghost use Rattle.cad_laws.specs.Tried.{IsTried};
+ghost use Rattle.cad_valid.specs.KeptAreas.{HoldsAreas};
 ghost use Rattle.cad_valid.specs.Near.{HoldsMap, ComesFromValid, touched_of};
 
 use crate::counted::Counted;
@@ -15,11 +16,11 @@ use crate::plans_after::{DIVIDED, DIVIDED_ISLAND, JOINED};
 use crate::plans_enclosed::{FREE_CORNERS, WITH_FRAME};
 use cad_edit::try_edit;
 use cad_map::{MapView, PlainMap};
-use cad_rows::{Edit, Memory, Rule};
+use cad_rows::{Edit, Face, Memory, Rule};
 use cad_surgery::touched_by;
-use cad_valid::{Touched, first_broken, first_broken_near};
+use cad_valid::{FaceAreas, Touched, first_broken, first_broken_near};
 use cell_grid::CellGrid;
-use edit_records::grid_of;
+use edit_records::{grid_of, turn_areas};
 use std::alloc::Global;
 use std::process::Abort;
 use std::test::Fail;
@@ -49,14 +50,33 @@ struct Told {
     by_place: u64,
 }
 
+/// The areas of those of these faces that have one ring on a map.
+fn areas_of(alloc: Global, map: &PlainMap, faces: &[Face]) -> FaceAreas
+    requires { IsValid map.now }
+    ensures { HoldsAreas result map.now }
+{
+    let mut areas = FaceAreas::none(alloc, map.hash());
+    for face in faces {
+        areas.keep_of(map, face);
+    }
+    areas
+}
+
 /// What the near check tells.
-fn told_near(alloc: Global, made: &PlainMap, grid: &CellGrid, touched: &Touched) -> Told
+fn told_near(
+    alloc: Global,
+    made: &PlainMap,
+    grid: &CellGrid,
+    areas: &FaceAreas,
+    touched: &Touched,
+) -> Told
     requires tested { CanBeTested made.now }
     requires held { HoldsMap grid.now made.now }
+    requires areas { HoldsAreas areas.now made.now }
     requires touched { ComesFromValid (touched_of touched.now) made.now }
 {
     let view = Counted::new(made);
-    let rule = first_broken_near(alloc, &view, grid, touched);
+    let rule = first_broken_near(alloc, &view, grid, areas, touched);
     let (calls, by_place) = view.counted();
     Told {
         rule,
@@ -92,7 +112,9 @@ fn told_after(
 {
     let grid = grid_of(alloc, made)?;
     let touched = touched_by(alloc, before, edit)?;
-    Ok(told_near(alloc, made, &grid, &touched))
+    let mut areas = areas_of(alloc, before, touched.faces.as_slice());
+    turn_areas(&mut areas, before, edit, &touched);
+    Ok(told_near(alloc, made, &grid, &areas, &touched))
 }
 
 /// How often the near check asks of the map that an edit makes. Fails where it tells another rule than the whole one, or

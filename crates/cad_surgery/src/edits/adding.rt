@@ -15,7 +15,7 @@ use crate::edits::given::{NewParcel, first_and_rest};
 use crate::edits::hidden::drop_hidden;
 use crate::edits::merging::Way;
 use cad_rows::{Memory, ParcelRow, Refusal, StringRow};
-use cad_valid::{Touched, first_broken_near};
+use cad_valid::{FaceAreas, Touched, first_broken_near};
 use half_table::{Half, HalfTable, Tally};
 use key_lists::KeyLists;
 use map_parts::{MapRows, Spoke, begin_divide, begin_enclose, open, undivide};
@@ -99,9 +99,10 @@ pub(crate) fn add_within_rules<T: Tally>(
     course: &Course<'_>,
     strings: Vec<StringRow>,
     parcel: ParcelRow,
+    areas: &FaceAreas,
     touched: &Touched,
 ) -> Result<(), Refusal>
-    requires ready { IsReadyFor (edit_by course.now.way new.now) draft.old touched.now }
+    requires ready { IsReadyFor (edit_by course.now.way new.now) draft.old areas.now touched.now }
     requires comes { Comes course.now.way (map_of draft.old) draft.old.table.rows new.now
         strings.items parcel course.now.path.now course.now.moved.now }
     ensures { IsPlayed (edit_by course.now.way new.now) draft.old draft.new result }
@@ -119,7 +120,7 @@ pub(crate) fn add_within_rules<T: Tally>(
         return Err(Refusal::Memory);
     };
     let alloc = draft.rows.points.allocator();
-    if let Some(rule) = first_broken_near(alloc, draft, draft.grid(), touched) {
+    if let Some(rule) = first_broken_near(alloc, draft, draft.grid(), areas, touched) {
         take_out(
             &mut draft.rows,
             &mut draft.table,

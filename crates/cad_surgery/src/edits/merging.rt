@@ -17,7 +17,7 @@ use crate::edits::counted::is_work_in_range;
 use crate::edits::given::first_and_rest;
 use crate::edits::hidden::drop_hidden;
 use cad_rows::{Face, Memory, ParcelNo, Refusal, StringNo};
-use cad_valid::{Touched, first_broken_near};
+use cad_valid::{FaceAreas, Touched, first_broken_near};
 use half_table::{Half, HalfTable, Tally};
 use key_lists::KeyLists;
 use map_parts::{
@@ -119,12 +119,13 @@ fn unmerge<T: Tally>(
 pub(crate) fn merge_within_rules<T: Tally>(
     draft: &mut Draft<T>,
     merger: &Merger<'_>,
+    areas: &FaceAreas,
     touched: &Touched,
 ) -> Result<EndedParcel, Refusal>
     requires shared { HasShared merger.now.way (map_of draft.old) draft.old.table.rows
         merger.now.kept merger.now.ended merger.now.path.now merger.now.moved.now }
     requires strings { merger.now.strings.now ≡ strings_of merger.now.path.now }
-    requires ready { IsReadyFor (merged_by merger.now) draft.old touched.now }
+    requires ready { IsReadyFor (merged_by merger.now) draft.old areas.now touched.now }
     ensures played { IsPlayed (merged_by merger.now) draft.old draft.new result }
     ensures gone { IfOk result (λ r. HaveGone (map_of draft.old) merger.now.ended
         merger.now.strings.now r.row r.place r.strings.items) }
@@ -139,7 +140,7 @@ pub(crate) fn merge_within_rules<T: Tally>(
         return Err(Refusal::Memory);
     };
     let alloc = draft.rows.points.allocator();
-    if let Some(rule) = first_broken_near(alloc, draft, draft.grid(), touched) {
+    if let Some(rule) = first_broken_near(alloc, draft, draft.grid(), areas, touched) {
         unmerge(
             &mut draft.rows,
             &mut draft.table,

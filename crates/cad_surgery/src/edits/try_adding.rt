@@ -12,7 +12,7 @@ use crate::edits::counted::is_work_in_range;
 use crate::edits::given::{Given, Kept, NewParcel, given_by};
 use crate::edits::merging::Way;
 use cad_rows::{Edit, Refusal};
-use cad_valid::Touched;
+use cad_valid::{FaceAreas, Touched};
 use edit_records::SmallRecord;
 use half_table::Tally;
 
@@ -52,9 +52,10 @@ fn add_recording<T: Tally>(
     new: &NewParcel<'_>,
     kept: Kept,
     coming: Coming,
+    areas: &FaceAreas,
     touched: &Touched,
 ) -> Result<SmallRecord, Refusal>
-    requires ready { IsReadyFor (edit_by coming.lead.way new.now) draft.old touched.now }
+    requires ready { IsReadyFor (edit_by coming.lead.way new.now) draft.old areas.now touched.now }
     requires comes { Comes coming.lead.way (map_of draft.old) draft.old.table.rows new.now
         coming.strings.items coming.parcel coming.lead.path.items coming.lead.moved.items }
     requires kept { kept ≡ kept_by new.now }
@@ -67,7 +68,7 @@ fn add_recording<T: Tally>(
         lead,
     } = coming;
     let course = course_of(&lead);
-    add_within_rules(draft, new, &course, strings, parcel, touched)?;
+    add_within_rules(draft, new, &course, strings, parcel, areas, touched)?;
     Ok(record_of_parcel(new, kept, lead))
 }
 
@@ -76,10 +77,11 @@ fn add_recording<T: Tally>(
 pub(crate) fn try_adding<T: Tally>(
     draft: &mut Draft<T>,
     edit: &Edit,
+    areas: &FaceAreas,
     touched: &Touched,
 ) -> Result<SmallRecord, Refusal>
     requires parcel { BringsParcel edit.now }
-    requires ready { IsReadyFor edit.now draft.old touched.now }
+    requires ready { IsReadyFor edit.now draft.old areas.now touched.now }
     ensures { IsTrialOf edit.now draft.old draft.new result }
 {
     let Ok(given) = given_by(edit) else {
@@ -89,5 +91,5 @@ pub(crate) fn try_adding<T: Tally>(
     let Ok(coming) = coming_by(draft, kind, &new) else {
         return Err(Refusal::Memory);
     };
-    add_recording(draft, &new, kept, coming, touched)
+    add_recording(draft, &new, kept, coming, areas, touched)
 }

@@ -17,7 +17,7 @@ use crate::edits::counted::is_work_in_range;
 use crate::edits::hidden::drop_hidden;
 use crate::edits::joining::{Joining, are_far_ends_joined, joining_at};
 use cad_rows::{Memory, PointNo, Refusal, Rule, StringNo};
-use cad_valid::{Touched, first_broken_near};
+use cad_valid::{FaceAreas, Touched, first_broken_near};
 use edit_records::SmallRecord;
 use half_table::Tally;
 use map_parts::{JoinedRows, begin_join, begin_unjoin, forward, half_from, half_to, unjoin};
@@ -28,9 +28,10 @@ fn join_within_rules<T: Tally>(
     draft: &mut Draft<T>,
     point: PointNo,
     joining: Joining,
+    areas: &FaceAreas,
     touched: &Touched,
 ) -> Result<JoinedRows, Refusal>
-    requires ready { IsReadyFor (Join point joining.row.number) draft.old touched.now }
+    requires ready { IsReadyFor (Join point joining.row.number) draft.old areas.now touched.now }
     requires apart { FarEndsAreApart (map_of draft.old) (Join point joining.row.number) }
     requires rows { IsJoiningAt (map_of draft.old) point joining }
     ensures played { IsPlayed (Join point joining.row.number) draft.old draft.new result }
@@ -53,7 +54,7 @@ fn join_within_rules<T: Tally>(
         return Err(Refusal::Memory);
     };
     let alloc = draft.rows.points.allocator();
-    if let Some(rule) = first_broken_near(alloc, draft, draft.grid(), touched) {
+    if let Some(rule) = first_broken_near(alloc, draft, draft.grid(), areas, touched) {
         unjoin(
             &mut draft.rows,
             &mut draft.table,
@@ -95,9 +96,10 @@ pub(crate) fn try_join<T: Tally>(
     draft: &mut Draft<T>,
     point: PointNo,
     string: StringNo,
+    areas: &FaceAreas,
     touched: &Touched,
 ) -> Result<SmallRecord, Refusal>
-    requires { IsReadyFor (Join point string) draft.old touched.now }
+    requires { IsReadyFor (Join point string) draft.old areas.now touched.now }
     ensures { IsTrialOf (Join point string) draft.old draft.new result }
 {
     if are_far_ends_joined(draft, point) {
@@ -106,7 +108,7 @@ pub(crate) fn try_join<T: Tally>(
     let Ok(joining) = joining_at(draft, point, string) else {
         return Err(Refusal::Memory);
     };
-    match join_within_rules(draft, point, joining, touched) {
+    match join_within_rules(draft, point, joining, areas, touched) {
         Ok(joined) => Ok(record_of_join(joined, string)),
         Err(refusal) => Err(refusal),
     }

@@ -15,7 +15,7 @@ use crate::edits::merging::{Merger, Way, merge_within_rules};
 use crate::edits::shared::{Shared, shared_by};
 use cad_map::{SharedChain, find_shared_chain};
 use cad_rows::{Face, ParcelNo, ParcelRow, Refusal};
-use cad_valid::Touched;
+use cad_valid::{FaceAreas, Touched};
 use edit_records::{ChainString, SmallRecord};
 use half_table::Tally;
 use map_parts::EndedParcel;
@@ -64,9 +64,10 @@ fn merge_recording<T: Tally>(
     kept: Face,
     ended: ParcelNo,
     chain: SharedChain,
+    areas: &FaceAreas,
     touched: &Touched,
 ) -> Result<SmallRecord, Refusal>
-    requires ready { IsReadyFor (Merge kept (Parcel ended)) draft.old touched.now }
+    requires ready { IsReadyFor (Merge kept (Parcel ended)) draft.old areas.now touched.now }
     requires shared { IsSharedChain (map_of draft.old) kept (Parcel ended) chain }
     ensures { IsTrialOf (Merge kept (Parcel ended)) draft.old draft.new result }
 {
@@ -86,7 +87,7 @@ fn merge_recording<T: Tally>(
         strings: shared.strings.as_slice(),
         moved: shared.moved.as_slice(),
     };
-    let gone = merge_within_rules(draft, &merger, touched)?;
+    let gone = merge_within_rules(draft, &merger, areas, touched)?;
     let EndedParcel {
         row,
         place,
@@ -102,14 +103,15 @@ pub(crate) fn try_merge<T: Tally>(
     draft: &mut Draft<T>,
     kept: Face,
     ended: Face,
+    areas: &FaceAreas,
     touched: &Touched,
 ) -> Result<SmallRecord, Refusal>
-    requires { IsReadyFor (Merge kept ended) draft.old touched.now }
+    requires { IsReadyFor (Merge kept ended) draft.old areas.now touched.now }
     ensures { IsTrialOf (Merge kept ended) draft.old draft.new result }
 {
     let Face::Parcel(parcel) = ended else {
         unreachable!()
     };
     let chain = find_shared_chain(draft, &kept, &ended).unwrap();
-    merge_recording(draft, kept, parcel, chain, touched)
+    merge_recording(draft, kept, parcel, chain, areas, touched)
 }

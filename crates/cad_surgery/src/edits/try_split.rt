@@ -16,7 +16,7 @@ use crate::draft::Draft;
 use crate::edits::counted::is_work_in_range;
 use crate::edits::hidden::drop_hidden;
 use cad_rows::{Memory, Numbers, PointNo, PointRow, Refusal, StringNo, StringRow};
-use cad_valid::{Touched, first_broken_near};
+use cad_valid::{FaceAreas, Touched, first_broken_near};
 use edit_records::SmallRecord;
 use geo_exact::Pt;
 use half_table::Tally;
@@ -74,9 +74,10 @@ fn split_within_rules<T: Tally>(
     string: StringNo,
     halving: &Halving,
     coming: SplitRows,
+    areas: &FaceAreas,
     touched: &Touched,
 ) -> Result<(usize, StringRow), Refusal>
-    requires ready { IsReadyFor (split_by string halving.now) draft.old touched.now }
+    requires ready { IsReadyFor (split_by string halving.now) draft.old areas.now touched.now }
     requires rows { (row : StringRowOf) → string_of (map_of draft.old) string ≡ Some row
         → coming ≡ split_rows row halving.now }
     ensures played { IsPlayed (split_by string halving.now) draft.old draft.new result }
@@ -97,7 +98,7 @@ fn split_within_rules<T: Tally>(
         return Err(Refusal::Memory);
     };
     let alloc = draft.rows.points.allocator();
-    if let Some(rule) = first_broken_near(alloc, draft, draft.grid(), touched) {
+    if let Some(rule) = first_broken_near(alloc, draft, draft.grid(), areas, touched) {
         unsplit(
             &mut draft.rows,
             &mut draft.table,
@@ -122,15 +123,16 @@ pub(crate) fn try_split<T: Tally>(
     draft: &mut Draft<T>,
     string: StringNo,
     halving: &Halving,
+    areas: &FaceAreas,
     touched: &Touched,
 ) -> Result<SmallRecord, Refusal>
-    requires { IsReadyFor (split_by string halving.now) draft.old touched.now }
+    requires { IsReadyFor (split_by string halving.now) draft.old areas.now touched.now }
     ensures { IsTrialOf (split_by string halving.now) draft.old draft.new result }
 {
     let Ok(coming) = rows_of_split(&draft.rows, &string, halving) else {
         return Err(Refusal::Memory);
     };
-    let (place, row) = split_within_rules(draft, string, halving, coming, touched)?;
+    let (place, row) = split_within_rules(draft, string, halving, coming, areas, touched)?;
     Ok(SmallRecord::Split {
         row,
         place,

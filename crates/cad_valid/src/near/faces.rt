@@ -1,23 +1,27 @@
 //! Whether touched faces have their outlines, and their holes in place.
 ghost use Rattle.std.specs.Prelude.{◌≡◌, ◌↔◌, ◌<◌, ◌≤◌, ◌*◌, IsTrue, length, map as map_of, IfOk, IfSome};
 ghost use Rattle.std.specs.List.{AllByRecursion};
+ghost use Rattle.geo_exact.specs.Measure.{doubled_area};
 ghost use Rattle.cad_rows.specs.Limits.{string_limit};
 ghost use Rattle.cad_map.specs.Boundaries.{canonical_order};
-ghost use Rattle.cad_map.specs.Map.{rings_at, position_of};
+ghost use Rattle.cad_map.specs.Map.{Map, rings_at, rings_of, position_of, sum_of_face};
 ghost use Rattle.cad_map.specs.Rings.{HasWholeRings, ring_at};
 ghost use Rattle.cad_valid.specs.Joins.{JoinsValid};
+ghost use Rattle.cad_valid.specs.KeptAreas.{HoldsAreas};
 ghost use Rattle.cad_valid.specs.Moves.{MovesValid};
 ghost use Rattle.cad_valid.specs.Near.{HoldsMap};
 ghost use Rattle.cad_valid.specs.Near.{OfFace, HasOutlines, HasSoundHoles};
 ghost use Rattle.cad_valid.specs.Near.{outlines_wanted as outlines_wanted_of, rules_of};
 ghost use Rattle.cad_valid.specs.Shapes.{shape_of, told_apart};
 
+use crate::areas::FaceAreas;
 use crate::face_shapes::FaceShapes;
 use crate::holes::has_sound_holes;
 use crate::near::joins::joins_face;
 use crate::near::moves::leaves_face;
 use crate::near::{Joined, Moved};
-use crate::outlines::has_outlines;
+use crate::outlines::{OutlineCount, has_outlines};
+use crate::rings::has_one_ring;
 use crate::shapes::PlacedRing;
 use cad_map::{MapView, Walk, has_face};
 use cad_rows::{Face, Memory};
@@ -42,12 +46,14 @@ pub(crate) fn rules_of_faces<M: MapView>(
     alloc: Global,
     map: &M,
     grid: &CellGrid,
+    areas: &FaceAreas,
     faces: &[Face],
     moved: Option<&Moved>,
     joined: Option<&Joined>,
 ) -> FaceRules
     requires whole { HasWholeRings (M.map map.now) }
     requires held { HoldsMap grid.now (M.map map.now) }
+    requires areas { HoldsAreas areas.now (M.map map.now) }
     requires moved { IfSome moved (λ v. MovesValid (M.map map.now) v.now) }
     requires joined { IfSome joined (λ j. JoinsValid (M.map map.now) j.now) }
     ensures outlines { IsTrue result.outlines
@@ -58,7 +64,7 @@ pub(crate) fn rules_of_faces<M: MapView>(
     let mut outlines = true;
     let mut holes = true;
     for face in faces {
-        let rules = rules_of_face_if_there(alloc, map, grid, face, moved, joined);
+        let rules = rules_of_face_if_there(alloc, map, grid, areas, face, moved, joined);
         outlines &= rules.outlines;
         holes &= rules.holes;
     }
@@ -71,12 +77,14 @@ fn rules_of_face_if_there<M: MapView>(
     alloc: Global,
     map: &M,
     grid: &CellGrid,
+    areas: &FaceAreas,
     face: &Face,
     moved: Option<&Moved>,
     joined: Option<&Joined>,
 ) -> FaceRules
     requires whole { HasWholeRings (M.map map.now) }
     requires held { HoldsMap grid.now (M.map map.now) }
+    requires areas { HoldsAreas areas.now (M.map map.now) }
     requires moved { IfSome moved (λ v. MovesValid (M.map map.now) v.now) }
     requires joined { IfSome joined (λ j. JoinsValid (M.map map.now) j.now) }
     ensures outlines { IsTrue result.outlines
@@ -91,7 +99,7 @@ fn rules_of_face_if_there<M: MapView>(
             holes: true,
         };
     }
-    let rules = rules_of_face(alloc, map, face, many);
+    let rules = rules_of_face(alloc, map, areas, face, many);
     FaceRules {
         outlines: rules.outlines || !has_face(map, face),
         holes: rules.holes || !has_face(map, face),
@@ -103,16 +111,51 @@ fn rules_of_face_if_there<M: MapView>(
 /// Many are walked once and laid out in memory, so that of holes only those are compared whose boxes
 /// overlap. Where there are few, and where memory runs out, they are walked again for each question:
 /// that takes none, and a time that grows with the square of their number.
-fn rules_of_face<M: MapView>(alloc: Global, map: &M, face: &Face, many: bool) -> FaceRules
-    requires { HasWholeRings (M.map map.now) }
+fn rules_of_face<M: MapView>(
+    alloc: Global,
+    map: &M,
+    areas: &FaceAreas,
+    face: &Face,
+    many: bool,
+) -> FaceRules
+    requires whole { HasWholeRings (M.map map.now) }
+    requires areas { HoldsAreas areas.now (M.map map.now) }
     ensures { result ≡ rules_of (M.map map.now) face.now }
 {
     if !many {
-        return rules_by_walks(map, face);
+        return rules_of_few(map, areas, face);
     }
     match rules_by_shapes(alloc, map, face) {
         Ok(rules) => rules,
         Err(_) => rules_by_walks(map, face),
+    }
+}
+
+/// What the few rings of a face tell. Of one alone the area is the face's, and is looked up.
+fn rules_of_few<M: MapView>(map: &M, areas: &FaceAreas, face: &Face) -> FaceRules
+    requires whole { HasWholeRings (M.map map.now) }
+    requires areas { HoldsAreas areas.now (M.map map.now) }
+    ensures { result ≡ rules_of (M.map map.now) face.now }
+{
+    if has_one_ring(map, face) {
+        if let Some(area) = areas.get(face) {
+            return rules_of_one_ring(face, area);
+        }
+    }
+    rules_by_walks(map, face)
+}
+
+/// What the one ring of a face tells by its doubled area, which is the face's. It is no hole of
+/// another, and has none.
+fn rules_of_one_ring(face: &Face, area: i128) -> FaceRules
+    ensures { (m : Map) → length (rings_of m face.now) ≡ 1
+        → area ≡ sum_of_face doubled_area m face.now → result ≡ rules_of m face.now }
+{
+    let mut outlines = OutlineCount::none();
+    outlines.add(area);
+    FaceRules {
+        outlines: outlines.is(outlines_wanted(face)),
+        holes: true,
     }
 }
 

@@ -7,6 +7,9 @@ use Rattle.cad_map.specs.Outcome.{out_of_memory}
 use Rattle.cad_map.specs.Valid.{IsValid}
 use Rattle.cad_map.specs.Touched.{IsTouched}
 use Rattle.cad_laws.specs.Tried.{IsTried}
+use Rattle.cad_map.specs.Rings.{HasWholeRings}
+use Rattle.cad_map.proofs.CallerLemmas.{whole_valid}
+use Rattle.cad_valid.specs.KeptAreas.{HoldsAreas}
 use Rattle.cad_valid.specs.Near.{HoldsMap, touched_of}
 use Rattle.cad_surgery.proofs.Played.{listed}
 use Rattle.cad_map.specs.Costs.{work_bound}
@@ -29,6 +32,19 @@ returns-in_default-enter-clause-rest g c =
     rests c.args.draft.now c.enter.new.self c.enter.ensures.beside c.requires.rest.proper m refl
     (c.in_default-enter.ensures.err m c.requires.rest.grid)
 
+pub turn_areas-requires-clause-tried : goal.turn_areas-requires-clause-tried
+turn_areas-requires-clause-tried g c =
+    subst (λ n. IsTried n c.args.edit.now) (sym (same-map c.args.draft.now c.enter.new.self c.enter.ensures.beside)) c.requires.tried
+
+pub turn_areas-requires-clause-touched : goal.turn_areas-requires-clause-touched
+turn_areas-requires-clause-touched g c =
+    subst (λ n. IsTouched n (after n c.args.edit.now) (touched_of c.in-Ok.plan.touched))
+    (sym (same-map c.args.draft.now c.enter.new.self c.enter.ensures.beside)) c.in-Ok.ensures.touched
+
+pub turn_areas-requires-clause-held : goal.turn_areas-requires-clause-held
+turn_areas-requires-clause-held g c =
+    subst (HoldsAreas c.args.areas.now) (sym (same-map c.args.draft.now c.enter.new.self c.enter.ensures.beside)) c.requires.areas
+
 pub try_edit-requires : goal.try_edit-requires
 try_edit-requires g c =
     let m = map_of c.args.draft.now in
@@ -40,6 +56,7 @@ try_edit-requires g c =
     record {
       tried = subst (λ n. IsTried n e) same c.requires.tried;
       held = subst (λ n. HoldsMap c.enter.new.self.grid (after n e)) same (both-holds c.enter.new.self.grid m (after m e) both);
+      areas = c.turn_areas.ensures;
       touched = subst (λ n. IsTouched n (after n e) (touched_of c.in-Ok.plan.touched)) same c.in-Ok.ensures.touched;
       proper = same-proper c.args.draft.now c.enter.new.self c.enter.ensures.beside c.requires.rest.proper;
     }
@@ -97,3 +114,43 @@ pub returns-clause-work : goal.returns-clause-work
 returns-clause-work g c =
     let same = same-map c.args.draft.now c.enter.new.self c.enter.ensures.beside in
     worked c.args.draft.now c.enter.new.self c.try_edit.new.draft c.withdraw-in-Err.new.self c.enter.ensures.beside c.withdraw-in-Err.ensures.beside (λ i. work_bound (same i) (after (same i) c.args.edit.now)) c.try_edit.ensures.played.made.work
+
+-- ---- Areas
+
+pub returns-in_default-enter-clause-areas : goal.returns-in_default-enter-clause-areas
+returns-in_default-enter-clause-areas g c =
+    subst (HoldsAreas c.args.areas.now) (sym (same-map c.args.draft.now c.enter.new.self c.enter.ensures.beside)) c.requires.areas
+
+pub keep_bent-requires : goal.keep_bent-requires
+keep_bent-requires g c =
+    subst HasWholeRings (sym (same-map c.try_edit.new.draft c.withdraw.new.self c.withdraw.ensures.beside))
+    (whole_valid (map_of c.try_edit.new.draft) c.in-Ok-try_edit.ensures.played.valid)
+
+pub returns-in-Ok-try_edit-clause-areas : goal.returns-in-Ok-try_edit-clause-areas
+returns-in-Ok-try_edit-clause-areas g c =
+    c.keep_bent.ensures (subst (HoldsAreas c.turn_areas.new.areas)
+    (sym (same-map c.try_edit.new.draft c.withdraw.new.self c.withdraw.ensures.beside ∙ c.in-Ok-try_edit.ensures.played.made.becomes)) c.turn_areas.ensures)
+
+pub return_areas-requires-clause-tried : goal.return_areas-requires-clause-tried
+return_areas-requires-clause-tried g c =
+    subst (λ n. IsTried n c.args.edit.now)
+    (sym (c.in-Err.ensures.played.made.err ∙ same-map c.args.draft.now c.enter.new.self c.enter.ensures.beside)) c.requires.tried
+
+pub return_areas-requires-clause-touched : goal.return_areas-requires-clause-touched
+return_areas-requires-clause-touched g c =
+    subst (λ n. IsTouched n (after n c.args.edit.now) (touched_of c.in-Ok.plan.touched))
+    (sym (c.in-Err.ensures.played.made.err ∙ same-map c.args.draft.now c.enter.new.self c.enter.ensures.beside)) c.in-Ok.ensures.touched
+
+pub return_areas-requires-clause-held : goal.return_areas-requires-clause-held
+return_areas-requires-clause-held g c =
+    subst (λ n. HoldsAreas c.turn_areas.new.areas (after n c.args.edit.now)) (sym c.in-Err.ensures.played.made.err) c.turn_areas.ensures
+
+pub keep_bent-requires-in-Err : goal.keep_bent-requires-in-Err
+keep_bent-requires-in-Err g c =
+    subst HasWholeRings (sym (grid.stayed c.args.draft.now c.enter.new.self c.try_edit.new.draft c.withdraw-in-Err.new.self c.enter.ensures.beside c.in-Err.ensures.played.made.err c.withdraw-in-Err.ensures.beside))
+    (whole_valid (map_of c.args.draft.now) c.requires.tried.valid)
+
+pub returns-clause-areas : goal.returns-clause-areas
+returns-clause-areas g c =
+    c.keep_bent-in-Err.ensures (subst (HoldsAreas c.return_areas.new.areas)
+    (sym (same-map c.try_edit.new.draft c.withdraw-in-Err.new.self c.withdraw-in-Err.ensures.beside)) c.return_areas.ensures)

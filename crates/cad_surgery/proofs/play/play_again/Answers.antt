@@ -3,7 +3,9 @@ use Rattle.cad_map.specs.Costs.{work_bound}
 use Rattle.cad_map.specs.Effects.{after}
 use Rattle.cad_map.specs.Map.{Map}
 use Rattle.edit_records.specs.Record.{edit_of, Belongs}
+use Rattle.cad_valid.specs.KeptAreas.{HoldsAreas}
 use Rattle.map_parts.specs.Parts.{map_of}
+use Rattle.cad_surgery.proofs.KeptAreas.{none-holds}
 use Rattle.cad_surgery.proofs.Entered as grid
 use Rattle.cad_surgery.proofs.GridSteps.{same-map, same-proper, same-table, rests, exchange-on, tried-of, made-by, idle, worked}
 use Rattle.cad_surgery.proofs.play.play_again.Goals as goal
@@ -71,3 +73,28 @@ pub returns-clause-work : goal.returns-clause-work
 returns-clause-work g c =
     let same = same-map c.args.draft.now c.enter.new.self c.enter.ensures.beside in
     worked c.args.draft.now c.enter.new.self c.forward_edit.new.draft c.withdraw-in-Err.new.self c.enter.ensures.beside c.withdraw-in-Err.ensures.beside (λ i. work_bound (same i) (after (same i) (edit_of c.args.change.now))) c.forward_edit.ensures.work
+
+-- ---- Areas
+
+pub returns-in_err-enter-clause-areas : goal.returns-in_err-enter-clause-areas
+returns-in_err-enter-clause-areas g c =
+    subst (HoldsAreas c.args.areas.now) (sym (same-map c.args.draft.now c.enter.new.self c.enter.ensures.beside)) c.requires.areas
+
+pub areas_again-requires-clause-made : goal.areas_again-requires-clause-made
+areas_again-requires-clause-made g c =
+    (c.requires.made.0, subst (λ (m : Map). Belongs c.args.change.now m c.requires.made.0) (sym (same-map c.args.draft.now c.enter.new.self c.enter.ensures.beside)) c.requires.made.1)
+
+pub areas_again-requires-clause-held : goal.areas_again-requires-clause-held
+areas_again-requires-clause-held g c =
+    subst (HoldsAreas c.args.areas.now) (sym (same-map c.args.draft.now c.enter.new.self c.enter.ensures.beside)) c.requires.areas
+
+pub returns-in-Ok-clause-areas : goal.returns-in-Ok-clause-areas
+returns-in-Ok-clause-areas g c =
+    let n = c.requires.made.0 in
+    let belongs = subst (λ (m : Map). Belongs c.args.change.now m n) (sym (same-map c.args.draft.now c.enter.new.self c.enter.ensures.beside)) c.requires.made.1 in
+    subst (HoldsAreas c.areas_again.new.areas)
+    (belongs.leads.is ∙ sym (same-map c.forward_edit.new.draft c.withdraw.new.self c.withdraw.ensures.beside ∙ c.in-Ok.ensures.becomes))
+    (c.areas_again.ensures n belongs)
+
+pub returns-clause-areas : goal.returns-clause-areas
+returns-clause-areas g c = none-holds c.clear.new.self (map_of c.withdraw-in-Err.new.self) c.clear.ensures

@@ -1,7 +1,9 @@
 use Rattle.std.proofs.Common.{◌∙◌, subst, sym, refl, inr}
 use Rattle.cad_map.specs.Costs.{work_bound}
 use Rattle.edit_records.specs.Record.{Belongs}
+use Rattle.cad_valid.specs.KeptAreas.{HoldsAreas}
 use Rattle.map_parts.specs.Parts.{map_of}
+use Rattle.cad_surgery.proofs.KeptAreas.{none-holds}
 use Rattle.cad_surgery.proofs.Entered as grid
 use Rattle.cad_surgery.proofs.GridSteps.{same-map, same-proper, same-table, rests, exchange-off, tried-of, made-by, idle, worked}
 use Rattle.cad_surgery.proofs.play.play_back.Goals as goal
@@ -71,3 +73,28 @@ pub returns-clause-work : goal.returns-clause-work
 returns-clause-work g c m belongs =
     let same = same-map c.args.draft.now c.enter.new.self c.enter.ensures.beside in
     worked c.args.draft.now c.enter.new.self c.back_edit.new.draft c.withdraw-in-Err.new.self c.enter.ensures.beside c.withdraw-in-Err.ensures.beside (λ i. work_bound m (same i)) (c.back_edit.ensures.work m (subst (Belongs c.args.change.now m) (sym same) belongs))
+
+-- ---- Areas
+
+pub returns-in_err-enter-clause-areas : goal.returns-in_err-enter-clause-areas
+returns-in_err-enter-clause-areas g c =
+    subst (HoldsAreas c.args.areas.now) (sym (same-map c.args.draft.now c.enter.new.self c.enter.ensures.beside)) c.requires.areas
+
+pub areas_back-requires-clause-made : goal.areas_back-requires-clause-made
+areas_back-requires-clause-made g c =
+    (c.requires.made.0, subst (Belongs c.args.change.now c.requires.made.0) (sym (same-map c.args.draft.now c.enter.new.self c.enter.ensures.beside)) c.requires.made.1)
+
+pub areas_back-requires-clause-held : goal.areas_back-requires-clause-held
+areas_back-requires-clause-held g c =
+    subst (HoldsAreas c.args.areas.now) (sym (same-map c.args.draft.now c.enter.new.self c.enter.ensures.beside)) c.requires.areas
+
+pub returns-in-Ok-clause-areas : goal.returns-in-Ok-clause-areas
+returns-in-Ok-clause-areas g c =
+    let b = c.requires.made.0 in
+    let belongs = subst (Belongs c.args.change.now b) (sym (same-map c.args.draft.now c.enter.new.self c.enter.ensures.beside)) c.requires.made.1 in
+    subst (HoldsAreas c.areas_back.new.areas)
+    (sym (same-map c.back_edit.new.draft c.withdraw.new.self c.withdraw.ensures.beside ∙ c.in-Ok.ensures.before b belongs))
+    (c.areas_back.ensures b belongs)
+
+pub returns-clause-areas : goal.returns-clause-areas
+returns-clause-areas g c = none-holds c.clear.new.self (map_of c.withdraw-in-Err.new.self) c.clear.ensures

@@ -16,7 +16,7 @@ try_split-requires g c =
     let e = c.in-Split in
     let m = map_of c.args.draft.now in
     let same = same-split m c.args.edit.now e.string e.point e.x e.y e.first e.second c.at-position.result c.requires.tried e.is c.at-position.ensures in
-    subst (λ d. IsReadyFor d c.args.draft.now c.args.touched.now) (sym same) c.requires
+    subst (λ d. IsReadyFor d c.args.draft.now c.args.areas.now c.args.touched.now) (sym same) c.requires
 
 pub returns-in-Split : goal.returns-in-Split
 returns-in-Split g c =

@@ -3,6 +3,7 @@ use Rattle.std.proofs.lemmas.Result.{on_ok_weaker}
 use Rattle.cad_map.specs.Effects.{after}
 use Rattle.cad_map.specs.Outcome.{refused, out_of_memory, breaking}
 use Rattle.cad_map.specs.Touched.{IsTouched}
+use Rattle.cad_valid.specs.KeptAreas.{HoldsAreas}
 use Rattle.cad_valid.specs.Near.{HoldsMap, touched_of}
 use Rattle.cad_map.specs.Valid.{IsValid, CanBeTested, FirstBroken, KeepsAll}
 use Rattle.cad_map.proofs.CallerLemmas.{valid-from_kept}
@@ -29,6 +30,10 @@ first_broken_near-requires-clause-held g c =
     subst (λ grid. HoldsMap grid (map_of c.make_rows.new.self)) (sym c.grid.ensures)
     (subst (HoldsMap c.make_rows.new.self.grid) (sym c.in-Ok.ensures.made)
     (subst (λ grid. HoldsMap grid (after (map_of c.args.draft.now) c.args.edit.now)) (sym c.make_rows.ensures.beside.grid) c.requires.held))
+
+pub first_broken_near-requires-clause-areas : goal.first_broken_near-requires-clause-areas
+first_broken_near-requires-clause-areas g c =
+    subst (HoldsAreas c.args.areas.now) (sym c.in-Ok.ensures.made) c.requires.areas
 
 pub first_broken_near-requires-clause-touched : goal.first_broken_near-requires-clause-touched
 first_broken_near-requires-clause-touched g c = record {

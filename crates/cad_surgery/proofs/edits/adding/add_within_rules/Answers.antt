@@ -47,6 +47,11 @@ first_broken_near-requires-clause-held g c =
     near.near-held c.requires.ready (new.stands c.draft.inside c.draft.view_is c.draft.invariant c.args.new.now c.args.course.now c.args.strings.items c.args.parcel c.requires.ready.tried c.requires.ready.proper c.requires.comes
     c.in-Ok.ensures) _ _ c.grid.ensures (ap (λ (d : Parts). d.grid) c.draft.view_is)
 
+pub first_broken_near-requires-clause-areas : goal.first_broken_near-requires-clause-areas
+first_broken_near-requires-clause-areas g c =
+    near.near-areas c.requires.ready (new.stands c.draft.inside c.draft.view_is c.draft.invariant c.args.new.now c.args.course.now c.args.strings.items c.args.parcel c.requires.ready.tried c.requires.ready.proper c.requires.comes
+    c.in-Ok.ensures)
+
 pub first_broken_near-requires-clause-touched : goal.first_broken_near-requires-clause-touched
 first_broken_near-requires-clause-touched g c =
     near.near-touched c.requires.ready (new.stands c.draft.inside c.draft.view_is c.draft.invariant c.args.new.now c.args.course.now c.args.strings.items c.args.parcel c.requires.ready.tried c.requires.ready.proper c.requires.comes

@@ -47,6 +47,11 @@ first_broken_near-requires-clause-held g c =
     near.near-held c.requires.ready (merge.stands c.draft.inside c.draft.view_is c.draft.invariant c.args.merger.now c.requires.ready.proper c.requires.shared c.requires.strings
     c.in-Ok.ensures.begun) _ _ c.grid.ensures (ap (λ (d : Parts). d.grid) c.draft.view_is)
 
+pub first_broken_near-requires-clause-areas : goal.first_broken_near-requires-clause-areas
+first_broken_near-requires-clause-areas g c =
+    near.near-areas c.requires.ready (merge.stands c.draft.inside c.draft.view_is c.draft.invariant c.args.merger.now c.requires.ready.proper c.requires.shared c.requires.strings
+    c.in-Ok.ensures.begun)
+
 pub first_broken_near-requires-clause-touched : goal.first_broken_near-requires-clause-touched
 first_broken_near-requires-clause-touched g c =
     near.near-touched c.requires.ready (merge.stands c.draft.inside c.draft.view_is c.draft.invariant c.args.merger.now c.requires.ready.proper c.requires.shared c.requires.strings

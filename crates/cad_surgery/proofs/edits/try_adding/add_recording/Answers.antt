@@ -12,7 +12,7 @@ use Rattle.cad_surgery.proofs.edits.try_adding.add_recording.Goals as goal
 
 pub add_within_rules-requires-clause-ready : goal.add_within_rules-requires-clause-ready
 add_within_rules-requires-clause-ready g c =
-    subst (λ (w : Way). IsReadyFor (edit_by w c.args.new.now) c.args.draft.now c.args.touched.now) (sym c.course_of-course.ensures.way) c.requires.ready
+    subst (λ (w : Way). IsReadyFor (edit_by w c.args.new.now) c.args.draft.now c.args.areas.now c.args.touched.now) (sym c.course_of-course.ensures.way) c.requires.ready
 
 pub add_within_rules-requires-clause-comes : goal.add_within_rules-requires-clause-comes
 add_within_rules-requires-clause-comes g c =

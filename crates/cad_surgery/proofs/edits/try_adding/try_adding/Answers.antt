@@ -18,7 +18,7 @@ returns-in_default-coming_by g c = stays _ _ _ _ c.requires.ready (out_of_memory
 
 pub add_recording-requires-clause-ready : goal.add_recording-requires-clause-ready
 add_recording-requires-clause-ready g c =
-    subst (λ (e : Edit). IsReadyFor e c.args.draft.now c.args.touched.now) (sym (c.in-Ok-coming_by.ensures.edit ∙ c.in-Ok.ensures.edit)) c.requires.ready
+    subst (λ (e : Edit). IsReadyFor e c.args.draft.now c.args.areas.now c.args.touched.now) (sym (c.in-Ok-coming_by.ensures.edit ∙ c.in-Ok.ensures.edit)) c.requires.ready
 
 pub returns : goal.returns
 returns g c =

@@ -64,6 +64,12 @@ first_broken_near-requires-clause-held g c =
     c.in-Ok.ensures.fits))
     _ _ c.grid.ensures (ap (λ (d : Parts). d.grid) c.draft.view_is)
 
+pub first_broken_near-requires-clause-areas : goal.first_broken_near-requires-clause-areas
+first_broken_near-requires-clause-areas g c =
+    near.near-areas c.requires.ready (stand-for c.draft.inside.grid (join.gone-through c.draft.inside c.draft.view_is c.draft.invariant c.args.point c.args.joining
+    c.requires.ready.tried c.requires.apart c.requires.rows c.requires.ready.proper c.begin_join.new.table
+    c.in-Ok.ensures.fits))
+
 pub first_broken_near-requires-clause-touched : goal.first_broken_near-requires-clause-touched
 first_broken_near-requires-clause-touched g c =
     near.near-touched c.requires.ready (stand-for c.draft.inside.grid (join.gone-through c.draft.inside c.draft.view_is c.draft.invariant c.args.point c.args.joining

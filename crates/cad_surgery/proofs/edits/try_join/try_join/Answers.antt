@@ -33,7 +33,7 @@ returns-in_default g c = stays _ _ _ _ c.requires (out_of_memory c.requires.trie
 
 pub join_within_rules-requires-clause-ready : goal.join_within_rules-requires-clause-ready
 join_within_rules-requires-clause-ready g c =
-    subst (λ (i : ℕ). IsReadyFor (Join c.args.point i) c.args.draft.now c.args.touched.now)
+    subst (λ (i : ℕ). IsReadyFor (Join c.args.point i) c.args.draft.now c.args.areas.now c.args.touched.now)
     (sym (draft.joining-number (map_of c.args.draft.now) c.args.point c.args.string c.requires.tried c.in-Ok.joining c.in-Ok.ensures)) c.requires
 
 pub join_within_rules-requires-clause-apart : goal.join_within_rules-requires-clause-apart

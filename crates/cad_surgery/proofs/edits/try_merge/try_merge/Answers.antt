@@ -29,7 +29,7 @@ unwrap-chain-requires g c =
 
 pub merge_recording-requires-clause-ready : goal.merge_recording-requires-clause-ready
 merge_recording-requires-clause-ready g c =
-    subst (λ (f : Face). IsReadyFor (Merge c.args.kept f) c.args.draft.now c.args.touched.now) c.in-Parcel.is c.requires
+    subst (λ (f : Face). IsReadyFor (Merge c.args.kept f) c.args.draft.now c.args.areas.now c.args.touched.now) c.in-Parcel.is c.requires
 
 pub returns : goal.returns
 returns g c =

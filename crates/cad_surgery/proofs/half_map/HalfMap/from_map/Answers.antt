@@ -2,9 +2,10 @@ use Rattle.std.proofs.Common.{◌∙◌, subst, sym, ap}
 use Rattle.cad_map.specs.Map.{Map, has_string}
 use Rattle.cad_map.specs.Rings.{HasWholeRings}
 use Rattle.cad_map.proofs.CallerLemmas.{whole_valid}
-use Rattle.map_parts.specs.Parts.{kept_at}
+use Rattle.map_parts.specs.Parts.{map_of, kept_at}
 use Rattle.cad_surgery.specs.Proper.{IsProper}
 use Rattle.edit_records.specs.Gridded.{IsGridOf}
+use Rattle.cad_surgery.proofs.KeptAreas.{none-holds}
 use Rattle.cad_surgery.proofs.ProperParts.{proper}
 use Rattle.cad_surgery.proofs.half_map.HalfMap.from_map.Goals as goal
 
@@ -14,9 +15,15 @@ invariant_of-result g c =
     let is = c.in_ok-draft.ensures.is in
     let whole = subst HasWholeRings (sym is) (whole_valid c.args.map c.requires) in
     record {
-      proper = proper d c.in_ok-draft.ensures.fit whole (λ h. c.in_ok-draft.ensures.halves h ∙ ap (λ (m : Map). has_string m h.string) (sym is));
-      grid = subst (IsGridOf d.grid) (sym is) c.in_ok-draft.ensures.grid;
+      rest = record {
+        proper = proper d c.in_ok-draft.ensures.fit whole (λ h. c.in_ok-draft.ensures.halves h ∙ ap (λ (m : Map). has_string m h.string) (sym is));
+        grid = subst (IsGridOf d.grid) (sym is) c.in_ok-draft.ensures.grid;
+      };
+      areas = c.keep_areas.ensures (none-holds c.none-areas.result (map_of d) c.none-areas.ensures);
     }
+
+pub keep_areas-requires : goal.keep_areas-requires
+keep_areas-requires g c = subst HasWholeRings (sym c.in_ok-draft.ensures.is) (whole_valid c.args.map c.requires)
 
 pub returns-clause-proper : goal.returns-clause-proper
 returns-clause-proper g c =

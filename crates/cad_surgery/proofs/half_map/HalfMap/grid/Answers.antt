@@ -9,4 +9,4 @@ pub returns-clause-held : goal.returns-clause-held
 returns-clause-held g c =
     subst (λ (d : Parts). HoldsMap c.grid.result.now (map_of d)) c.self.view_is
     (subst (λ (h : Grid). HoldsMap h (map_of c.self.inside.draft)) (sym c.grid.ensures)
-    (holds-map _ _ c.self.invariant.grid))
+    (holds-map _ _ c.self.invariant.rest.grid))
