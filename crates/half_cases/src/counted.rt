@@ -14,6 +14,7 @@ pub(crate) struct Counted<'a, M: MapView> {
     inner: &'a M,
     calls: Cell<u64>,
     by_place: Cell<u64>,
+    areas: Cell<u64>,
 }
 
 impl<'a, M: MapView> Counted<'a, M> {
@@ -24,12 +25,13 @@ impl<'a, M: MapView> Counted<'a, M> {
             inner,
             calls: Cell::new(0),
             by_place: Cell::new(0),
+            areas: Cell::new(0),
         }
     }
 
-    /// How many calls there were, and how many of them by place.
-    pub(crate) fn counted(&self) -> (u64, u64) {
-        (self.calls.get(), self.by_place.get())
+    /// How many calls there were, how many of them by place, and how many for the area of a ring.
+    pub(crate) fn counted(&self) -> (u64, u64, u64) {
+        (self.calls.get(), self.by_place.get(), self.areas.get())
     }
 
     fn count(&self) {
@@ -156,6 +158,7 @@ impl<M: MapView> MapView for Counted<'_, M> {
     }
 
     fn ring_area(&self, face: Face, place: usize) -> i128 {
+        self.areas.set(self.areas.get().saturating_add(1));
         self.count();
         self.inner.ring_area(face, place)
     }

@@ -9,7 +9,8 @@ ghost use Rattle.cad_valid.specs.Near.{HoldsMap, ComesFromValid, touched_of};
 
 use crate::counted::Counted;
 use crate::far::{
-    Corners, LOW, POINTED, ROUND_NEXT, TALL, far_plan, with_first_island, with_islands, with_petals,
+    Corners, LOW, POINTED, ROUND_NEXT, TALL, far_plan, long_lot, with_first_island, with_islands,
+    with_petals,
 };
 use crate::plans::{ISLAND, Plan, SQUARE, SQUARE_RECORDS, edit_of, map_of, text_of};
 use crate::plans_after::{DIVIDED, DIVIDED_ISLAND, JOINED};
@@ -42,12 +43,13 @@ const WITH_CORNER: Plan = &[SQUARE_RECORDS, CORNER_RECORDS];
 /// The same with that island.
 const WITH_ISLAND_IN_CORNER: Plan = &[SQUARE_RECORDS, CORNER_RECORDS, ISLAND_IN_CORNER];
 
-/// What a check told of a map, and how often it asked: at all, and for a row by its place.
+/// What a check told of a map, and how often it asked: at all, for a row by its place, and for the area of a ring.
 #[derive(Drop)]
 struct Told {
     rule: Option<Rule>,
     calls: u64,
     by_place: u64,
+    areas: u64,
 }
 
 /// The areas of those of these faces that have one ring on a map.
@@ -77,11 +79,12 @@ fn told_near(
 {
     let view = Counted::new(made);
     let rule = first_broken_near(alloc, &view, grid, areas, touched);
-    let (calls, by_place) = view.counted();
+    let (calls, by_place, areas) = view.counted();
     Told {
         rule,
         calls,
         by_place,
+        areas,
     }
 }
 
@@ -91,11 +94,12 @@ fn told_whole(made: &PlainMap) -> Told
 {
     let view = Counted::new(made);
     let rule = first_broken(&view);
-    let (calls, by_place) = view.counted();
+    let (calls, by_place, areas) = view.counted();
     Told {
         rule,
         calls,
         by_place,
+        areas,
     }
 }
 
@@ -399,6 +403,24 @@ fn a_split_and_a_join_among_many_rings_are_told_as_others(rt: HostRuntime) -> Re
     check_first_island(&rt, POINTED, "join,12,900", None)?;
     // The new side closes the island that goes round the next one.
     check_first_island(&rt, ROUND_NEXT, "join,12,900", Some(Rule::V8))
+}
+
+/// How often the near check alone asks for the area of a ring of the map that an edit of a plan makes.
+fn areas_asked<R: Abort + AllocGlobal>(rt: &R, plan: &str, edit: &str) -> Result<u64, Fail> {
+    let map = map_of(rt.alloc(), plan)?;
+    let edit = edit_of(rt.alloc(), edit)?;
+    Ok(told_of_edit(rt.alloc(), &map, &edit)?.areas)
+}
+
+#[test]
+fn an_area_that_is_kept_is_not_added_up_again(rt: HostRuntime) -> Result<(), Fail> {
+    let lot = long_lot(rt.alloc(), 40)?;
+    for edit in ["move,5,50,-3,,,", "split,5,900,55,-3,901,902", "join,5,900"] {
+        assert_eq!(rt; areas_asked(&rt, lot.as_str(), edit)?, 0);
+    }
+    // No area of a parcel that comes is kept before it is there.
+    assert!(rt; areas_asked(&rt, lot.as_str(), "divide,1,5 76,900,2,B,1")? > 0);
+    Ok(())
 }
 
 #[test]
