@@ -4,7 +4,7 @@ use Rattle.std.specs.Prelude.{IfSome}
 use Rattle.geo_exact.specs.Measure.{doubled_area}
 use Rattle.cad_rows.specs.declared.names.Face.{Face}
 use Rattle.cad_map.specs.Map.{Map, sum_of_face}
-use Rattle.cad_valid.specs.KeptAreas.{KeptAreas, HoldsAreas, area_at}
+use Rattle.cad_near.specs.KeptAreas.{KeptAreas, HoldsAreas, area_at}
 
 -- where none is kept, each that is kept is a face's
 pub none-holds : (kept : KeptAreas) (m : Map) → ((f : Face) → area_at kept f ≡ None) → HoldsAreas kept m

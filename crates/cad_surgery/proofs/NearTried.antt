@@ -10,9 +10,9 @@ use Rattle.cad_map.specs.Outcome.{MayRefuse, refused, breaking}
 use Rattle.cad_map.specs.Touched.{IsTouched}
 use Rattle.cad_map.specs.Valid.{IsValid, CanBeTested, FirstBroken, KeepsAll}
 use Rattle.cad_map.proofs.CallerLemmas.{valid-from_kept}
-use Rattle.cad_valid.specs.KeptAreas.{KeptAreas, HoldsAreas}
-use Rattle.cad_valid.specs.Near.{HoldsMap, ComesFromValid, touched_of}
-use Rattle.cad_valid.specs.declared.near.Touched.{Touched as Listed}
+use Rattle.cad_near.specs.KeptAreas.{KeptAreas, HoldsAreas}
+use Rattle.cad_near.specs.Near.{HoldsMap, ComesFromValid, touched_of}
+use Rattle.cad_near.specs.declared.Touched.{Touched as Listed}
 use Rattle.map_parts.specs.Parts.{Parts, map_of}
 use Rattle.cad_surgery.specs.Trials.{IsReadyFor}
 use Rattle.cad_surgery.proofs.Played.{tested}

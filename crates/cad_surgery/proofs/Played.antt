@@ -12,7 +12,7 @@ use Rattle.cell_grid.specs.Together.{Listed}
 use Rattle.cad_laws.specs.Touching.{touching, touched_by}
 use Rattle.cad_laws.specs.Tried.{IsTried}
 use Rattle.cad_laws.proofs.CallerLemmas.{touched-after}
-use Rattle.cad_valid.proofs.CallerLemmas.{kept-untouched}
+use Rattle.cad_near.proofs.CallerLemmas.{kept-untouched}
 use Rattle.edit_records.specs.Exchanged.{IsExchange}
 use Rattle.edit_records.specs.GridEdits.{gone_by, come_by}
 use Rattle.edit_records.specs.GridLists.{AreEntries}

@@ -14,8 +14,8 @@ use Rattle.cad_map.specs.Costs.{work_bound}
 use Rattle.cad_map.specs.Effects.{after}
 use Rattle.cad_map.specs.Map.{Map}
 use Rattle.cad_map.specs.Outcome.{MayRefuse}
-use Rattle.cad_valid.specs.KeptAreas.{KeptAreas}
-use Rattle.cad_valid.specs.declared.near.Touched.{Touched}
+use Rattle.cad_near.specs.KeptAreas.{KeptAreas}
+use Rattle.cad_near.specs.declared.Touched.{Touched}
 use Rattle.map_parts.specs.Parts.{Parts, map_of, kept_at}
 use Rattle.cad_surgery.specs.Proper.{IsProper}
 use Rattle.cad_surgery.specs.Trials.{IsReadyFor, IsMade, IsPlayed, IsTrialOf, IsTakenBack}

@@ -1,5 +1,5 @@
 -- A map on half-edges between two edits.
-use Rattle.cad_valid.specs.KeptAreas.{KeptAreas, HoldsAreas}
+use Rattle.cad_near.specs.KeptAreas.{KeptAreas, HoldsAreas}
 use Rattle.map_parts.specs.Parts.{Parts, map_of, kept_at}
 use Rattle.cad_surgery.specs.Proper.{IsProper}
 use Rattle.edit_records.specs.Gridded.{IsGridOf}

@@ -9,9 +9,9 @@ use Rattle.cad_map.specs.Outcome.{MayRefuse}
 use Rattle.cad_map.specs.Touched.{IsTouched}
 use Rattle.cad_map.specs.Valid.{IsValid}
 use Rattle.cad_laws.specs.Tried.{IsTried}
-use Rattle.cad_valid.specs.KeptAreas.{KeptAreas, HoldsAreas}
-use Rattle.cad_valid.specs.Near.{HoldsMap, touched_of}
-use Rattle.cad_valid.specs.declared.near.Touched.{Touched}
+use Rattle.cad_near.specs.KeptAreas.{KeptAreas, HoldsAreas}
+use Rattle.cad_near.specs.Near.{HoldsMap, touched_of}
+use Rattle.cad_near.specs.declared.Touched.{Touched}
 use Rattle.edit_records.specs.Record.{edit_of, Holds}
 use Rattle.edit_records.specs.declared.record.SmallRecord.{SmallRecord}
 use Rattle.map_parts.specs.Parts.{Parts, map_of, kept_at}

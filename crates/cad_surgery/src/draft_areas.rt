@@ -1,14 +1,14 @@
 //! The areas of long rings, kept beside a map on half-edges.
 ghost use Rattle.std.specs.Prelude.{◌≡◌, true};
 ghost use Rattle.cad_map.specs.Rings.{HasWholeRings};
-ghost use Rattle.cad_valid.specs.KeptAreas.{HoldsAreas};
+ghost use Rattle.cad_near.specs.KeptAreas.{HoldsAreas};
 ghost use Rattle.half_table.specs.Rows.{has};
 ghost use Rattle.map_parts.specs.Parts.{map_of};
 
 use crate::draft::Draft;
 use cad_map::PlainMap;
+use cad_near::{FaceAreas, Touched};
 use cad_rows::{Edit, Face, Memory};
-use cad_valid::{FaceAreas, Touched};
 use half_table::{Half, HalfTable, Tally};
 use map_parts::kept_half;
 use std::alloc::Global;

@@ -1,7 +1,7 @@
 //! A map on half-edges.
 ghost use Rattle.std.specs.Prelude.{◌≡◌, IfOk};
 ghost use Rattle.cad_map.specs.Valid.{IsValid};
-ghost use Rattle.cad_valid.specs.Near.{HoldsMap};
+ghost use Rattle.cad_near.specs.Near.{HoldsMap};
 ghost use Rattle.edit_records.specs.Gridded.{IsGridOf};
 ghost use Rattle.map_parts.specs.Parts.{map_of, kept_at};
 ghost use Rattle.cad_surgery.specs.Proper.{IsProper};
@@ -9,10 +9,10 @@ ghost use Rattle.cad_surgery.specs.Proper.{IsProper};
 use crate::draft::Draft;
 use crate::draft_areas::{faces_of_long_rings, keep_areas};
 use cad_map::{Counts, MapView, PlainMap, Span};
+use cad_near::FaceAreas;
 use cad_rows::{
     Face, Memory, ParcelNo, ParcelRow, PointNo, PointRow, SourceNo, SourceRow, StringNo, StringRow,
 };
-use cad_valid::FaceAreas;
 use cell_grid::CellGrid;
 use half_table::{HalfTable, Tally};
 use std::alloc::Global;

@@ -8,8 +8,8 @@ ghost use Rattle.cad_map.specs.Outcome.{MayRefuse};
 ghost use Rattle.cad_map.specs.Touched.{IsTouched};
 ghost use Rattle.cad_map.specs.Valid.{IsValid};
 ghost use Rattle.cad_laws.specs.Tried.{IsTried};
-ghost use Rattle.cad_valid.specs.KeptAreas.{HoldsAreas};
-ghost use Rattle.cad_valid.specs.Near.{HoldsMap, touched_of};
+ghost use Rattle.cad_near.specs.KeptAreas.{HoldsAreas};
+ghost use Rattle.cad_near.specs.Near.{HoldsMap, touched_of};
 ghost use Rattle.cad_surgery.specs.AtRest.{IsAtRest};
 ghost use Rattle.edit_records.specs.GridEdits.{gone_by, come_by};
 ghost use Rattle.edit_records.specs.GridLists.{AreEntries, IsBeside};
@@ -26,8 +26,8 @@ use crate::edits::try_adding::try_adding;
 use crate::edits::try_join::{back_join, forward_join, try_join};
 use crate::edits::try_merge::try_merge;
 use crate::edits::try_split::{Halving, back_split, forward_split, try_split};
+use cad_near::{FaceAreas, Touched, first_broken_near};
 use cad_rows::{Edit, Memory, Refusal};
-use cad_valid::{FaceAreas, Touched, first_broken_near};
 use cell_grid::Entries;
 use edit_records::{
     SmallRecord, areas_again, areas_back, at, coming, going, return_areas, touched_by, turn_areas,

@@ -1,7 +1,7 @@
 -- Each corner of a map's rings is met once by the side before it, which is a side of a string.
 use Rattle.std.proofs.Common.{◌≡◌, refl, sym, ap, ◌∙◌, List, [], ◌∷◌, Bool, true, false, Some}
 use Rattle.std.proofs.lemmas.List.Folds.{list_all-map}
-use Rattle.std.specs.Prelude.{◌&&◌, flat_map}
+use Rattle.std.specs.Prelude.{IsTrue, ◌↔◌, ◌&&◌, flat_map}
 use Rattle.std.specs.List.{Contains, list_all, list_any}
 use Rattle.cad_rows.specs.declared.rows.StringRow.{StringRow}
 use Rattle.cad_rings.specs.Cycle.{Side, is_side, opposite, Corner}
@@ -9,7 +9,7 @@ use Rattle.cad_map.specs.Map.{Map, side_of, is_end, all_sides, all_corners, stri
 use Rattle.cad_valid.specs.Corners.{corner_after}
 use Rattle.cad_map.specs.Valid.{is_empty_corner, has_empty_corners}
 use Rattle.cad_map.specs.Views.{IsNoSide}
-use Rattle.cad_map.proofs.CallerLemmas.{list_all-filter, list_all-same, list_all-IsPermutation, find-none, side_before, sides_in-before, corner-found, two-each, distinct-whole}
+use Rattle.cad_map.proofs.CallerLemmas.{list_all-at, list_all-from, list_all-filter, list_all-same, list_all-IsPermutation, find-none, side_before, sides_in-before, corner-found, two-each, distinct-whole}
 use Rattle.cad_map.specs.Rings.{HasWholeRings}
 use Rattle.cad_valid.specs.Corners.{is_clear_of, is_empty_after, are_empty_beside}
 
@@ -18,6 +18,21 @@ use Rattle.cad_valid.specs.Corners.{is_clear_of, is_empty_after, are_empty_besid
 -- the strings that a corner has to be clear of
 pub empty-from_strings : (m : Map) (c : Corner) → is_empty_corner m c ≡ list_all (is_clear_of m c) m.strings
 empty-from_strings m c = list_all-filter (λ s. is_end s c.at) _ m.strings
+
+-- a string that isn't at the corner's point is clear of it
+pub clear-far : (m : Map) (c : Corner) (s : StringRow) → (IsTrue (is_end s c.at) → IsTrue (is_clear_of m c s)) → IsTrue (is_clear_of m c s)
+clear-far m c s near = by (is_end s c.at) refl
+  where
+    by : (b : Bool) → is_end s c.at ≡ b → IsTrue (is_clear_of m c s)
+    by true is = near is
+    by false is = rw is refl
+
+-- a corner is empty where each string is clear of it
+pub empty-is : (m : Map) (c : Corner) → (is_empty_corner m c ≡ true) ↔ ((s : StringRow) → Contains m.strings s → IsTrue (is_clear_of m c s))
+empty-is m c = (
+  (λ empty s h. list_all-at (is_clear_of m c) m.strings s (sym (empty-from_strings m c) ∙ empty) h),
+  (λ each. empty-from_strings m c ∙ list_all-from (is_clear_of m c) m.strings each),
+)
 
 module _ (m : Map) (whole : HasWholeRings m) where
   -- the corner after the side before it

@@ -13,7 +13,7 @@ use Rattle.cad_map.specs.Valid.{each_pair, has_outlines, are_holes_inside, are_h
 use Rattle.cad_map.proofs.CallerLemmas.{list_all-same, IsOfRing, IsOfTwoRings, TestAlike, rings_at-canonical_order, list_all-filter, list_all-none, each_pair-filter}
 use Rattle.cad_valid.specs.Outlines.{is_either}
 use Rattle.cad_valid.specs.Holes.{has_inside_if_outline, is_inside_if_hole, are_apart, is_apart_if_hole, is_apart_from_holes, are_apart_if_holes}
-use Rattle.cad_valid.proofs.StraightRings.{inside-permuted}
+use Rattle.cad_valid.proofs.InsideBox.{inside-permuted}
 
 module _ (m : Map) where
   -- ---- Where a ring is written from doesn't matter

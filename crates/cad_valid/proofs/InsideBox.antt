@@ -1,9 +1,10 @@
--- What is inside a ring is inside the box of the ring.
+-- What is inside a ring is inside the box of the ring, in whatever order its sides are counted.
 use Rattle.std.proofs.Common.{◌≡◌, ℕ, ◌+◌, ◌%◌, refl, sym, ap, ◌∙◌, List, [], ◌∷◌, Bool, true, false, not, cond, nat_eq, true≢false, ℤ, pos, ◌+ℤ◌, ◌-ℤ◌, ◌*ℤ◌, neg_ℤ, ◌≤ℤ◌, ◌<ℤ◌, arith}
-use Rattle.std.specs.Prelude.{◌&&◌, ◌||◌, int_le, int_lt, count_by}
+use Rattle.std.specs.Prelude.{IsPermutation, ◌&&◌, ◌||◌, int_le, int_lt, count_by}
 use Rattle.std.specs.List.{AllByRecursion}
 use Rattle.std.proofs.lemmas.Bool.{eqb-true, eqb-false}
 use Rattle.std.proofs.lemmas.Int.{ints, by_lt_z}
+use Rattle.std.proofs.lemmas.List.Sorted.{IsPermutation-map, sum_by-IsPermutation}
 use Rattle.std.proofs.lemmas.List.Sums.{sum_by-cons}
 use Rattle.geo_exact.specs.Position.{Position}
 use Rattle.geo_exact.specs.Orientation.{orientation, is_left}
@@ -12,7 +13,7 @@ use Rattle.geo_exact.proofs.Toolbox.{by_parts, var, num, ◌⊞◌, ◌⊟◌, �
 use Rattle.geo_exact.specs.Position.{coordinate_limit}
 use Rattle.sweep.specs.declared.extent.Extent.{Extent}
 use Rattle.cad_valid.specs.Extents.{IsWithin}
-use Rattle.cad_rings.specs.Cycle.{Ring, sides_along, sides_of, placed}
+use Rattle.cad_rings.specs.Cycle.{Ring, Side, sides_along, sides_of, placed}
 
 -- ---- One side
 
@@ -91,6 +92,14 @@ inside-cons side sides q =
     by : (b : Bool) (n : ℕ) → nat_eq ((cond b 1 0 + n) % 2) 1 ≡ differ b (nat_eq (n % 2) 1)
     by true n = odd n (nat_eq (n % 2) 1) (nat_eq ((1 + n) % 2) 1) refl refl
     by false n = ap (λ (k : ℕ). nat_eq (k % 2) 1) (omega arith)
+
+-- in whatever order sides are counted, the position is inside or not
+pub inside-permuted : (position : ℕ → Position) (q : Position) (xs ys : List Side) → IsPermutation xs ys
+    → is_inside (placed position xs) q ≡ is_inside (placed position ys) q
+inside-permuted position q xs ys same =
+    let place : Side → Position × Position = λ t. (position t.0, position t.1) in
+    let counted : Position × Position → ℕ = λ side. cond (is_counted side.0 side.1 q) 1 0 in
+    ap (λ (n : ℕ). nat_eq (n % 2) 1) (sym (sum_by-IsPermutation counted (placed position xs) (placed position ys) (IsPermutation-map place xs ys same)))
 
 differ-through : (a b c : Bool) → differ (differ a b) (differ b c) ≡ differ a c
 differ-through a b c = grind arith

@@ -9,8 +9,7 @@ use Rattle.cad_rings.specs.Cycle.{Ring}
 use Rattle.cad_map.specs.Map.{Map, sum_of_ring}
 use Rattle.cad_map.specs.Valid.{has_outlines}
 use Rattle.cad_map.proofs.CallerLemmas.{count-map}
-use Rattle.cad_valid.specs.declared.outlines.OutlineCount.{OutlineCount}
-use Rattle.cad_valid.specs.Outlines.{outlines_among}
+use Rattle.cad_valid.specs.Outlines.{Counted, outlines_among}
 
 module _ (m : Map) (rings : List Ring) where
   -- the doubled areas of the rings before a place
@@ -23,22 +22,22 @@ module _ (m : Map) (rings : List Ring) where
       ∙ sym (ap (map (sum_of_ring doubled_area m)) (take_more rings place [] within) ∙ map-append (sum_of_ring doubled_area m) (take place rings) (get_or rings place [] ∷ []))
 
   -- one more ring
-  pub counted-next : (place : ℕ) (area : ℤ) (count more : OutlineCount) → place < length rings → area ≡ sum_of_ring doubled_area m (get_or rings place [])
+  pub counted-next : (place : ℕ) (area : ℤ) (count more : Counted) → place < length rings → area ≡ sum_of_ring doubled_area m (get_or rings place [])
       → count ≡ outlines_among (areas_before place) → ((areas : List ℤ) → count ≡ outlines_among areas → more ≡ outlines_among (areas ++ area ∷ []))
       → more ≡ outlines_among (areas_before (place + 1))
   counted-next place area count more within is so_far added = added (areas_before place) so_far ∙ ap outlines_among (areas-next place area within is)
 
   -- there are no more outlines than rings
-  pub counted-few : (place : ℕ) (count : OutlineCount) → count ≡ outlines_among (areas_before place) → count.outlines ≤ place
+  pub counted-few : (place : ℕ) (count : Counted) → count ≡ outlines_among (areas_before place) → count.outlines ≤ place
   counted-few place count so_far =
-      let outlines = ap (λ (c : OutlineCount). c.outlines) so_far in
+      let outlines = ap (λ (c : Counted). c.outlines) so_far in
       let few = count_by-le-length (int_lt (pos 0)) (areas_before place) in
       let long = length-map (take place rings) (sum_of_ring doubled_area m) in
       let taken = length-take place rings in
       omega arith
 
   -- all of them
-  pub counted-all : (place n : ℕ) (count : OutlineCount) → length rings ≤ place → count ≡ outlines_among (areas_before place) → ((count.outlines == n) && count.is_sound) ≡ has_outlines n m rings
+  pub counted-all : (place n : ℕ) (count : Counted) → length rings ≤ place → count ≡ outlines_among (areas_before place) → ((count.outlines == n) && count.is_sound) ≡ has_outlines n m rings
   counted-all place n count past so_far =
       let area : Ring → ℤ = sum_of_ring doubled_area m in
       let either : ℤ → Bool = λ a. int_lt (pos 0) a || int_lt a (pos 0) in

@@ -1,17 +1,18 @@
--- The rings of a face are rings of points of the map.
-use Rattle.std.proofs.Common.{◌≡◌, ℕ, ◌<◌, ◌≤◌, sym, ap, subst, ◌∙◌, List, [], ◌∷◌, length, map, filter, get_or, arith}
-use Rattle.std.specs.Prelude.{IsTrue}
+-- The rings of a face are rings of points of the map, as many as are kept of it.
+use Rattle.std.proofs.Common.{◌≡◌, ℕ, ◌<◌, ◌≤◌, refl, sym, ap, subst, ◌∙◌, List, [], ◌∷◌, length, map, get_or, true, arith}
+use Rattle.std.specs.Prelude.{IsTrue, count_by}
 use Rattle.std.specs.List.{AllByRecursion, Contains}
 use Rattle.std.proofs.lemmas.List.{length-map, get_or-map}
 use Rattle.std.proofs.lemmas.List.Elements.{Contains-get_or}
+use Rattle.std.proofs.lemmas.List.Sums.{sum_by-cons}
 use Rattle.cad_rows.specs.declared.names.Face.{Face}
 use Rattle.cad_rings.specs.Cycle.{Ring}
 use Rattle.cad_rings.proofs.CallerLemmas.{length-sides_of}
 use Rattle.cad_map.specs.declared.boundary.Boundary.{Boundary}
 use Rattle.cad_map.specs.Boundaries.{canonical_order, is_face}
 use Rattle.cad_map.specs.Map.{Map, has_point, rings_at, rings_of}
-use Rattle.cad_map.specs.Rings.{HasWholeRings, ring_at}
-use Rattle.cad_map.proofs.CallerLemmas.{All-Contains, All-follows, All-filter, All-map, All-from_each, filter-Contains, map-Contains, ring-sides-few}
+use Rattle.cad_map.specs.Rings.{HasWholeRings}
+use Rattle.cad_map.proofs.CallerLemmas.{All-Contains, All-follows, All-filter, All-map, All-from_each, ring-sides-few, rings_at-canonical_order}
 use Rattle.cad_valid.specs.Rings.{IsRingOf}
 
 module _ (m : Map) (whole : HasWholeRings m) where
@@ -32,17 +33,22 @@ module _ (m : Map) (whole : HasWholeRings m) where
       All-map (IsRingOf m) (λ (b : Boundary). b.ring) _
       (All-filter (λ b. IsRingOf m b.ring) (λ b. is_face f b.face) m.boundaries (All-from_each (λ b. IsRingOf m b.ring) m.boundaries ring-of_map))
 
--- the ring at a place of a face, as a view keeps the rings
-pub ring_at-few : (m : Map) (bs : List Boundary) → HasWholeRings m → canonical_order bs ≡ m.boundaries → AllByRecursion (λ b. 2 ≤ length b.ring) bs
-    → (f : Face) (place : ℕ) → place < length (rings_at f bs) → length (ring_at bs f place) ≤ 400000
-ring_at-few m bs whole is two f place within =
-    let b = map-Contains (λ (b : Boundary). b.ring) (filter (λ b. is_face f b.face) bs) (ring_at bs f place) (Contains-get_or (rings_at f bs) place [] within) in
-    let there = filter-Contains (λ b. is_face f b.face) bs b.0 b.1 in
-    let sides = ring-sides-few m bs whole is two b.0 there.0 in
-    let long = length-sides_of b.0.ring in
-    let same = ap length b.2 in
-    let most = whole.v1.few_strings in
+-- a test that all pass counts each
+count-each : (rings : List Ring) → count_by (λ (r : Ring). true) rings ≡ length rings
+count-each [] = refl
+count-each (r ∷ rings) =
+    let rest = count-each rings in
+    let more = sum_by-cons (λ (x : Ring). 1) r rings in
     omega arith
+
+-- a face has as many rings as are kept of it
+pub rings_counted : (m : Map) (f : Face) (bs : List Boundary)
+    → canonical_order bs ≡ m.boundaries → length (rings_at f bs) ≡ length (rings_of m f)
+rings_counted m f bs is =
+    sym (count-each (rings_at f bs))
+    ∙ (rings_at-canonical_order f bs).count (λ r. true) (λ r s same. refl)
+    ∙ ap (λ (l : List Boundary). count_by (λ (r : Ring). true) (rings_at f l)) is
+    ∙ count-each (rings_of m f)
 
 -- the ring at a place of a run
 pub ring-in_run : (run : List Boundary) (rings : List Ring) → map (λ (b : Boundary). b.ring) run ≡ rings → (P : Ring → Type 0) → AllByRecursion P rings → (place : ℕ) (d : Boundary) → place < length run → P (get_or run place d).ring

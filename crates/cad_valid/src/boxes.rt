@@ -11,7 +11,7 @@ use std::alloc::Global;
 use sweep::Extent;
 
 /// The boxes of these strings and points, in their order.
-pub(crate) fn boxes_of(alloc: Global, items: &[Placed]) -> Result<Vec<Extent>, Memory>
+pub fn boxes_of(alloc: Global, items: &[Placed]) -> Result<Vec<Extent>, Memory>
     ensures boxes { IfOk result (λ boxes. boxes.items ≡ map box_in items.now) }
     ensures extents { IfOk result (λ boxes. HasExtents boxes.items) }
 {

@@ -34,7 +34,7 @@ fn are_empty_beside<M: MapView>(map: &M, string: &StringRow) -> bool
 }
 
 /// Whether the corner after a side is empty. A side that no ring has has no corner.
-pub(crate) fn is_empty_after<M: MapView>(map: &M, from: PointNo, to: PointNo) -> bool
+pub fn is_empty_after<M: MapView>(map: &M, from: PointNo, to: PointNo) -> bool
     requires { HasWholeRings (M.map map.now) }
     ensures { result ≡ is_empty_after_side (M.map map.now) (from, to) }
 {

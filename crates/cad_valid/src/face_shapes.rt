@@ -22,7 +22,7 @@ const FEW: usize = 16;
 /// The rings of a face as they lie: outlines, which have positive doubled area, and holes, which
 /// have negative. Of others is known whether there is one.
 #[derive(Debug, Drop)]
-pub(crate) struct FaceShapes {
+pub struct FaceShapes {
     outlines: Vec<PlacedRing>,
     holes: Vec<PlacedRing>,
     have_areas: bool,
@@ -42,7 +42,7 @@ impl Model for FaceShapes {
 
 impl FaceShapes {
     /// Of no ring.
-    pub(crate) fn none(alloc: Global) -> FaceShapes
+    pub fn none(alloc: Global) -> FaceShapes
         ensures { result ≡ told_apart [] }
     {
         FaceShapes {
@@ -53,7 +53,7 @@ impl FaceShapes {
     }
 
     /// With one more ring.
-    pub(crate) fn add(&mut self, ring: PlacedRing) -> Result<(), Memory>
+    pub fn add(&mut self, ring: PlacedRing) -> Result<(), Memory>
         requires { length ring.sides ≤ 2 * string_limit }
         ensures { (shapes : List Shape) → self.old ≡ told_apart shapes
             → OnOk result (self.new ≡ told_apart (shapes ++ ring ∷ [])) }
@@ -70,7 +70,7 @@ impl FaceShapes {
     }
 
     /// Whether so many have positive doubled area, and all others negative.
-    pub(crate) fn has_outlines(&self, wanted: usize) -> bool
+    pub fn has_outlines(&self, wanted: usize) -> bool
         ensures { result ≡ ((length self.now.outlines == wanted) && self.now.have_areas) }
     {
         self.outlines.len() == wanted && self.have_areas
@@ -80,7 +80,7 @@ impl FaceShapes {
     /// and an anchor of each hole, and for at most three spans a box. Time is that of each side of the
     /// outlines with the anchors whose height it spans, of the sorts of anchors and boxes, and of each
     /// two holes whose boxes overlap.
-    pub(crate) fn has_sound_holes(&self, alloc: Global) -> Result<bool, Memory>
+    pub fn has_sound_holes(&self, alloc: Global) -> Result<bool, Memory>
         requires { AreShapes self.now.holes }
         ensures { IfOk result (λ b. b ≡ are_sound self.now) }
     {

@@ -31,7 +31,7 @@ pub(crate) fn has_holes_in_place<M: MapView>(map: &M) -> bool
 }
 
 /// Whether the holes of one face lie in its outline and apart. A ring alone does.
-pub(crate) fn has_sound_holes<M: MapView>(map: &M, face: &Face) -> bool
+pub fn has_sound_holes<M: MapView>(map: &M, face: &Face) -> bool
     requires { HasWholeRings (M.map map.now) }
     ensures { result ≡ has_sound_holes_of (M.map map.now) (rings_of (M.map map.now) face.now) }
 {

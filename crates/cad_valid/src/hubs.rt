@@ -9,7 +9,7 @@ use cad_rows::{Memory, PointNo};
 use std::alloc::Global;
 
 /// A point of so many strings may be a hub.
-pub(crate) const HUB: usize = 200;
+pub const HUB: usize = 200;
 
 // Points whose numbers leave the same remainder by this are counted together.
 const REMAINDERS: usize = 65_536;
@@ -66,7 +66,7 @@ fn alone(place: usize) -> u64
 }
 
 /// So many rows, each of a group of its own.
-pub(crate) fn each_alone(alloc: Global, count: usize) -> Result<Vec<u64>, Memory>
+pub fn each_alone(alloc: Global, count: usize) -> Result<Vec<u64>, Memory>
     requires { count < 2 ^ 63 }
     ensures count { IfOk result (λ groups. length groups.items ≡ count) }
     ensures alone { IfOk result (λ groups.

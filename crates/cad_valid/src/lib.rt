@@ -1,8 +1,8 @@
-//! The first rule that a map breaks.
+//! The first rule that a map breaks, and the tests of its strings, points, corners, rings and faces that
+//! tell it.
 #![tactic(auto)]
 
 mod anchors;
-mod areas;
 mod boxes;
 mod corners;
 mod crossings;
@@ -11,7 +11,6 @@ mod face_shapes;
 mod holes;
 mod holes_swept;
 mod hubs;
-mod near;
 mod outlines;
 mod outlines_by_runs;
 mod placed;
@@ -33,12 +32,22 @@ use crate::outlines_by_runs::has_one_outline_each_by_runs;
 use crate::points::has_distinct_positions;
 use crate::swept::first_broken_of_places;
 pub use anchors::insides_of;
-pub use areas::FaceAreas;
+pub use boxes::boxes_of;
 use cad_map::{MapView, PlainMap};
 use cad_rows::{Memory, Rule};
-pub use near::{Joined, Moved, Touched, first_broken_near};
-pub use rings::{anchor_of, is_hole};
+pub use corners::is_empty_after;
+pub use face_shapes::FaceShapes;
+pub use holes::has_sound_holes;
+pub use hubs::{HUB, each_alone};
+pub use outlines::{OutlineCount, has_outlines};
+pub use placed::{
+    Placed, lies_only_as_end, meet_at_ends, placed_beside, placed_point, placed_string,
+};
+pub use points::is_same;
+pub use rings::{anchor_of, doubled_area_of, has_one_ring, is_hole};
+pub use shapes::PlacedRing;
 use std::alloc::Global;
+pub use swept::{Uncrossed, is_point};
 
 /// The first rule that a map breaks, of V3, V4, V6, V7 and V8 in this order, or `None` where it keeps them all. Takes no
 /// memory. It looks at each pair of strings, so its time grows with the square of the map's size.

@@ -8,18 +8,29 @@ ghost use Rattle.cad_valid.specs.Outlines.{outlines_among};
 use crate::rings::doubled_area_of;
 use cad_map::MapView;
 use cad_rows::Face;
+use std::marker::Model;
 
 /// What the doubled areas of rings tell: how many are positive, and whether all others are
 /// negative.
 #[derive(Clone, Copy, Debug)]
-pub(crate) struct OutlineCount {
+pub struct OutlineCount {
     outlines: usize,
     is_sound: bool,
 }
 
+impl Model for OutlineCount {
+    ghost use Rattle.cad_valid.specs.Outlines.{Counted};
+
+    ghost Value = { Counted };
+
+    ghost view = { λ c. record { outlines = c.outlines; is_sound = c.is_sound } };
+
+    ghost inverse = { λ c. record { outlines = c.outlines; is_sound = c.is_sound } };
+}
+
 impl OutlineCount {
     /// Of no ring.
-    pub(crate) fn none() -> OutlineCount
+    pub fn none() -> OutlineCount
         ensures { result ≡ outlines_among [] }
     {
         OutlineCount {
@@ -29,7 +40,7 @@ impl OutlineCount {
     }
 
     /// With one more ring, by its doubled area.
-    pub(crate) fn add(&mut self, area: i128)
+    pub fn add(&mut self, area: i128)
         requires { self.old.outlines + 1 < 2 ^ 64 }
         ensures { (areas : List ℤ) → self.old ≡ outlines_among areas
             → self.new ≡ outlines_among (areas ++ area ∷ []) }
@@ -43,7 +54,7 @@ impl OutlineCount {
     }
 
     /// Whether so many are positive, and all others negative.
-    pub(crate) fn is(&self, wanted: usize) -> bool
+    pub fn is(&self, wanted: usize) -> bool
         ensures { result ≡ ((self.now.outlines == wanted) && self.now.is_sound) }
     {
         self.outlines == wanted && self.is_sound
@@ -68,7 +79,7 @@ pub(crate) fn has_one_outline_each<M: MapView>(map: &M) -> bool
 }
 
 /// Whether so many rings of a face have positive doubled area, and all others negative.
-pub(crate) fn has_outlines<M: MapView>(map: &M, face: &Face, wanted: usize) -> bool
+pub fn has_outlines<M: MapView>(map: &M, face: &Face, wanted: usize) -> bool
     requires { HasWholeRings (M.map map.now) }
     ensures { result ≡ has_outlines_of wanted (M.map map.now) (rings_of (M.map map.now) face.now) }
 {

@@ -15,18 +15,20 @@ use geo_exact::{Pt, meets, on_segment};
 /// A string from one point to another as it lies on the map, or a point as one from itself to
 /// itself.
 #[derive(Clone, Copy, Debug)]
-pub(crate) struct Placed {
-    pub(crate) from: PointNo,
-    pub(crate) to: PointNo,
+pub struct Placed {
+    /// The point that it leads from.
+    pub from: PointNo,
+    /// The point that it leads to.
+    pub to: PointNo,
     /// The position of the point that it leads from.
-    pub(crate) a: Pt,
+    pub a: Pt,
     /// The position of the point that it leads to.
-    pub(crate) b: Pt,
+    pub b: Pt,
 }
 
 impl Placed {
     /// Whether it leads from a point or to it.
-    pub(crate) fn is_end(&self, point: PointNo) -> bool
+    pub fn is_end(&self, point: PointNo) -> bool
         ensures { result ≡ is_end_of self.now point }
     {
         self.from == point || self.to == point
@@ -47,8 +49,8 @@ impl Placed {
     }
 }
 
-/// A string of the map.
-pub(crate) fn placed_string<M: MapView>(map: &M, string: &StringRow) -> Placed
+/// A string of the map as it lies there.
+pub fn placed_string<M: MapView>(map: &M, string: &StringRow) -> Placed
     ensures { result ≡ placed_string_of (M.map map.now) string.now }
 {
     Placed {
@@ -74,7 +76,7 @@ fn position_beside<M: MapView>(map: &M, here: &Placed, point: PointNo) -> Pt
 }
 
 /// A string of the map that mostly has an end in common with one that was looked up.
-pub(crate) fn placed_beside<M: MapView>(map: &M, here: &Placed, string: &StringRow) -> Placed
+pub fn placed_beside<M: MapView>(map: &M, here: &Placed, string: &StringRow) -> Placed
     requires { IsPlacedIn (M.map map.now) here.now }
     ensures { result ≡ placed_string_of (M.map map.now) string.now }
 {
@@ -86,8 +88,8 @@ pub(crate) fn placed_beside<M: MapView>(map: &M, here: &Placed, string: &StringR
     }
 }
 
-/// A point.
-pub(crate) fn placed_point(point: &PointRow) -> Placed
+/// A point as it lies on the map.
+pub fn placed_point(point: &PointRow) -> Placed
     ensures { result ≡ placed_point_of point.now }
 {
     Placed {
@@ -99,7 +101,7 @@ pub(crate) fn placed_point(point: &PointRow) -> Placed
 }
 
 /// Whether two strings have no common location but a shared end.
-pub(crate) fn meet_at_ends(string: &Placed, other: &Placed) -> bool
+pub fn meet_at_ends(string: &Placed, other: &Placed) -> bool
     ensures { result ≡ meets_at_ends string.now other.now }
 {
     if other.is_end(string.from) {
@@ -123,7 +125,7 @@ fn meet_only_at(string: &Placed, other: &Placed, shared: PointNo) -> bool
 }
 
 /// Whether a point doesn't lie on a string, or is one of its ends.
-pub(crate) fn lies_only_as_end(point: &Placed, string: &Placed) -> bool
+pub fn lies_only_as_end(point: &Placed, string: &Placed) -> bool
     ensures { result ≡ is_only_end point.now string.now }
 {
     string.is_end(point.from) || !on_segment(string.a, string.b, point.a)

@@ -35,7 +35,7 @@ fn is_apart_from<M: MapView>(map: &M, from: usize, position: Pt) -> bool
 }
 
 /// Whether two positions are one.
-pub(crate) fn is_same(a: Pt, b: Pt) -> bool
+pub fn is_same(a: Pt, b: Pt) -> bool
     ensures { result ≡ is_same_position a b }
 {
     a.x == b.x && a.y == b.y

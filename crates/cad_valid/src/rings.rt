@@ -12,8 +12,8 @@ use cad_rows::{Face, PointNo};
 use geo_exact::{Pt, crosses};
 
 /// Whether a face has one ring, and no more.
-#[tactic(auto, using(crate::proofs::AreasKept::rings_counted))]
-pub(crate) fn has_one_ring<M: MapView>(map: &M, face: &Face) -> bool
+#[tactic(auto, using(crate::proofs::RingsInMap::rings_counted))]
+pub fn has_one_ring<M: MapView>(map: &M, face: &Face) -> bool
     ensures one { IsTrue result ↔ (length (rings_of (M.map map.now) face.now) ≡ 1) }
     // The rings are those of the map.
     ensures canonical_order { canonical_order (M.rings map.now) ≡ (M.map map.now).boundaries }
@@ -40,7 +40,7 @@ pub fn is_hole<M: MapView>(map: &M, face: &Face, place: usize) -> bool
 }
 
 /// The doubled area of a ring of a face, in doubled square millimetres.
-pub(crate) fn doubled_area_of<M: MapView>(map: &M, face: &Face, place: usize) -> i128
+pub fn doubled_area_of<M: MapView>(map: &M, face: &Face, place: usize) -> i128
     requires whole { HasWholeRings (M.map map.now) }
     requires there { place < length (rings_at face.now (M.rings map.now)) }
     ensures { result ≡ sum_of_ring doubled_area (M.map map.now)

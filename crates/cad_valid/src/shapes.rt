@@ -59,7 +59,7 @@ fn position_after<M: MapView>(map: &M, end: PointNo, at: Pt, point: PointNo) -> 
 
 /// A ring with the positions of its points.
 #[derive(Debug, Drop)]
-pub(crate) struct PlacedRing {
+pub struct PlacedRing {
     sides: Vec<(Pt, Pt)>,
     anchor: Pt,
 }
@@ -74,7 +74,7 @@ impl Model for PlacedRing {
 
 impl PlacedRing {
     /// The ring of these sides, each of its points where a map has it. `first` is one of the points.
-    pub(crate) fn of<M: MapView, I: Iterator<Item = (PointNo, PointNo)> + Drop>(
+    pub fn of<M: MapView, I: Iterator<Item = (PointNo, PointNo)> + Drop>(
         alloc: Global,
         map: &M,
         first: PointNo,

@@ -142,8 +142,9 @@ fn lie_apart(a: &Placed, b: &Placed) -> bool
 
 /// The test of V4. Two points pass it: V3 is told before.
 #[derive(Drop)]
-pub(crate) struct Uncrossed<'a> {
-    pub(crate) items: &'a [Placed],
+pub struct Uncrossed<'a> {
+    /// The strings and points that are tested, by their places.
+    pub items: &'a [Placed],
 }
 
 impl PairTest for Uncrossed<'_> {
@@ -197,7 +198,7 @@ fn are_clear(a: &Placed, b: &Placed) -> bool
 }
 
 /// Whether it is a point, and no string.
-pub(crate) fn is_point(item: &Placed) -> bool
+pub fn is_point(item: &Placed) -> bool
     ensures { result ≡ is_point_of item.now }
 {
     item.from == item.to

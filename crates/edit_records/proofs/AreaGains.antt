@@ -5,7 +5,7 @@ use Rattle.std.specs.Prelude.{IfSome}
 use Rattle.geo_exact.specs.Measure.{doubled_area}
 use Rattle.cad_rows.specs.declared.names.Face.{Face}
 use Rattle.cad_map.specs.Map.{Map, sum_of_face}
-use Rattle.cad_valid.specs.KeptAreas.{KeptAreas, HoldsAreas, Gains, area_at}
+use Rattle.cad_near.specs.KeptAreas.{KeptAreas, HoldsAreas, Gains, area_at}
 
 -- what is kept then of the face, if anything, is more by z than what was kept
 abbrev pub IsMore : KeptAreas → Face → ℤ → Option ℤ → Type 0

@@ -19,7 +19,7 @@ use Rattle.cad_laws.specs.Joining.{AreNotJoined, FarEndsAreApart}
 use Rattle.cad_laws.specs.Touching.{touched_by}
 use Rattle.cad_laws.specs.Tried.{IsTried}
 use Rattle.cad_laws.proofs.CallerLemmas.{found-at, join-breaks, join-straight, move-from, move-from_after, move-to, move-to_after, split-between, split-lies, split-straight, touched-after}
-use Rattle.cad_valid.specs.KeptAreas.{HoldsAreas, KeptAreas, area_at}
+use Rattle.cad_near.specs.KeptAreas.{HoldsAreas, KeptAreas, area_at}
 use Rattle.edit_records.specs.Record.{Belongs, edit_of}
 use Rattle.edit_records.specs.Recut.{recut}
 use Rattle.edit_records.specs.declared.record.SmallRecord.{SmallRecord}

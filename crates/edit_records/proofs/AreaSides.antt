@@ -17,7 +17,7 @@ use Rattle.cad_map.proofs.CallerLemmas.{beside, Contains-flat_map, Contains-has_
 use Rattle.cad_laws.specs.Areas.{HasPointAt, bend_at, bend_beside, if_beside, sum_of_strings, swept_beside}
 use Rattle.cad_laws.specs.Joining.{AreNotJoined}
 use Rattle.cad_laws.proofs.CallerLemmas.{against-bent, along-bent, area-bent, areas-swept, one-face, sum_of_strings-permuted, sum_of_strings-push}
-use Rattle.cad_valid.specs.KeptAreas.{Gains, HoldsAreas, KeptAreas, area_at}
+use Rattle.cad_near.specs.KeptAreas.{Gains, HoldsAreas, KeptAreas, area_at}
 use Rattle.edit_records.proofs.AreaGains.{gains-both, gains-none, holds-gained}
 
 -- ---- Beside one side

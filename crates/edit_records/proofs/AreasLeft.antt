@@ -13,7 +13,7 @@ use Rattle.cad_map.proofs.CallerLemmas.{All-at_each, All-from_each, is_face-refl
 use Rattle.cad_laws.specs.Areas.{ended_by}
 use Rattle.cad_laws.specs.Tried.{IsTried}
 use Rattle.cad_laws.proofs.CallerLemmas.{sums-stand}
-use Rattle.cad_valid.specs.KeptAreas.{HoldsAreas, KeptAreas, area_at}
+use Rattle.cad_near.specs.KeptAreas.{HoldsAreas, KeptAreas, area_at}
 use Rattle.edit_records.proofs.AreaGains.{holds-left}
 
 -- what is kept of the face then was kept before

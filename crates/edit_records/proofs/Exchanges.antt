@@ -9,7 +9,7 @@ use Rattle.cell_grid.specs.Kept.{Kept, HoldsSame}
 use Rattle.cell_grid.specs.Together.{Listed, HoldsMore, HoldsLess, AreNew, AreHeld}
 use Rattle.cell_grid.specs.Grid.{Grid}
 use Rattle.cell_grid.proofs.CallerLemmas.{same_entry, is_itself}
-use Rattle.cad_valid.specs.Near.{HoldsMap}
+use Rattle.cad_near.specs.Near.{HoldsMap}
 use Rattle.edit_records.specs.Gridded.{HoldsJust}
 use Rattle.edit_records.specs.Exchanged.{AreOnlyOf, IsExchange, HoldsBoth, IsGridOfBoth}
 use Rattle.edit_records.proofs.GridRows.{held-strings, held-points}

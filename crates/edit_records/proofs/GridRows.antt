@@ -13,7 +13,7 @@ use Rattle.cad_map.proofs.CallerLemmas.{All-at_each, Contains-map, map-Contains,
 use Rattle.cell_grid.specs.declared.entry.Entry.{Entry}
 use Rattle.cell_grid.specs.Kept.{Kept, IsHeld, HoldsNone, HoldsSame, HoldsOneMore}
 use Rattle.cell_grid.specs.Grid.{Grid, HoldsString, HoldsPoint}
-use Rattle.cad_valid.specs.Near.{HoldsMap}
+use Rattle.cad_near.specs.Near.{HoldsMap}
 use Rattle.edit_records.specs.Gridded.{HoldsJust, IsGridOf, string_entry, point_entry, string_entries, point_entries}
 
 -- what stayed in two changes stayed

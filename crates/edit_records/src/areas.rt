@@ -13,16 +13,16 @@ ghost use Rattle.cad_map.specs.Touched.{GoesStraight, IsTouched};
 ghost use Rattle.cad_laws.specs.Areas.{HasPointAt, ended_by, if_beside, swept, swept_beside};
 ghost use Rattle.cad_laws.specs.Joining.{AreNotJoined};
 ghost use Rattle.cad_laws.specs.Tried.{IsTried};
-ghost use Rattle.cad_valid.specs.KeptAreas.{Gains, HoldsAreas, area_at};
-ghost use Rattle.cad_valid.specs.Near.{touched_of};
+ghost use Rattle.cad_near.specs.KeptAreas.{Gains, HoldsAreas, area_at};
+ghost use Rattle.cad_near.specs.Near.{touched_of};
 ghost use Rattle.edit_records.specs.Record.{Belongs, edit_of};
 ghost use Rattle.edit_records.specs.Recut.{recut};
 
 use crate::grid_edits::at;
 use crate::record::SmallRecord;
 use cad_map::{MapView, far_end, far_with, position};
+use cad_near::{FaceAreas, Touched};
 use cad_rows::{Edit, Face, PointNo, StringRow};
-use cad_valid::{FaceAreas, Touched};
 use geo_exact::{DoubledArea, Pt, SideMeasure};
 
 // Adds to the area of the face that has a side, if a face has it.

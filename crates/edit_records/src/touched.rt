@@ -14,13 +14,13 @@ ghost use Rattle.cad_map.specs.Valid.{IsValid};
 ghost use Rattle.cad_map.specs.Views.{HasSide};
 ghost use Rattle.cad_laws.specs.Touching.{goes_along, joined_between, passes, touching};
 ghost use Rattle.cad_laws.specs.Tried.{IsTried};
-ghost use Rattle.cad_valid.specs.Near.{touched_of};
+ghost use Rattle.cad_near.specs.Near.{touched_of};
 ghost use Rattle.edit_records.specs.Told.{Tells};
 
 use crate::point_strings::{span_at_place, string_at};
 use cad_map::{MapView, Walk, far_end, far_with, is_face, position};
+use cad_near::{Joined, Moved, Touched};
 use cad_rows::{Edit, Face, Memory, ParcelNo, PointNo, StringNo};
-use cad_valid::{Joined, Moved, Touched};
 use std::alloc::Global;
 
 /// Adds the faces on both sides of a string: those of the rings that go along it.

@@ -4,8 +4,8 @@ ghost use Rattle.std.specs.Prelude.{◌≡◌, ◌≤◌, length};
 ghost use Rattle.cad_map.specs.Effects.{after};
 ghost use Rattle.cad_map.specs.Valid.{IsValid, CanBeTested};
 ghost use Rattle.cad_laws.specs.Tried.{IsTried};
-ghost use Rattle.cad_valid.specs.KeptAreas.{HoldsAreas};
-ghost use Rattle.cad_valid.specs.Near.{HoldsMap, ComesFromValid, touched_of};
+ghost use Rattle.cad_near.specs.KeptAreas.{HoldsAreas};
+ghost use Rattle.cad_near.specs.Near.{HoldsMap, ComesFromValid, touched_of};
 
 use crate::counted::Counted;
 use crate::far::{
@@ -17,9 +17,10 @@ use crate::plans_after::{DIVIDED, DIVIDED_ISLAND, JOINED};
 use crate::plans_enclosed::{FREE_CORNERS, WITH_FRAME};
 use cad_edit::try_edit;
 use cad_map::{MapView, PlainMap};
+use cad_near::{FaceAreas, Touched, first_broken_near};
 use cad_rows::{Edit, Face, Memory, Rule};
 use cad_surgery::touched_by;
-use cad_valid::{FaceAreas, Touched, first_broken, first_broken_near};
+use cad_valid::first_broken;
 use cell_grid::CellGrid;
 use edit_records::{grid_of, turn_areas};
 use std::alloc::Global;

@@ -16,8 +16,8 @@ use crate::draft::Draft;
 use crate::edits::counted::is_work_in_range;
 use crate::edits::given::first_and_rest;
 use crate::edits::hidden::drop_hidden;
+use cad_near::{FaceAreas, Touched, first_broken_near};
 use cad_rows::{Face, Memory, ParcelNo, Refusal, StringNo};
-use cad_valid::{FaceAreas, Touched, first_broken_near};
 use half_table::{Half, HalfTable, Tally};
 use key_lists::KeyLists;
 use map_parts::{

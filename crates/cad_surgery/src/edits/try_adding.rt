@@ -11,8 +11,8 @@ use crate::edits::coming::{Coming, Lead, coming_by, course_of};
 use crate::edits::counted::is_work_in_range;
 use crate::edits::given::{Given, Kept, NewParcel, given_by};
 use crate::edits::merging::Way;
+use cad_near::{FaceAreas, Touched};
 use cad_rows::{Edit, Refusal};
-use cad_valid::{FaceAreas, Touched};
 use edit_records::SmallRecord;
 use half_table::Tally;
 

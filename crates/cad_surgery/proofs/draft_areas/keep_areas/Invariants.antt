@@ -1,4 +1,4 @@
-use Rattle.cad_valid.specs.KeptAreas.{HoldsAreas}
+use Rattle.cad_near.specs.KeptAreas.{HoldsAreas}
 use Rattle.map_parts.specs.Parts.{map_of}
 use Rattle.cad_surgery.proofs.draft_areas.keep_areas.Given as goal
 

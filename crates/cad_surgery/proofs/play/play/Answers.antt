@@ -9,8 +9,8 @@ use Rattle.cad_map.specs.Touched.{IsTouched}
 use Rattle.cad_laws.specs.Tried.{IsTried}
 use Rattle.cad_map.specs.Rings.{HasWholeRings}
 use Rattle.cad_map.proofs.CallerLemmas.{whole_valid}
-use Rattle.cad_valid.specs.KeptAreas.{HoldsAreas}
-use Rattle.cad_valid.specs.Near.{HoldsMap, touched_of}
+use Rattle.cad_near.specs.KeptAreas.{HoldsAreas}
+use Rattle.cad_near.specs.Near.{HoldsMap, touched_of}
 use Rattle.cad_surgery.proofs.Played.{listed}
 use Rattle.cad_map.specs.Costs.{work_bound}
 use Rattle.cad_surgery.proofs.Entered as grid

@@ -3,7 +3,7 @@ use Rattle.cad_map.specs.Costs.{work_bound}
 use Rattle.cad_map.specs.Effects.{after}
 use Rattle.cad_map.specs.Map.{Map}
 use Rattle.edit_records.specs.Record.{edit_of, Belongs}
-use Rattle.cad_valid.specs.KeptAreas.{HoldsAreas}
+use Rattle.cad_near.specs.KeptAreas.{HoldsAreas}
 use Rattle.map_parts.specs.Parts.{map_of}
 use Rattle.cad_surgery.proofs.KeptAreas.{none-holds}
 use Rattle.cad_surgery.proofs.Entered as grid

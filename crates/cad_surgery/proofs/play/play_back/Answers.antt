@@ -1,7 +1,7 @@
 use Rattle.std.proofs.Common.{◌∙◌, subst, sym, refl, inr}
 use Rattle.cad_map.specs.Costs.{work_bound}
 use Rattle.edit_records.specs.Record.{Belongs}
-use Rattle.cad_valid.specs.KeptAreas.{HoldsAreas}
+use Rattle.cad_near.specs.KeptAreas.{HoldsAreas}
 use Rattle.map_parts.specs.Parts.{map_of}
 use Rattle.cad_surgery.proofs.KeptAreas.{none-holds}
 use Rattle.cad_surgery.proofs.Entered as grid

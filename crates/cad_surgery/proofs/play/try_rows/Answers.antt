@@ -3,8 +3,8 @@ use Rattle.std.proofs.lemmas.Result.{on_ok_weaker}
 use Rattle.cad_map.specs.Effects.{after}
 use Rattle.cad_map.specs.Outcome.{refused, out_of_memory, breaking}
 use Rattle.cad_map.specs.Touched.{IsTouched}
-use Rattle.cad_valid.specs.KeptAreas.{HoldsAreas}
-use Rattle.cad_valid.specs.Near.{HoldsMap, touched_of}
+use Rattle.cad_near.specs.KeptAreas.{HoldsAreas}
+use Rattle.cad_near.specs.Near.{HoldsMap, touched_of}
 use Rattle.cad_map.specs.Valid.{IsValid, CanBeTested, FirstBroken, KeepsAll}
 use Rattle.cad_map.proofs.CallerLemmas.{valid-from_kept}
 use Rattle.map_parts.specs.Parts.{map_of}

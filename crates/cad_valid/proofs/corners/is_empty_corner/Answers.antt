@@ -10,7 +10,7 @@ use Rattle.cad_map.specs.Map.{Map, strings_at, has_point, position_of}
 use Rattle.cad_map.specs.Valid.{is_empty_corner}
 use Rattle.cad_map.proofs.CallerLemmas.{All-at_each, lent-some, lent-is}
 use Rattle.cad_valid.specs.Corners.{is_clear_of, is_clear_of_sector}
-use Rattle.cad_valid.proofs.NearCorners.{clear-far, empty-is}
+use Rattle.cad_valid.proofs.EmptyCorners.{clear-far, empty-is}
 use Rattle.cad_valid.proofs.StarTests.{passed-all, passed-more, lent-there}
 use Rattle.cad_valid.proofs.corners.is_empty_corner.Goals as goal
 

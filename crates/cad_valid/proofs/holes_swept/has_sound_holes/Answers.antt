@@ -7,7 +7,7 @@ use Rattle.cad_valid.specs.Shapes.{shape_of, told_apart}
 use Rattle.cad_valid.specs.Rings.{IsRingOf}
 use Rattle.cad_valid.proofs.RingsInMap.{rings-of_map, run-length}
 use Rattle.cad_valid.proofs.Sweeping.{sound-alone}
-use Rattle.cad_valid.proofs.FaceShapes.{holes-shapes, sound-told}
+use Rattle.cad_valid.proofs.ShapesOfFace.{holes-shapes, sound-told}
 use Rattle.cad_valid.proofs.holes_swept.has_sound_holes.Goals as goal
 
 pub returns-then-run-lt2 : goal.returns-then-run-lt2

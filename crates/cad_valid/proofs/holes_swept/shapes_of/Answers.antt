@@ -6,7 +6,7 @@ use Rattle.cad_map.specs.Map.{position_of}
 use Rattle.cad_valid.specs.Rings.{IsRingOf}
 use Rattle.cad_valid.specs.Shapes.{shape_of}
 use Rattle.cad_valid.proofs.RingsInMap.{ring-in_run}
-use Rattle.cad_valid.proofs.FaceShapes.{placed-few, told-next}
+use Rattle.cad_valid.proofs.ShapesOfFace.{placed-few, told-next}
 use Rattle.cad_valid.proofs.holes_swept.shapes_of.Goals as goal
 
 pub placed_ring-requires : goal.placed_ring-requires

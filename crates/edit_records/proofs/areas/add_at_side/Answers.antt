@@ -1,5 +1,5 @@
 use Rattle.std.proofs.Common.{subst}
-use Rattle.cad_valid.specs.KeptAreas.{Gains}
+use Rattle.cad_near.specs.KeptAreas.{Gains}
 use Rattle.edit_records.proofs.AreaNumbers.{read-value}
 use Rattle.edit_records.proofs.AreaSides.{no_side-gains, side-gains}
 use Rattle.edit_records.proofs.areas.add_at_side.Goals as goal

@@ -1,6 +1,6 @@
 use Rattle.std.proofs.Common.{◌-ℤ◌, ◌∙◌, ℤ, neg_ℤ, ap, subst, sym}
 use Rattle.cad_laws.specs.Areas.{if_beside}
-use Rattle.cad_valid.specs.KeptAreas.{Gains}
+use Rattle.cad_near.specs.KeptAreas.{Gains}
 use Rattle.edit_records.proofs.AreaNumbers.{opposite-value, read-value}
 use Rattle.edit_records.proofs.AreaSides.{sides-gain}
 use Rattle.edit_records.proofs.areas.add_beside.Goals as goal

@@ -3,7 +3,7 @@ use Rattle.std.specs.List.{AllByRecursion}
 use Rattle.std.proofs.lemmas.List.{take_all, take_more}
 use Rattle.cad_rows.specs.declared.names.Face.{Face}
 use Rattle.cad_map.proofs.CallerLemmas.{All-push}
-use Rattle.cad_valid.specs.KeptAreas.{area_at}
+use Rattle.cad_near.specs.KeptAreas.{area_at}
 use Rattle.edit_records.proofs.AreasLeft.{KeepsNone, left-both, left-forgotten, left-same, nones-left}
 use Rattle.edit_records.proofs.areas.forget_all.Goals as goal
 

@@ -5,8 +5,8 @@ use Rattle.cad_map.proofs.CallerLemmas.{whole_valid}
 use Rattle.cad_laws.specs.Areas.{HasPointAt}
 use Rattle.cad_laws.specs.Tried.{IsTried}
 use Rattle.cad_laws.proofs.CallerLemmas.{move-from, move-to}
-use Rattle.cad_valid.specs.KeptAreas.{HoldsAreas}
-use Rattle.cad_valid.specs.Near.{touched_of}
+use Rattle.cad_near.specs.KeptAreas.{HoldsAreas}
+use Rattle.cad_near.specs.Near.{touched_of}
 use Rattle.edit_records.proofs.AreasLeft.{KeepsNone, holds-still, left-same, returned-forgotten}
 use Rattle.edit_records.proofs.GridEdits.{moved-on, on_map, same_numbers}
 use Rattle.edit_records.proofs.areas.return_areas.Goals as goal

@@ -3,7 +3,7 @@ use Rattle.std.specs.Prelude.{IsPermutation}
 use Rattle.cad_rows.specs.declared.names.Face.{Face}
 use Rattle.cad_map.specs.Map.{strings_at}
 use Rattle.cad_laws.specs.Areas.{sum_of_strings, swept_beside}
-use Rattle.cad_valid.specs.KeptAreas.{Gains}
+use Rattle.cad_near.specs.KeptAreas.{Gains}
 use Rattle.edit_records.proofs.areas.sweep.Given as goal
 
 -- what was gained beside the strings so far; and once a string was told, they are the point's

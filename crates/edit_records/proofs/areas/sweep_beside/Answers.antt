@@ -6,7 +6,7 @@ use Rattle.cad_rows.specs.declared.rows.StringRow.{StringRow}
 use Rattle.cad_map.specs.Map.{far_end, position_of, strings_at}
 use Rattle.cad_map.proofs.CallerLemmas.{told-is, told-some}
 use Rattle.cad_laws.specs.Areas.{if_beside, swept}
-use Rattle.cad_valid.specs.KeptAreas.{Gains}
+use Rattle.cad_near.specs.KeptAreas.{Gains}
 use Rattle.edit_records.proofs.AreaNumbers.{read-value}
 use Rattle.edit_records.proofs.areas.sweep_beside.Goals as goal
 

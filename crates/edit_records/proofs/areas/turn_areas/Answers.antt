@@ -7,7 +7,7 @@ use Rattle.cad_map.proofs.CallerLemmas.{whole_valid}
 use Rattle.cad_laws.specs.Areas.{HasPointAt}
 use Rattle.cad_laws.specs.Tried.{IsTried}
 use Rattle.cad_laws.proofs.CallerLemmas.{move-from, move-to, split-between, split-lies, split-straight, whole-after}
-use Rattle.cad_valid.specs.Near.{touched_of}
+use Rattle.cad_near.specs.Near.{touched_of}
 use Rattle.edit_records.proofs.AreasLeft.{KeepsNone, holds-still, left-same, turned-forgotten}
 use Rattle.edit_records.proofs.GridEdits.{lent-found, moved-on, on_map, same_numbers, split-on, split-there}
 use Rattle.edit_records.proofs.areas.turn_areas.Goals as goal

@@ -14,10 +14,10 @@ use Rattle.cad_map.specs.Touched.{IsTouched, neighbours}
 use Rattle.cad_map.specs.Views.{HasSide}
 use Rattle.cad_map.proofs.CallerLemmas.{whole_valid}
 use Rattle.cad_laws.specs.Touching.{touching, joined_between, passes, goes_along, touched_by}
-use Rattle.cad_valid.specs.declared.near.Touched.{Touched}
+use Rattle.cad_near.specs.declared.Touched.{Touched}
 use Rattle.std.proofs.lemmas.Result.{IfOk-weaker}
 use Rattle.cad_laws.specs.Tried.{IsTried}
-use Rattle.cad_valid.specs.Near.{touched_of}
+use Rattle.cad_near.specs.Near.{touched_of}
 use Rattle.edit_records.specs.Told.{Tells}
 use Rattle.edit_records.proofs.GridEdits.{split-there}
 use Rattle.edit_records.proofs.TouchedLists.{point-more, move-more, split-more, join-more, just-touched, merge-more}

@@ -1,4 +1,4 @@
-use Rattle.cad_valid.specs.KeptAreas.{HoldsAreas}
+use Rattle.cad_near.specs.KeptAreas.{HoldsAreas}
 use Rattle.half_cases.proofs.near_checks.areas_of.Given as goal
 
 -- what is kept so far are areas of the map

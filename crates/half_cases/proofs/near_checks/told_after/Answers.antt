@@ -1,5 +1,5 @@
 use Rattle.std.proofs.Common.{subst, sym}
-use Rattle.cad_valid.specs.KeptAreas.{HoldsAreas}
+use Rattle.cad_near.specs.KeptAreas.{HoldsAreas}
 use Rattle.edit_records.proofs.GridRows.{holds-map}
 use Rattle.half_cases.proofs.near_checks.told_after.Goals as goal
 

@@ -1,6 +1,6 @@
 use Rattle.std.proofs.Common.{sym, subst}
 use Rattle.cell_grid.specs.Grid.{Grid}
-use Rattle.cad_valid.specs.Near.{HoldsMap}
+use Rattle.cad_near.specs.Near.{HoldsMap}
 use Rattle.map_parts.specs.Parts.{Parts, map_of}
 use Rattle.edit_records.proofs.GridRows.{holds-map}
 use Rattle.cad_surgery.proofs.half_map.HalfMap.grid.Goals as goal

@@ -1,0 +1,29 @@
+mod MovedSides
+mod StraightRings
+mod StraightFaces
+mod JoinedFaces
+mod LeftFaces
+mod ClearWays
+mod MovedRings
+mod ClearPoints
+mod AreasKept
+mod Candidates
+mod RowsByNumber
+mod StringsTold
+mod NearPoints
+mod NearStrings
+mod PassedTriangles
+mod TrianglesSeen
+mod NearCorners
+mod StayedCorners
+mod SeenBetween
+mod SeenNear
+mod SightOfMap
+mod ManyStrings
+mod NearFaces
+mod RaysOfPoint
+mod CornersInTurn
+mod FaceRings
+mod ListsLeft
+pub mod Untouched
+pub mod CallerLemmas

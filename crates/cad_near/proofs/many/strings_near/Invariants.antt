@@ -1,0 +1,7 @@
+use Rattle.std.proofs.Common.{◌≡◌, map}
+use Rattle.cell_grid.specs.declared.entry.HeldString.{HeldString}
+use Rattle.cad_near.proofs.many.strings_near.Given as goal
+
+-- those so far
+abbrev pub invariant-loop-held : goal.invariant-loop-held
+invariant-loop-held l = l.numbers.items ≡ map (λ (h : HeldString). h.string) l.yielded

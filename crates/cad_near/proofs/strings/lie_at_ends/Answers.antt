@@ -1,0 +1,11 @@
+use Rattle.std.proofs.Common.{rules, tests}
+use Rattle.std.proofs.lemmas.Iterator.{YieldsList-from_slice, cases_from_all}
+use Rattle.cad_near.specs.Near.{OfPoint, LiesAtEnds}
+use Rattle.cad_near.proofs.Candidates.{passed-all}
+use Rattle.cad_near.proofs.strings.lie_at_ends.Goals as goal
+
+pub returns : goal.returns
+returns g c =
+    let m = g.M.MapView.map c.args.map.now in
+    passed-all (OfPoint m (LiesAtEnds m)) c.args.points.now _ (cases_from_all _ _ _ (OfPoint m (LiesAtEnds m)) (λ x. ¬ (OfPoint m (LiesAtEnds m)) x) c.all.ensures.ran (YieldsList-from_slice c.args.points.now cc)
+    (λ x q k. search (rules, tests)) (λ x q k. search (rules, tests)))
