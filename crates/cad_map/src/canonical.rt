@@ -9,20 +9,21 @@ use cad_rings::comes_first;
 use cad_rows::Face;
 use std::cmp::Ordering;
 
-/// The place of a face: the outside comes first, and then parcels by their numbers.
-pub(crate) fn face_place(face: &Face) -> u32
-    ensures { result ≡ face_place_of face.now }
+/// The place of a face: 0 for the outside, and one more than the number of a parcel.
+pub fn face_place(face: Face) -> u64
+    ensures place { result ≡ face_place_of face }
+    ensures small { result ≤ 4294967296 }
 {
     match face {
         Face::Outside => 0,
-        Face::Parcel(no) => no.get() + 1,
+        Face::Parcel(no) => u64::from(no.get()) + 1,
     }
 }
 
 fn boundary_comes_first(a: &Boundary, b: &Boundary) -> bool
     ensures { result ≡ boundary_comes_first_of a.now b.now }
 {
-    let (x, y) = (face_place(&a.face), face_place(&b.face));
+    let (x, y) = (face_place(a.face), face_place(b.face));
     x < y || (x == y && comes_first(a.ring.points(), b.ring.points()))
 }
 

@@ -22,6 +22,7 @@ mod turn;
 mod walk;
 
 pub use boundary::Boundary;
+pub use canonical::face_place;
 pub use corner::{Corner, are_in_one_ring, chosen_corner};
 pub use laws::{faces_balance, one_list, one_outcome, one_shared_chain, parcels_add_up};
 pub use look::{far_end, is_end, is_face};

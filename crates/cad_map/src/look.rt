@@ -128,7 +128,7 @@ pub(crate) fn point_before(boundaries: &[Boundary], from: PointNo, to: PointNo) 
 pub fn is_face(a: &Face, b: &Face) -> bool
     ensures { result ≡ is_face_of a.now b.now }
 {
-    face_place(a) == face_place(b)
+    face_place(*a) == face_place(*b)
 }
 
 /// The boundaries of a face, among boundaries in canonical order: they stand
@@ -189,7 +189,7 @@ fn ends_below(boundaries: &[Boundary], at: usize, bound: u64) -> bool
     if at == 0 {
         return true;
     }
-    u64::from(face_place(&boundaries[at - 1].face)) < bound
+    face_place(boundaries[at - 1].face) < bound
 }
 
 /// Whether the boundary at a place, if there is one, is of a face from a bound on.
@@ -200,7 +200,7 @@ fn begins_from(boundaries: &[Boundary], at: usize, bound: u64) -> bool
     if at == boundaries.len() {
         return true;
     }
-    bound <= u64::from(face_place(&boundaries[at].face))
+    bound <= face_place(boundaries[at].face)
 }
 
 /// Where the boundaries of faces from a bound on begin. It is looked for first at a place where it
@@ -216,14 +216,14 @@ fn first_from(boundaries: &[Boundary], bound: u64, guessed: usize) -> usize
     {
         return guessed;
     }
-    boundaries.partition_point(|b| u64::from(face_place(&b.face)) < bound)
+    boundaries.partition_point(|b| face_place(b.face) < bound)
 }
 
 /// Where the boundaries of a face begin if each face from the second boundary's on has one, and the
 /// numbers of parcels follow one another.
-fn guessed_place(boundaries: &[Boundary], place: u32) -> usize {
+fn guessed_place(boundaries: &[Boundary], place: u64) -> usize {
     match boundaries.get(1) {
-        Some(second) => place.wrapping_sub(face_place(&second.face)).wrapping_add(1) as usize,
+        Some(second) => place.wrapping_sub(face_place(second.face)).wrapping_add(1) as usize,
         None => 0,
     }
 }
@@ -236,12 +236,8 @@ fn places_of(boundaries: &[Boundary], face: &Face) -> (usize, usize)
     ensures rings { map (λ b. b.ring) (slice_range boundaries.now result.0 result.1)
         ≡ rings_at face.now boundaries.now }
 {
-    let place = face_place(face);
-    let first = first_from(
-        boundaries,
-        u64::from(place),
-        guessed_place(boundaries, place),
-    );
-    let end = first_from(boundaries, u64::from(place) + 1, first.saturating_add(1));
+    let place = face_place(*face);
+    let first = first_from(boundaries, place, guessed_place(boundaries, place));
+    let end = first_from(boundaries, place + 1, first.saturating_add(1));
     (first, end)
 }

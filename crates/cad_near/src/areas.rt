@@ -1,13 +1,12 @@
 //! Areas of faces that are kept.
-ghost use Rattle.std.specs.Prelude.{◌≡◌, ◌≢◌, ◌+ℤ◌, Some, None, IfSome, IsTrue, false, is_some, FitsSigned};
+ghost use Rattle.std.specs.Prelude.{◌≡◌, ◌≢◌, ◌+ℤ◌, Some, None, IfSome, IsTrue, false, true, is_some, FitsSigned};
 ghost use Rattle.std.specs.Int.{w128};
 ghost use Rattle.std.specs.List.{AllByRecursion, Contains};
 ghost use Rattle.cad_rows.specs.declared.names.Face.{Face as FaceOf};
-ghost use Rattle.cad_map.specs.Boundaries.{face_place as face_place_of};
 ghost use Rattle.cad_map.specs.Rings.{HasWholeRings};
-ghost use Rattle.cad_near.specs.KeptAreas.{area_at, Gains, HoldsAreas};
+ghost use Rattle.cad_near.specs.KeptAreas.{area_at, Gains, HoldsAreas, TellsGap};
 
-use cad_map::MapView;
+use cad_map::{MapView, face_place};
 use cad_rows::Face;
 use cad_valid::{doubled_area_of, has_one_ring};
 use indexmap::IndexMap;
@@ -24,7 +23,7 @@ use std::marker::Model;
 pub struct FaceAreas {
     /// Each under the place of its face.
     areas: IndexMap<u64, i128, NumberHash>,
-    /// Whether one that was kept may be missing.
+    /// Whether one was forgotten.
     has_gaps: bool,
 }
 
@@ -33,13 +32,14 @@ impl Model for FaceAreas {
 
     ghost Value = { KeptAreas };
 
-    ghost view = { λ a. a.areas.entries };
+    ghost view = { λ a. record { areas = a.areas.entries; has_gaps = a.has_gaps } };
 }
 
 impl FaceAreas {
     /// Of no face. Takes no memory.
     pub fn none(alloc: Global, hash: NumberHash) -> FaceAreas
-        ensures { (f : FaceOf) → area_at result f ≡ None }
+        ensures none { (f : FaceOf) → area_at result f ≡ None }
+        ensures whole { result.has_gaps ≡ false }
     {
         FaceAreas {
             areas: IndexMap::with_hasher(alloc, hash),
@@ -47,9 +47,11 @@ impl FaceAreas {
         }
     }
 
-    /// Whether one that was kept may be missing. It is for speed alone: where none is, none has to be
-    /// sought.
-    pub fn has_gaps(&self) -> bool {
+    /// Whether the area of a face was forgotten. It is for speed alone: where none was, each long ring
+    /// that had its area kept has it still, and none has to be sought.
+    pub fn has_gaps(&self) -> bool
+        ensures { result ≡ self.now.has_gaps }
+    {
         self.has_gaps
     }
 
@@ -60,7 +62,7 @@ impl FaceAreas {
         if self.areas.is_empty() {
             return None;
         }
-        self.areas.get(&face_place(face)).copied()
+        self.areas.get(&face_place(*face)).copied()
     }
 
     /// Keeps the area of a face, in the place of one that was kept, which takes no memory. Where
@@ -70,15 +72,17 @@ impl FaceAreas {
         ensures again { IsTrue (is_some (area_at self.old face.now))
             → area_at self.new face.now ≡ Some area }
         ensures elsewhere { (f : FaceOf) → f ≢ face.now → area_at self.new f ≡ area_at self.old f }
+        ensures gaps { self.new.has_gaps ≡ self.old.has_gaps }
     {
-        let _ = self.areas.insert(face_place(face), area);
+        let _ = self.areas.insert(face_place(*face), area);
     }
 
     /// Keeps the area of a face of a map that has one ring, where none is kept of it. It walks the
     /// ring.
     pub fn keep_of<M: MapView>(&mut self, map: &M, face: &Face)
         requires { HasWholeRings (M.map map.now) }
-        ensures { HoldsAreas self.old (M.map map.now) → HoldsAreas self.new (M.map map.now) }
+        ensures holds { HoldsAreas self.old (M.map map.now) → HoldsAreas self.new (M.map map.now) }
+        ensures gaps { self.new.has_gaps ≡ self.old.has_gaps }
     {
         if self.get(face).is_none() && has_one_ring(map, face) {
             self.keep(face, doubled_area_of(map, face, 0));
@@ -89,16 +93,18 @@ impl FaceAreas {
     pub fn forget(&mut self, face: &Face)
         ensures here { area_at self.new face.now ≡ None }
         ensures elsewhere { (f : FaceOf) → f ≢ face.now → area_at self.new f ≡ area_at self.old f }
+        ensures gaps { self.new.has_gaps ≡ true }
     {
+        self.has_gaps = true;
         if !self.areas.is_empty() {
-            self.areas.swap_remove(&face_place(face));
-            self.has_gaps = true;
+            self.areas.swap_remove(&face_place(*face));
         }
     }
 
     /// Keeps none.
     pub fn clear(&mut self)
-        ensures { (f : FaceOf) → area_at self.new f ≡ None }
+        ensures none { (f : FaceOf) → area_at self.new f ≡ None }
+        ensures gaps { self.new.has_gaps ≡ true }
     {
         self.areas.clear();
         self.has_gaps = true;
@@ -111,11 +117,12 @@ impl FaceAreas {
         ensures kept { IfSome (area_at self.old face.now) (λ was. FitsSigned w128 (was +ℤ by)
             → area_at self.new face.now ≡ Some (was +ℤ by)) }
         ensures elsewhere { (f : FaceOf) → f ≢ face.now → area_at self.new f ≡ area_at self.old f }
+        ensures gaps { TellsGap self.old self.new face.now }
     {
         if self.areas.is_empty() {
             return;
         }
-        if let Some(area) = self.areas.get_mut(&face_place(face)) {
+        if let Some(area) = self.areas.get_mut(&face_place(*face)) {
             match area.checked_add(by) {
                 Some(sum) => *area = sum,
                 None => self.forget(face),
@@ -135,15 +142,5 @@ impl FaceAreas {
             }
         }
         false
-    }
-}
-
-/// The place of a face: 0 for the outside, and one more than the number of a parcel.
-fn face_place(face: &Face) -> u64
-    ensures { result ≡ face_place_of face.now }
-{
-    match face {
-        Face::Outside => 0,
-        Face::Parcel(no) => u64::from(no.get()) + 1,
     }
 }

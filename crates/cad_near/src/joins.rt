@@ -109,8 +109,9 @@ fn turns_round<M: MapView>(map: &M, joined: &Joined, from: PointNo, to: PointNo)
     round.least.get() < joined.point.get() && is_same_turn(round.area, round.area + bend)
 }
 
-/// Twice the area between the sides from a by p to b and the side from a to b.
-fn area_of_bend(a: Pt, p: Pt, b: Pt) -> i128
+/// Twice the area between the sides from a by p to b and the side from a to b, in doubled square
+/// millimetres: what a ring has more in its own where its side from a to b goes by p.
+pub fn area_of_bend(a: Pt, p: Pt, b: Pt) -> i128
     ensures value { result ≡ area_of_bend_of a p b }
     ensures small { unsigned_abs result ≤ 3 * measure_limit }
 {

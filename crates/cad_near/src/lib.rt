@@ -43,6 +43,7 @@ use cad_map::MapView;
 use cad_rows::{Face, PointNo, Rule, StringNo};
 use cell_grid::CellGrid;
 use geo_exact::Pt;
+pub use joins::area_of_bend;
 use std::alloc::Global;
 use std::marker::Model;
 

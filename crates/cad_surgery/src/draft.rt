@@ -15,7 +15,7 @@ ghost use Rattle.map_parts.specs.Views.{view_half};
 ghost use Rattle.cad_surgery.specs.Spans.{span_along};
 
 use crate::areas::area_along;
-use cad_map::{Counts, MapView, PlainMap, Span};
+use cad_map::{Counts, MapView, PlainMap, Span, face_place};
 use cad_rows::{
     Face, Memory, ParcelNo, ParcelRow, PointNo, PointRow, SourceNo, SourceRow, StringNo, StringRow,
 };
@@ -24,8 +24,8 @@ use edit_records::{grid_of, span_between};
 use half_table::{Half, HalfTable, Tally};
 use key_lists::KeyLists;
 use map_parts::{
-    MapRows, Spoke, add_strings, face_place, far_in_star, find_half_in_star, half_at, kept_half,
-    link_rings, star_of,
+    MapRows, Spoke, add_strings, far_in_star, find_half_in_star, half_at, kept_half, link_rings,
+    star_of,
 };
 use std::alloc::Global;
 use std::marker::Model;

@@ -1,5 +1,5 @@
 -- Numbers of areas as the code reads them: all are far within its integers.
-use Rattle.std.proofs.Common.{◌≡◌, ◌≤◌, pos, neg_ℤ, ◌+ℤ◌, ◌-ℤ◌, ◌∙◌, ℤ, refl, to_z, of_z, unsigned_abs, FitsSigned, to_z-of_z, arith}
+use Rattle.std.proofs.Common.{◌≡◌, ◌≤◌, pos, neg_ℤ, ◌*◌, ◌-ℤ◌, ◌∙◌, ℤ, refl, to_z, of_z, unsigned_abs, FitsSigned, to_z-of_z, arith}
 use Rattle.std.specs.Int.{w128}
 use Rattle.std.proofs.lemmas.Int.{ints}
 use Rattle.geo_exact.specs.Measure.{measure_limit}
@@ -25,30 +25,10 @@ module _ (x y : ℤ) (first : unsigned_abs x ≤ measure_limit)
   pub less-small : unsigned_abs (to_z w128 (of_z w128 less)) ≤ 1000000000000000000000
   less-small = rw less-value (omega (arith, ints))
 
-module _ (x y z : ℤ) (first : unsigned_abs x ≤ measure_limit)
-    (second : unsigned_abs y ≤ measure_limit) (third : unsigned_abs z ≤ measure_limit) where
-  -- what is read of two areas less a third
-  abbrev bend : ℤ
-  bend =
-      to_z w128 (of_z w128 (to_z w128 (of_z w128 x) +ℤ to_z w128 (of_z w128 y)))
-      -ℤ to_z w128 (of_z w128 z)
-
-  bend-is : bend ≡ x +ℤ y -ℤ z
-  bend-is =
-      let one : FitsSigned w128 x = omega (arith, ints) in
-      let other : FitsSigned w128 y = omega (arith, ints) in
-      let between : FitsSigned w128 z = omega (arith, ints) in
-      let both : FitsSigned w128 (x +ℤ y) = omega (arith, ints) in
-      simp to_z-of_z refl
-
-  pub bend-fits : FitsSigned w128 bend
-  bend-fits = rw bend-is (omega (arith, ints))
-
-  pub bend-value : to_z w128 (of_z w128 bend) ≡ x +ℤ y -ℤ z
-  bend-value = to_z-of_z bend-fits ∙ bend-is
-
-  pub bend-small : unsigned_abs (to_z w128 (of_z w128 bend)) ≤ 1000000000000000000000
-  bend-small = rw bend-value (omega (arith, ints))
+-- a bend's area is as small as that
+pub bend-small : (z : ℤ) → unsigned_abs z ≤ 3 * measure_limit
+    → unsigned_abs z ≤ 1000000000000000000000
+bend-small z small = omega (arith, small)
 
 -- what is read of the opposite of a number
 pub opposite-value : (z : ℤ) → unsigned_abs z ≤ 1000000000000000000000

@@ -1,8 +1,7 @@
 //! Areas that are kept of faces, brought up to date with an edit, and with its record back and
 //! forward.
-ghost use Rattle.std.specs.Prelude.{◌≡◌, ◌<◌, ◌≤◌, ℕ, ℤ, ◌+ℤ◌, ◌-ℤ◌, Some, None, IfSome, IsPermutation, slice_get, unsigned_abs};
+ghost use Rattle.std.specs.Prelude.{◌≡◌, ◌<◌, ◌≤◌, ℕ, ℤ, ◌-ℤ◌, Some, None, IfSome, IsPermutation, slice_get, unsigned_abs};
 ghost use Rattle.std.specs.List.{AllByRecursion};
-ghost use Rattle.geo_exact.specs.Measure.{doubled_area};
 ghost use Rattle.cad_rows.specs.declared.names.Face.{Face as FaceOf};
 ghost use Rattle.cad_rows.specs.declared.rows.StringRow.{StringRow as StringOf};
 ghost use Rattle.cad_map.specs.Asked.{GivesInRange};
@@ -21,7 +20,7 @@ ghost use Rattle.edit_records.specs.Recut.{recut};
 use crate::grid_edits::at;
 use crate::record::SmallRecord;
 use cad_map::{MapView, far_end, far_with, position};
-use cad_near::{FaceAreas, Touched};
+use cad_near::{FaceAreas, Touched, area_of_bend};
 use cad_rows::{Edit, Face, PointNo, StringRow};
 use geo_exact::{DoubledArea, Pt, SideMeasure};
 
@@ -55,14 +54,6 @@ fn swept_by(from: Pt, to: Pt, far: Pt) -> i128
     ensures small { unsigned_abs result ≤ 1000000000000000000000 }
 {
     DoubledArea.of(to, far) - DoubledArea.of(from, far)
-}
-
-// Twice the area between the sides from a by p to b and the side from a to b.
-fn bend_by(a: Pt, p: Pt, b: Pt) -> i128
-    ensures value { result ≡ doubled_area a p +ℤ doubled_area p b -ℤ doubled_area a b }
-    ensures small { unsigned_abs result ≤ 1000000000000000000000 }
-{
-    DoubledArea.of(a, p) + DoubledArea.of(p, b) - DoubledArea.of(a, b)
 }
 
 // Brings the areas beside one string of a point up to date where the point goes.
@@ -106,7 +97,7 @@ fn bend<M: MapView>(areas: &mut FaceAreas, map: &M, a: PointNo, p: Pt, b: PointN
         → AreNotJoined bent a b → position_of bent n ≡ p
         → HoldsAreas areas.old (M.map map.now) → HoldsAreas areas.new bent }
 {
-    let by = bend_by(position(map, a), p, position(map, b));
+    let by = area_of_bend(position(map, a), p, position(map, b));
     add_beside(areas, map, a, b, by);
 }
 
@@ -116,7 +107,7 @@ fn straighten<M: MapView>(areas: &mut FaceAreas, map: &M, a: PointNo, p: PointNo
     ensures { (straight : Map) → GoesStraight (M.map map.now) straight p a b
         → HoldsAreas areas.old (M.map map.now) → HoldsAreas areas.new straight }
 {
-    let by = bend_by(position(map, a), position(map, p), position(map, b));
+    let by = area_of_bend(position(map, a), position(map, p), position(map, b));
     add_beside(areas, map, a, p, -by);
 }
 

@@ -3,19 +3,10 @@ ghost use Rattle.std.specs.Prelude.{◌≡◌, ◌++◌, ◌∷◌, [], ℕ, sli
 ghost use Rattle.cad_map.specs.Boundaries.{face_place as face_place_of};
 ghost use Rattle.key_lists.specs.Held.{items_at};
 
+use cad_map::face_place;
 use cad_rows::{Face, Memory};
 use half_table::Half;
 use key_lists::KeyLists;
-
-/// The place of a face: 0 for the outside, and one more than the number of a parcel.
-pub fn face_place(face: Face) -> u64
-    ensures { result ≡ face_place_of face }
-{
-    match face {
-        Face::Outside => 0,
-        Face::Parcel(no) => u64::from(no.get()) + 1,
-    }
-}
 
 /// The half that is kept of one ring of a face, and `None` past the last of its rings.
 pub fn kept_half(kept: &KeyLists<Half>, face: Face, place: usize) -> Option<Half>

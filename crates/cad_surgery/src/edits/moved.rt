@@ -10,13 +10,12 @@ ghost use Rattle.map_parts.specs.Placed.{AreOfHoles, moves_in};
 
 use crate::draft::Draft;
 use cad_edit::is_in_ring;
-use cad_map::{MapView, position};
+use cad_map::{MapView, face_place, position};
 use cad_rings::Ring;
 use cad_rows::{Face, Memory};
 use cad_valid::{anchor_of, insides_of, is_hole};
 use geo_exact::Pt;
 use half_table::{Half, Tally};
-use map_parts::face_place;
 use std::alloc::Global;
 
 /// The anchors of so many rings are sorted, so that a side is counted at few of them.

@@ -14,10 +14,9 @@ ghost use Rattle.map_parts.specs.Parts.{map_of};
 use crate::draft::Draft;
 use crate::edits::crossing::half_along;
 use crate::edits::merging::Way;
-use cad_map::SharedChain;
+use cad_map::{SharedChain, face_place};
 use cad_rows::{Face, Memory, Numbers, ParcelNo, PointNo, StringNo};
 use half_table::{Half, HalfTable, Tally};
-use map_parts::face_place;
 use std::alloc::Global;
 
 /// What a merger goes by: where the strings that the two parcels share lead, the halves along them

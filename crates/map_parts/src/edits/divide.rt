@@ -18,7 +18,7 @@ ghost use Rattle.map_parts.specs.FaceTicks.{ticks_to_bring_across, ticks_to_take
 use crate::edits::chain::{bring_chain, take_chain};
 use crate::edits::faces::{relabel_each, relabel_path};
 use crate::edits::handing::{clear, hand_over, keep_both, keep_one};
-use crate::kept::face_place;
+use cad_map::face_place;
 use cad_rows::Face;
 use half_table::{Half, HalfTable, Tally};
 use key_lists::KeyLists;

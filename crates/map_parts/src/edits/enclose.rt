@@ -14,7 +14,7 @@ ghost use Rattle.map_parts.specs.Handing.{KeepsEnds, KeepsNoMore};
 
 use crate::edits::handing::{clear, hand_over};
 use crate::edits::island::{bring_island, take_island};
-use crate::kept::face_place;
+use cad_map::face_place;
 use cad_rows::Face;
 use half_table::{Half, HalfTable, Tally};
 use key_lists::KeyLists;

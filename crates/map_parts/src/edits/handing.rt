@@ -5,7 +5,7 @@ ghost use Rattle.half_paths.specs.Path.{AreIn};
 ghost use Rattle.key_lists.specs.Held.{items_at, capacity_at, HasRoomAt, KeepsOthers};
 ghost use Rattle.map_parts.specs.Handing.{HandsOver, KeepsBoth, KeepsOne};
 
-use crate::kept::face_place;
+use cad_map::face_place;
 use cad_rows::Face;
 use half_table::{Half, HalfTable, Tally};
 use key_lists::KeyLists;

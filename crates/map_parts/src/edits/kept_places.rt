@@ -4,7 +4,7 @@ ghost use Rattle.key_lists.specs.Held.{items_at};
 ghost use Rattle.cad_map.specs.Boundaries.{face_place as face_place_of};
 ghost use Rattle.map_parts.specs.Passing.{in_place_of, in_place_at};
 
-use crate::kept::face_place;
+use cad_map::face_place;
 use cad_rows::Face;
 use half_table::Half;
 use key_lists::KeyLists;

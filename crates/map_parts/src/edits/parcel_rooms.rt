@@ -12,9 +12,9 @@ ghost use Rattle.map_parts.specs.Adding.{AreAdded, HasRoomAtEnds, HasRoomToExcha
 ghost use Rattle.map_parts.specs.Rows.{map_in};
 ghost use Rattle.map_parts.specs.TableGrown.{CameAndWent};
 
-use crate::kept::face_place;
 use crate::map_rows::MapRows;
 use crate::stars::Spoke;
+use cad_map::face_place;
 use cad_rows::{Face, Memory, ParcelNo, StringRow};
 use half_paths::add_strings;
 use half_table::{Half, HalfTable, Tally};

@@ -8,8 +8,8 @@ pub returns : goal.returns
 returns c =
     let bs = c.args.boundaries.now in
     let n = face_place c.args.face.now in
-    let place = c.from.ensures ∙ c.face_place-place.ensures in
-    let next = ap (λ k. k + 1) (c.from-2.ensures ∙ c.face_place-place.ensures) in
+    let place = c.face_place-place.ensures.place in
+    let next = ap (λ k. k + 1) c.face_place-place.ensures.place in
     let first = c.first_from-first.result in
     let end = c.first_from-end.result in
     let bounds : AreBounds place_of bs n first end = record {

@@ -97,4 +97,4 @@ returns-in-Ok-clause-areas g c =
     (c.areas_again.ensures n belongs)
 
 pub returns-clause-areas : goal.returns-clause-areas
-returns-clause-areas g c = none-holds c.clear.new.self (map_of c.withdraw-in-Err.new.self) c.clear.ensures
+returns-clause-areas g c = none-holds c.clear.new.self (map_of c.withdraw-in-Err.new.self) c.clear.ensures.none

@@ -32,4 +32,7 @@ returns-then-has_one_ring g c =
     let here : IfSome (area_at c.keep.new.self f) (λ kept. kept ≡ sum_of_face doubled_area m f)
     = IfSome_then (area_at c.keep.new.self f) (simp to_z-of_z at c.keep.ensures.here)
     (λ kept same. same ∙ is) in
-    holds-kept c.args.self.now c.keep.new.self m f here c.keep.ensures.elsewhere
+    record {
+      holds = holds-kept c.args.self.now c.keep.new.self m f here c.keep.ensures.elsewhere;
+      gaps = c.keep.ensures.gaps;
+    }

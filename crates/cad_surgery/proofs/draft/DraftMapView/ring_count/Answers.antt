@@ -16,4 +16,4 @@ pub returns-clause-count : goal.returns-clause-count
 returns-clause-count g c =
     ap length c.at.ensures
     ∙ subst (λ (d : Parts). length (items_at c.self.inside.kept c.face_place.result) ≡ length (rings_at c.args.face (rings_kept d))) c.self.view_is
-    (ap (λ (n : ℕ). length (items_at c.self.inside.kept n)) c.face_place.ensures ∙ rings-count _ c.self.invariant c.args.face)
+    (ap (λ (n : ℕ). length (items_at c.self.inside.kept n)) c.face_place.ensures.place ∙ rings-count _ c.self.invariant c.args.face)

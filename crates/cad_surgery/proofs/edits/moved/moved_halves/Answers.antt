@@ -19,7 +19,7 @@ is_hole_inside-requires-clause-there g c =
     let f = c.args.face.now in
     let fit = subst FitTogether c.draft.view_is c.draft.invariant in
     let many = as-many d fit c.requires f in
-    let told = ap length (c.at-kept.ensures ∙ (λ i. items_at c.draft.inside.kept (c.face_place.ensures i)) ∙ ap (λ (q : Parts). kept_at q f) c.draft.view_is) in
+    let told = ap length (c.at-kept.ensures ∙ (λ i. items_at c.draft.inside.kept (c.face_place.ensures.place i)) ∙ ap (λ (q : Parts). kept_at q f) c.draft.view_is) in
     let low = c.loop-place-test.true in
     omega (arith, many, told, low)
 
@@ -29,7 +29,7 @@ index-requires g c =
     let f = c.args.face.now in
     let fit = subst FitTogether c.draft.view_is c.draft.invariant in
     let many = as-many d fit c.requires f in
-    let told = ap length (c.at-kept.ensures ∙ (λ i. items_at c.draft.inside.kept (c.face_place.ensures i)) ∙ ap (λ (q : Parts). kept_at q f) c.draft.view_is) in
+    let told = ap length (c.at-kept.ensures ∙ (λ i. items_at c.draft.inside.kept (c.face_place.ensures.place i)) ∙ ap (λ (q : Parts). kept_at q f) c.draft.view_is) in
     let inside = ap length c.in_ok-inside.ensures ∙ length-map (rings_at f (rings_kept d)) (λ (r : Ring). is_in_ring (map_of d) c.args.ring.now (anchor_of r)) in
     let low = c.loop-place-test.true in
     omega (arith, many, told, inside, low)
@@ -41,7 +41,7 @@ loop-place-preserved g c =
     let ring = c.args.ring.now in
     let i = c.loop-place.place in
     let fit = subst FitTogether c.draft.view_is c.draft.invariant in
-    let lent = c.at-kept.ensures ∙ (λ i. items_at c.draft.inside.kept (c.face_place.ensures i)) ∙ ap (λ (q : Parts). kept_at q f) c.draft.view_is in
+    let lent = c.at-kept.ensures ∙ (λ i. items_at c.draft.inside.kept (c.face_place.ensures.place i)) ∙ ap (λ (q : Parts). kept_at q f) c.draft.view_is in
     let many = as-many d fit c.requires f in
     let told = ap length lent in
     let low = c.loop-place-test.true in
@@ -67,7 +67,7 @@ pub returns-clause-kept : goal.returns-clause-kept
 returns-clause-kept g c =
     let d = c.args.draft.now in
     let f = c.args.face.now in
-    let lent = c.at-kept.ensures ∙ (λ i. items_at c.draft.inside.kept (c.face_place.ensures i)) ∙ ap (λ (q : Parts). kept_at q f) c.draft.view_is in
+    let lent = c.at-kept.ensures ∙ (λ i. items_at c.draft.inside.kept (c.face_place.ensures.place i)) ∙ ap (λ (q : Parts). kept_at q f) c.draft.view_is in
     c.loop-place.invariant
     ∙ ap (filter (λ h. moves_in (map_of d) f c.args.ring.now (home_of (map_of d) d.table.rows h)))
     (ap (take c.loop-place.place) (sym lent) ∙ take_all c.loop-place.place c.at-kept.result.now c.loop-place-test.false ∙ lent)
@@ -76,7 +76,7 @@ pub returns-clause-holes : goal.returns-clause-holes
 returns-clause-holes g c =
     let d = c.args.draft.now in
     let f = c.args.face.now in
-    let lent = c.at-kept.ensures ∙ (λ i. items_at c.draft.inside.kept (c.face_place.ensures i)) ∙ ap (λ (q : Parts). kept_at q f) c.draft.view_is in
+    let lent = c.at-kept.ensures ∙ (λ i. items_at c.draft.inside.kept (c.face_place.ensures.place i)) ∙ ap (λ (q : Parts). kept_at q f) c.draft.view_is in
     holes-are d (subst FitTogether c.draft.view_is c.draft.invariant) c.requires f c.args.ring.now c.loop-place.halves.items
     (c.loop-place.invariant
     ∙ ap (filter (λ h. moves_in (map_of d) f c.args.ring.now (home_of (map_of d) d.table.rows h)))

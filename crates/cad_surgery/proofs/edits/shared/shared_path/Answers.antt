@@ -64,7 +64,7 @@ returns-clause-path g c =
     let d = c.args.draft.now in
     let h = c.half_along-begin.result in
     let f = c.half_along-finish.result in
-    let own = c.at-own.ensures ∙ (λ i. items_at c.draft.inside.kept (c.face_place.ensures i)) ∙ ap (λ (q : Parts). kept_at q (Parcel c.args.ended)) c.draft.view_is in
+    let own = c.at-own.ensures ∙ (λ i. items_at c.draft.inside.kept (c.face_place.ensures.place i)) ∙ ap (λ (q : Parts). kept_at q (Parcel c.args.ended)) c.draft.view_is in
     found-path d (subst FitTogether c.draft.view_is c.draft.invariant) c.args.kept.now c.args.ended c.requires.tried c.args.first c.args.last c.args.sides c.requires.shared
     h c.half_along-begin.ensures f c.half_along-finish.ensures
     c.in_ok-ring.ring.items (c.in_ok-ring.ensures ∙ ap (λ (q : Parts). cycle q.table.rows h) c.draft.view_is)

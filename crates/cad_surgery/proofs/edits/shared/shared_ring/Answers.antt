@@ -31,7 +31,7 @@ returns-clause-ring g c =
     let h = c.unwrap-first.result in
     let along : IsAlong (rows_of d) d.table.rows (c.args.side.1, c.args.side.0) h =
     subst (λ (o : Option Half). IfSome o (IsAlong (rows_of d) d.table.rows (c.args.side.1, c.args.side.0))) c.unwrap-first.ensures c.half.ensures.some in
-    let own = c.at-own.ensures ∙ (λ i. items_at c.draft.inside.kept (c.face_place.ensures i)) ∙ ap (λ (q : Parts). kept_at q (Parcel c.args.ended)) c.draft.view_is in
+    let own = c.at-own.ensures ∙ (λ i. items_at c.draft.inside.kept (c.face_place.ensures.place i)) ∙ ap (λ (q : Parts). kept_at q (Parcel c.args.ended)) c.draft.view_is in
     ring-found d (subst FitTogether c.draft.view_is c.draft.invariant) c.args.kept.now c.args.ended c.requires.tried c.args.side c.requires.shared h along
     c.in_ok-path.path.items (c.in_ok-path.ensures ∙ ap (λ (q : Parts). cycle q.table.rows h) c.draft.view_is)
     c.at-own.result.now own

@@ -19,7 +19,7 @@ invariant_of-result g c =
         proper = proper d c.in_ok-draft.ensures.fit whole (λ h. c.in_ok-draft.ensures.halves h ∙ ap (λ (m : Map). has_string m h.string) (sym is));
         grid = subst (IsGridOf d.grid) (sym is) c.in_ok-draft.ensures.grid;
       };
-      areas = c.keep_areas.ensures (none-holds c.none-areas.result (map_of d) c.none-areas.ensures);
+      areas = c.keep_areas.ensures (none-holds c.none-areas.result (map_of d) c.none-areas.ensures.none);
     }
 
 pub keep_areas-requires : goal.keep_areas-requires

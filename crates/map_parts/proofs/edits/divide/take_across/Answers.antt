@@ -50,7 +50,7 @@ hand_over-requires-2-clause-within g c =
     let inner : ℕ = face_place c.args.inner.now in
     let old = c.args.table.now.rows in
     let new = c.take_left.new.table.rows in
-    let told = cleared c.face_place.result inner outer c.hand_over.new.kept c.clear.new.kept c.face_place.ensures c.requires.path.faces c.clear.ensures.others c.clear.ensures.none in
+    let told = cleared c.face_place.result inner outer c.hand_over.new.kept c.clear.new.kept c.face_place.ensures.place c.requires.path.faces c.clear.ensures.others c.clear.ensures.none in
     subst (AreIn new) (sym told.0)
     (in-relabelled old new (items_at c.hand_over.new.kept outer) (λ h. c.take_left.ensures.halves.has h ∙ c.relabel_each.ensures.relabels.has h)
     (in-handed old c.relabel_each.new.table.rows inner outer c.args.kept.now c.hand_over.new.kept c.hand_over.ensures.hands c.requires.path.inner_in c.requires.path.outer_in))
@@ -59,7 +59,7 @@ pub hand_over-requires-2-clause-room : goal.hand_over-requires-2-clause-room
 hand_over-requires-2-clause-room g c =
     let outer : ℕ = face_place c.args.outer.now in
     let inner : ℕ = face_place c.args.inner.now in
-    let told = cleared c.face_place.result inner outer c.hand_over.new.kept c.clear.new.kept c.face_place.ensures c.requires.path.faces c.clear.ensures.others c.clear.ensures.none in
+    let told = cleared c.face_place.result inner outer c.hand_over.new.kept c.clear.new.kept c.face_place.ensures.place c.requires.path.faces c.clear.ensures.others c.clear.ensures.none in
     let cap = put-capacity c.face_place.result inner c.hand_over.new.kept c.clear.new.kept c.clear.ensures.others c.clear.ensures.capacity in
     let cap_one = c.hand_over.ensures.capacity inner in
     let handed = (room-handed c.relabel_each.new.table.rows inner outer c.args.kept.now c.hand_over.new.kept c.hand_over.ensures.hands).1 in
@@ -70,7 +70,7 @@ pub keep_one-requires-clause-room : goal.keep_one-requires-clause-room
 keep_one-requires-clause-room g c =
     let outer : ℕ = face_place c.args.outer.now in
     let inner : ℕ = face_place c.args.inner.now in
-    let told = cleared c.face_place.result inner outer c.hand_over.new.kept c.clear.new.kept c.face_place.ensures c.requires.path.faces c.clear.ensures.others c.clear.ensures.none in
+    let told = cleared c.face_place.result inner outer c.hand_over.new.kept c.clear.new.kept c.face_place.ensures.place c.requires.path.faces c.clear.ensures.others c.clear.ensures.none in
     let cap = put-capacity c.face_place.result outer c.hand_over.new.kept c.clear.new.kept c.clear.ensures.others c.clear.ensures.capacity in
     let cap_one = c.hand_over.ensures.capacity outer in
     let cap_two = c.hand_over-2.ensures.capacity outer in
@@ -86,7 +86,7 @@ pub returns-clause-kept : goal.returns-clause-kept
 returns-clause-kept g c =
     let outer : ℕ = face_place c.args.outer.now in
     let inner : ℕ = face_place c.args.inner.now in
-    let told = cleared c.face_place.result inner outer c.hand_over.new.kept c.clear.new.kept c.face_place.ensures c.requires.path.faces c.clear.ensures.others c.clear.ensures.none in
+    let told = cleared c.face_place.result inner outer c.hand_over.new.kept c.clear.new.kept c.face_place.ensures.place c.requires.path.faces c.clear.ensures.others c.clear.ensures.none in
     let count = count-handed c.relabel_each.new.table.rows inner outer c.args.kept.now c.hand_over.new.kept c.hand_over.ensures.hands in
     let again = count-handed c.take_left.new.table.rows outer inner c.clear.new.kept c.hand_over-2.new.kept c.hand_over-2.ensures.hands in
     let one = one-few inner outer c.next-start.result c.hand_over-2.new.kept c.keep_one.new.kept c.keep_one.ensures.one in
@@ -123,7 +123,7 @@ returns-clause-chain g c = λ whole parted its ends goes.
     let back = c.relabel_each.new.table.rows in
     let new = c.take_left.new.table.rows in
     let labels = c.relabel_each.ensures.relabels in
-    let key = c.face_place.ensures in
+    let key = c.face_place.ensures.place in
     let fits = goes.0 in
     let origins : (h : Half) → _ = (returns-clause-halves g c).origin in
     let faces_new : (h : Half) → face new h ≡ (if is_of (strings_of (first ∷ rest)) h then inner else if holds (cycle old first) h then outer else if on_cycles old moved h then outer else face old h) =

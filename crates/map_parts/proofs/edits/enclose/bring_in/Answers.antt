@@ -20,7 +20,7 @@ hand_over-requires-clause-room g c = let room = c.requires.inner_room in omega (
 
 pub put-requires : goal.put-requires
 put-requires g c =
-    let key = c.face_place-inner_key.ensures in
+    let key = c.face_place-inner_key.ensures.place in
     let n = face_place c.args.inner.now in
     let handed = (room-handed c.bring_island.new.table.rows (face_place c.args.outer.now) n c.args.kept.now c.hand_over.new.kept c.hand_over.ensures.hands).1 in
     let cap = c.hand_over.ensures.capacity n in
@@ -29,9 +29,9 @@ put-requires g c =
 
 pub put-requires-2 : goal.put-requires-2
 put-requires-2 g c =
-    let key = c.face_place-outer_key.ensures in
+    let key = c.face_place-outer_key.ensures.place in
     let n = face_place c.args.outer.now in
-    let apart : ¬ (c.face_place-inner_key.result ≡ n) = λ e. c.requires.faces (sym (sym c.face_place-inner_key.ensures ∙ e)) in
+    let apart : ¬ (c.face_place-inner_key.result ≡ n) = λ e. c.requires.faces (sym (sym c.face_place-inner_key.ensures.place ∙ e)) in
     let items = items-of c.face_place-inner_key.result n c.hand_over.new.kept c.put.new.self c.put.ensures.others apart in
     let own = capacity-of c.face_place-inner_key.result n c.hand_over.new.kept c.put.new.self c.put.ensures.others apart in
     let handed = (room-handed c.bring_island.new.table.rows n (face_place c.args.inner.now) c.args.kept.now c.hand_over.new.kept c.hand_over.ensures.hands).0 in
@@ -57,8 +57,8 @@ returns-clause-island g c = λ whole parted its none ends goes.
     let now = c.put-2.new.self in
     let first : Half = c.args.first.now in
     let path = first ∷ c.args.rest.now in
-    let is_inner = c.face_place-inner_key.ensures in
-    let is_outer = c.face_place-outer_key.ensures in
+    let is_inner = c.face_place-inner_key.ensures.place in
+    let is_outer = c.face_place-outer_key.ensures.place in
     let fits_new : FitsTable parted new = c.bring_island.ensures.island whole parted its.ring its.left its.right its.others its.rings its.parts its.is its.more its.along ends its.of goes.0 in
     let on = first-on whole parted c.args.outer.now c.args.inner.now its.ring its.left its.right its.others its.is its.parts first c.args.rest.now its.more c.args.moved.now new
     (along-same old new c.bring_island.ensures.halves.origin path (sides_of its.ring) its.along) in
@@ -86,8 +86,8 @@ returns-clause-count g c =
     let mid = c.hand_over.new.kept in
     let one = c.put.new.self in
     let now = c.put-2.new.self in
-    let is_inner = c.face_place-inner_key.ensures in
-    let is_outer = c.face_place-outer_key.ensures in
+    let is_inner = c.face_place-inner_key.ensures.place in
+    let is_outer = c.face_place-outer_key.ensures.place in
     let far_inner : ¬ (c.face_place-outer_key.result ≡ inner) = λ e. c.requires.faces (sym is_outer ∙ e) in
     let far_outer : ¬ (c.face_place-inner_key.result ≡ outer) = λ e. c.requires.faces (sym (sym is_inner ∙ e)) in
     let at_inner : items_at now inner ≡ items_at mid inner ++ c.args.first.now ∷ [] =

@@ -43,7 +43,7 @@ returns-clause-kept g c =
     let new = c.take_island.new.table.rows in
     let outer : ℕ = face_place c.args.outer.now in
     let inner : ℕ = face_place c.args.inner.now in
-    let told = cleared c.face_place.result inner outer c.hand_over-2.new.kept c.clear.new.kept c.face_place.ensures c.requires.path.faces c.clear.ensures.others c.clear.ensures.none in
+    let told = cleared c.face_place.result inner outer c.hand_over-2.new.kept c.clear.new.kept c.face_place.ensures.place c.requires.path.faces c.clear.ensures.others c.clear.ensures.none in
     let count = count-handed new inner outer c.args.kept.now c.hand_over.new.kept c.hand_over.ensures.hands in
     let again = count-handed new outer inner c.hand_over.new.kept c.hand_over-2.new.kept c.hand_over-2.ensures.hands in
     record {
@@ -62,7 +62,7 @@ returns-clause-island g c = λ whole parted its long ends goes.
     let outer = c.args.outer.now in
     let inner = c.args.inner.now in
     let moved = c.args.moved.now in
-    let key = c.face_place.ensures in
+    let key = c.face_place.ensures.place in
     let fits = goes.0 in
     let fits_new : FitsTable whole new = c.take_island.ensures.island whole parted its.ring its.left its.right its.others its.parts long its.is its.more its.along ends its.of fits in
     let on = first-on whole parted outer inner its.ring its.left its.right its.others its.is its.parts first c.args.rest.now its.more moved old its.along in

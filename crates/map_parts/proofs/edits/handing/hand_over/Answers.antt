@@ -38,14 +38,14 @@ face-requires g c =
     let now = c.loop-step.kept in
     All-at_each (λ h. has rows h ≡ true) (items_at now from) c.index-at-place.result
     (still-in rows from c.face_place-to_key.result old now c.loop-step.place c.loop-step._step c.loop-step.invariant
-    (subst (λ (k : ℕ). AreIn rows (items_at old k)) (sym c.face_place-from_key.ensures) c.requires.within))
+    (subst (λ (k : ℕ). AreIn rows (items_at old k)) (sym c.face_place-from_key.ensures.place) c.requires.within))
     (Contains-at (items_at now from) c.loop-step.place c.index-at-place.result (half_at g (goal.at.face-requires g c).After-index-at-place (low g (goal.at.face-requires g c).In-loop-step)))
 
 pub hand_at-requires-clause-room : goal.hand_at-requires-clause-room
 hand_at-requires-clause-room g c =
     let old = c.args.kept.now in
     has-room c.args.table.now.rows c.face_place-from_key.result c.face_place-to_key.result old c.loop-step.kept c.loop-step.place c.loop-step._step c.loop-step.invariant
-    (subst (λ (k : ℕ × ℕ). HasRoomAt old k.1 (length (items_at old k.0))) (λ i. (sym c.face_place-from_key.ensures i, sym c.face_place-to_key.ensures i)) c.requires.room)
+    (subst (λ (k : ℕ × ℕ). HasRoomAt old k.1 (length (items_at old k.0))) (λ i. (sym c.face_place-from_key.ensures.place i, sym c.face_place-to_key.ensures.place i)) c.requires.room)
     (low g (goal.at.hand_at-requires-clause-room g c).In-loop-step)
 
 pub loop-step-preserved : goal.loop-step-preserved
@@ -60,7 +60,7 @@ loop-step-preserved g c =
     let half : Half = c.index-at-place.result in
     let inv = c.loop-step.invariant in
     let at = half_at g (goal.at.loop-step-preserved g c).After-index-at-place (low g (goal.at.loop-step-preserved g c).In-loop-step) in
-    let told = c.face_place.ensures ∙ ap face_place c.face.ensures in
+    let told = c.face_place.ensures.place ∙ ap face_place c.face.ensures in
     elim c.if-face_place-to_key.branch [
       | then-face_place-to_key w ↦
           let hands = w.hand_at.ensures in
@@ -82,5 +82,5 @@ returns-clause-hands g c =
     let old = c.args.kept.now in
     let total = ap length c.at-step-end.ensures in
     let past : length (items_at old from) ≤ c.loop-step._step = omega (arith, total, c.loop-step-test.false) in
-    subst (λ (k : ℕ × ℕ). HandsOver rows k.0 k.1 old c.loop-step.kept) (λ i. (c.face_place-from_key.ensures i, c.face_place-to_key.ensures i))
+    subst (λ (k : ℕ × ℕ). HandsOver rows k.0 k.1 old c.loop-step.kept) (λ i. (c.face_place-from_key.ensures.place i, c.face_place-to_key.ensures.place i))
     (hand-all rows from to old c.loop-step.kept c.loop-step.place c.loop-step._step c.loop-step.invariant past)

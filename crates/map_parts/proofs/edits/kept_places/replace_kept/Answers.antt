@@ -37,7 +37,7 @@ pub returns : goal.returns
 returns c = λ n.
     subst (λ (k : ℕ). items_at c.loop-place.kept n
     ≡ map (in_place_at k c.args.from.now c.args.to.now n) (items_at c.args.kept.now n))
-    c.face_place-key.ensures
+    c.face_place-key.ensures.place
     (placed-all c.face_place-key.result c.args.from.now c.args.to.now c.args.kept.now c.loop-place.kept
     c.loop-place.place
     (subst (λ (l : List Half). length l ≤ c.loop-place.place) c.at-count.ensures c.loop-place-test.false)
