@@ -60,7 +60,7 @@ fn begin(alloc: Global, hash: NumberHash, rows: &PlanRows) -> Result<Begun, Plan
     ensures err { IfErr result (λ fault. fault ≢ faults.Memory → IsBuildFault rows.now fault) }
 {
     are_in_range(rows);
-    let mut plain = PlainMap::with_room(alloc, hash, &counts_of(rows))?;
+    let mut plain = PlainMap::with_room(alloc, hash, &room_for(rows))?;
     match put_rows(&mut plain, rows) {
         Ok(()) => {}
         Err(fault) => return Err(fault),
@@ -98,14 +98,19 @@ fn finish(alloc: Global, begun: Begun) -> Result<PlainMap, PlanFault>
     Ok(plain)
 }
 
-// How many rows of each kind there are.
-fn counts_of(rows: &PlanRows) -> Counts {
+// So many, and an eighth more: the first edits then move no table to put a row into it.
+fn and_more(rows: usize) -> usize {
+    rows.saturating_add(rows / 8)
+}
+
+// For how many rows of each kind there is to be room.
+fn room_for(rows: &PlanRows) -> Counts {
     Counts {
-        sources: rows.sources.len(),
-        points: rows.points.len(),
-        parcels: rows.parcels.len(),
-        strings: rows.strings.len(),
-        retired: rows.retired.len(),
+        sources: and_more(rows.sources.len()),
+        points: and_more(rows.points.len()),
+        parcels: and_more(rows.parcels.len()),
+        strings: and_more(rows.strings.len()),
+        retired: and_more(rows.retired.len()),
     }
 }
 

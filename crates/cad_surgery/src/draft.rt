@@ -73,6 +73,11 @@ pub(crate) fn side<T: Tally>(table: &HalfTable<T>, half: &Half) -> (PointNo, Poi
     (table.origin(*half), table.origin(twin))
 }
 
+/// So many, and an eighth more: the first edits then move no table to put a row into it.
+fn and_more(rows: usize) -> usize {
+    rows.saturating_add(rows / 8)
+}
+
 /// The number and the ends of the string at a place in the star of a point, and `None` past the last.
 fn span_at(stars: &KeyLists<Spoke>, point: PointNo, place: usize) -> Option<Span>
     ensures { result ≡ option_map (span_along point) (slice_get (items_at stars.now point) place) }
@@ -92,8 +97,8 @@ impl<T: Tally> Draft<T> {
         ensures grid { IfOk result (λ made. IsGridOf made.grid map) }
     {
         let counts = map.counts();
-        let mut table = HalfTable::with_room(alloc, map.hash(), counts.strings, tally)?;
-        let mut stars = KeyLists::with_room(alloc, map.hash(), counts.points)?;
+        let mut table = HalfTable::with_room(alloc, map.hash(), and_more(counts.strings), tally)?;
+        let mut stars = KeyLists::with_room(alloc, map.hash(), and_more(counts.points))?;
         add_strings(&map, &mut table, &mut stars)?;
         let mut linking = table.open();
         let kept = link_rings(alloc, &map, &mut linking, &stars)?;

@@ -7,6 +7,7 @@ ghost use Rattle.cad_map.specs.Rings.{HasWholeRings};
 ghost use Rattle.half_table.specs.Rows.{HalfRows, has, has_halves, IsLinked};
 ghost use Rattle.half_table.specs.Surgery.{AddsLoose};
 ghost use Rattle.half_table.specs.Writes.{Relinks};
+ghost use Rattle.key_lists.specs.Held.{IsSame};
 ghost use Rattle.cad_laws.specs.Local.{IsLocal};
 ghost use Rattle.map_parts.specs.Building.{AreStarsOf, HoldsStrings, HoldsStringsUpTo, IsLinkedAt, IsLinkedAlong, KeepsLinks};
 ghost use Rattle.map_parts.specs.Labels.{IsHalfAlong, IsHalfBefore, side_at, IsHalfOnRing, IsLabelled, HoldsRings};
@@ -20,6 +21,9 @@ use cad_rows::{Face, Memory, PointNo, StringRow};
 use half_table::{Half, HalfTable, OpenTable, Tally};
 use key_lists::KeyLists;
 use std::alloc::Global;
+
+// The star of each point has room for so many halves: mostly four meet there, and an edit brings one.
+const ROOM_OF_STAR: usize = 6;
 
 // Adds the two halves of a string, loose, to a table and to the stars of its ends.
 fn add_string<T: Tally>(
@@ -36,6 +40,17 @@ fn add_string<T: Tally>(
     add_spokes(stars, row)
 }
 
+// Sees that the star of each point has room for a few halves at once, so that it takes memory once.
+fn make_star_room(map: &PlainMap, stars: &mut KeyLists<Spoke>) -> Result<(), Memory>
+    ensures { OnOk result (IsSame stars.old stars.new) }
+{
+    for place in 0..map.counts().points {
+        let row = map.point_at(place).unwrap();
+        stars.reserve(u64::from(row.number.get()), ROOM_OF_STAR)?;
+    }
+    Ok(())
+}
+
 /// Adds the halves of all strings of a map to a table and to stars that have none.
 pub fn add_strings<T: Tally>(
     map: &PlainMap,
@@ -47,6 +62,7 @@ pub fn add_strings<T: Tally>(
     ensures strings { OnOk result (HoldsStrings map.now table.new.rows stars.new) }
     ensures linked { OnOk result (IsLinked table.new.rows) }
 {
+    make_star_room(map, stars)?;
     for place in 0..map.counts().strings {
         let row = map.string_at(place).unwrap();
         add_string(table, stars, row)?;

@@ -1,4 +1,4 @@
-use Rattle.std.proofs.Common.{sym}
+use Rattle.std.proofs.Common.{sym, ◌∙◌}
 use Rattle.map_parts.proofs.StringsAdded.{next-free, next-ends, strings-more}
 use Rattle.map_parts.proofs.building.add_strings.Goals as goal
 
@@ -6,6 +6,11 @@ pub add_string-requires : goal.add_string-requires
 add_string-requires g c =
     let at = rw c.unwrap-row.ensures at c.string_at.ensures in
     record { free = next-free c.args.map.now c.requires.whole c.loop-place.place c.loop-place.table.rows c.loop-place.stars c.loop-place.invariant c.unwrap-row.result.now (sym at) }
+
+pub loop-place-init : goal.loop-place-init
+loop-place-init g c =
+    let none = c.requires.none in
+    record { linked = none.linked; has = none.has; ends = none.ends; stars = λ p. c.in_ok-make_star_room.ensures p ∙ none.stars p }
 
 pub loop-place-preserved : goal.loop-place-preserved
 loop-place-preserved g c =
