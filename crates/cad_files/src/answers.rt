@@ -7,6 +7,7 @@ ghost use Rattle.cad_files.specs.Answers.{refused_record as refused_record_of, n
 use crate::writing::one_record;
 use cad_history::Answer;
 use cad_rows::{Memory, Name, Refusal, Rule};
+use itoa::Buffer;
 use std::alloc::Global;
 
 // The name of a rule.
@@ -55,8 +56,8 @@ fn refused_row(
     ensures { IfOk result (λ text. text.items
         ≡ text_of (refused_record_of no.now called.now kind.now (decimal row) ∷ [])) }
 {
-    let value = row.to_string(alloc)?;
-    refused_record(alloc, no, called, kind, value.as_bytes())
+    let mut value = Buffer::new();
+    refused_record(alloc, no, called, kind, value.format(row).as_bytes())
 }
 
 // A refusal about a row that is named.

@@ -9,6 +9,7 @@ use cad_map::{MapView, sum_of};
 use cad_rows::{Face, Memory, ParcelRow};
 use csv::Writer;
 use geo_exact::DoubledArea;
+use itoa::Buffer;
 use std::alloc::Global;
 
 /// Hundredths of a square metre in an area in doubled square millimetres, rounded half up. Takes no memory.
@@ -40,8 +41,8 @@ pub fn begun_decimal(alloc: Global, value: i128, parts: u128) -> Result<Vec<u8>,
     if value < 0 {
         text.push(b'-')?;
     }
-    let whole = (value.unsigned_abs() / parts).to_string(alloc)?;
-    text.extend_from_slice(whole.as_bytes())?;
+    let mut whole = Buffer::new();
+    text.extend_from_slice(whole.format(value.unsigned_abs() / parts).as_bytes())?;
     text.push(b'.')?;
     Ok(text)
 }
@@ -67,12 +68,12 @@ fn write_area(
     ensures { OnOk result
         (HasAppended (record_text (area_record row.now a2)) writer.old writer.new) }
 {
-    let number = row.number.get().to_string(alloc)?;
-    let doubled = a2.to_string(alloc)?;
+    let mut number = Buffer::new();
+    let mut doubled = Buffer::new();
     let area = area_text_of(alloc, hundredths(a2))?;
-    let number = number.as_bytes();
+    let number = number.format(row.number.get()).as_bytes();
     let label = row.label.as_str().as_bytes();
-    let doubled = doubled.as_bytes();
+    let doubled = doubled.format(a2).as_bytes();
     let area = area.as_slice();
     write_record(writer, &[b"area", number, label, doubled, area, b"", b""])
 }

@@ -3,10 +3,11 @@ ghost use Rattle.std.specs.Prelude.{◌≡◌, ◌+◌, ◌<◌, ℕ, List, take
 ghost use Rattle.cad_files.specs.Texts.{list_field};
 
 use cad_rows::{Memory, Number};
+use itoa::Buffer;
 use std::alloc::Global;
 
 // Appends the number at a place of a list, with a space before it where it isn't the first.
-fn append_number(alloc: Global, text: &mut Vec<u8>, place: usize, number: u32) -> Result<(), Memory>
+fn append_number(text: &mut Vec<u8>, place: usize, number: u32) -> Result<(), Memory>
     ensures { OnOk result ((ns : List ℕ) (d : ℕ) → place < length ns
         → number ≡ slice_index_or ns place d
         → text.old.items ≡ list_field (take place ns)
@@ -15,8 +16,8 @@ fn append_number(alloc: Global, text: &mut Vec<u8>, place: usize, number: u32) -
     if place > 0 {
         text.push(b' ')?;
     }
-    let digits = number.to_string(alloc)?;
-    text.extend_from_slice(digits.as_bytes())?;
+    let mut digits = Buffer::new();
+    text.extend_from_slice(digits.format(number).as_bytes())?;
     Ok(())
 }
 
@@ -26,7 +27,7 @@ pub fn list_text<Kind>(alloc: Global, numbers: &[Number<Kind>]) -> Result<Vec<u8
 {
     let mut text = Vec::new(alloc);
     for i in 0..numbers.len() {
-        append_number(alloc, &mut text, i, numbers[i].get())?;
+        append_number(&mut text, i, numbers[i].get())?;
     }
     Ok(text)
 }

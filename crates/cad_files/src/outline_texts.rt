@@ -13,6 +13,7 @@ use cad_map::{MapView, outline};
 use cad_rings::Ring;
 use cad_rows::{Face, Memory, Name, Refusal};
 use csv::Writer;
+use itoa::Buffer;
 use std::alloc::Global;
 
 // Writes the record of a ring of this kind.
@@ -26,9 +27,9 @@ fn write_ring(
     ensures { OnOk result
         (HasAppended (record_text (ring_record face.now kind.now ring.now)) writer.old writer.new) }
 {
-    let number = face_number(*face).to_string(alloc)?;
+    let mut number = Buffer::new();
     let points = list_text(alloc, ring.points())?;
-    let number = number.as_bytes();
+    let number = number.format(face_number(*face)).as_bytes();
     let points = points.as_slice();
     write_record(writer, &[b"ring", number, kind, points, b"", b"", b""])
 }

@@ -15,15 +15,16 @@ use crate::writing::{finished, write_record, writer as new_writer};
 use cad_map::MapView;
 use cad_rows::{Face, Memory, ParcelNo, ParcelRow, PointRow, SourceRow, StringRow};
 use csv::Writer;
+use itoa::Buffer;
 use std::alloc::Global;
 
 // Writes the record of a source.
-fn write_source(alloc: Global, writer: &mut Writer<Vec<u8>>, row: &SourceRow) -> Result<(), Memory>
+fn write_source(writer: &mut Writer<Vec<u8>>, row: &SourceRow) -> Result<(), Memory>
     ensures { OnOk result
         (HasAppended (record_text (source_record row.now)) writer.old writer.new) }
 {
-    let number = row.number.get().to_string(alloc)?;
-    let number = number.as_bytes();
+    let mut number = Buffer::new();
+    let number = number.format(row.number.get()).as_bytes();
     let text = row.text.as_str().as_bytes();
     write_record(writer, &[b"source", number, text, b"", b"", b"", b""])
 }
@@ -32,13 +33,13 @@ fn write_source(alloc: Global, writer: &mut Writer<Vec<u8>>, row: &SourceRow) ->
 fn write_point(alloc: Global, writer: &mut Writer<Vec<u8>>, row: &PointRow) -> Result<(), Memory>
     ensures { OnOk result (HasAppended (record_text (point_record row.now)) writer.old writer.new) }
 {
-    let number = row.number.get().to_string(alloc)?;
-    let x = row.position.x.to_string(alloc)?;
-    let y = row.position.y.to_string(alloc)?;
+    let mut number = Buffer::new();
+    let mut x = Buffer::new();
+    let mut y = Buffer::new();
     let sources = list_text(alloc, row.sources.as_slice())?;
-    let number = number.as_bytes();
-    let x = x.as_bytes();
-    let y = y.as_bytes();
+    let number = number.format(row.number.get()).as_bytes();
+    let x = x.format(row.position.x).as_bytes();
+    let y = y.format(row.position.y).as_bytes();
     let sources = sources.as_slice();
     write_record(writer, &[b"point", number, x, y, sources, b"", b""])
 }
@@ -48,9 +49,9 @@ fn write_parcel(alloc: Global, writer: &mut Writer<Vec<u8>>, row: &ParcelRow) ->
     ensures { OnOk result
         (HasAppended (record_text (parcel_record row.now)) writer.old writer.new) }
 {
-    let number = row.number.get().to_string(alloc)?;
+    let mut number = Buffer::new();
     let sources = list_text(alloc, row.sources.as_slice())?;
-    let number = number.as_bytes();
+    let number = number.format(row.number.get()).as_bytes();
     let label = row.label.as_str().as_bytes();
     let sources = sources.as_slice();
     write_record(writer, &[b"parcel", number, label, sources, b"", b"", b""])
@@ -79,32 +80,28 @@ fn write_string(
         (string_record (record { row = row.now; left = left; right = right }))) writer.old
         writer.new) }
 {
-    let number = row.number.get().to_string(alloc)?;
-    let from = row.from.get().to_string(alloc)?;
-    let to = row.to.get().to_string(alloc)?;
-    let left = face_number(left).to_string(alloc)?;
-    let right = face_number(right).to_string(alloc)?;
+    let mut number = Buffer::new();
+    let mut from = Buffer::new();
+    let mut to = Buffer::new();
+    let mut left_digits = Buffer::new();
+    let mut right_digits = Buffer::new();
     let sources = list_text(alloc, row.sources.as_slice())?;
-    let number = number.as_bytes();
-    let from = from.as_bytes();
-    let to = to.as_bytes();
-    let left = left.as_bytes();
-    let right = right.as_bytes();
+    let number = number.format(row.number.get()).as_bytes();
+    let from = from.format(row.from.get()).as_bytes();
+    let to = to.format(row.to.get()).as_bytes();
+    let left = left_digits.format(face_number(left)).as_bytes();
+    let right = right_digits.format(face_number(right)).as_bytes();
     let sources = sources.as_slice();
     write_record(writer, &[b"string", number, from, to, left, right, sources])
 }
 
 // Writes the record of a retired number.
-fn write_retired_number(
-    alloc: Global,
-    writer: &mut Writer<Vec<u8>>,
-    parcel: ParcelNo,
-) -> Result<(), Memory>
+fn write_retired_number(writer: &mut Writer<Vec<u8>>, parcel: ParcelNo) -> Result<(), Memory>
     ensures { OnOk result
         (HasAppended (record_text (retired_record parcel)) writer.old writer.new) }
 {
-    let number = parcel.get().to_string(alloc)?;
-    let number = number.as_bytes();
+    let mut number = Buffer::new();
+    let number = number.format(parcel.get()).as_bytes();
     write_record(writer, &[b"retired", number, b"", b"", b"", b"", b""])
 }
 
@@ -139,7 +136,7 @@ fn write_row<M: MapView>(
         (λ r. HasAppended (record_text r) writer.old writer.new)) }
 {
     match kind {
-        Kind::Sources => write_source(alloc, writer, view.source_at(place).unwrap()),
+        Kind::Sources => write_source(writer, view.source_at(place).unwrap()),
         Kind::Points => write_point(alloc, writer, view.point_at(place).unwrap()),
         Kind::Parcels => write_parcel(alloc, writer, view.parcel_at(place).unwrap()),
         Kind::Strings => {
@@ -147,7 +144,7 @@ fn write_row<M: MapView>(
             let (left, right) = view.left_right(row.number).unwrap();
             write_string(alloc, writer, row, left, right)
         }
-        Kind::Retired => write_retired_number(alloc, writer, view.retired_at(place).unwrap()),
+        Kind::Retired => write_retired_number(writer, view.retired_at(place).unwrap()),
     }
 }
 

@@ -11,6 +11,7 @@ use cad_files::{finished, write_record, writer};
 use cad_map::PlainMap;
 use cad_rows::{Memory, Name};
 use csv::Writer;
+use itoa::Buffer;
 use std::alloc::Global;
 
 // Whether two texts are equal, or there is none twice.
@@ -115,11 +116,11 @@ fn write_difference(
     ensures { OnOk result
         (HasAppended (record_text (difference_record old.now new.now name.now)) out.old out.new) }
 {
-    let number = name_number(name).to_string(alloc)?;
+    let mut number = Buffer::new();
     let was = told_or_empty(alloc, old, name)?;
     let is = told_or_empty(alloc, new, name)?;
     let kind = kind_name(name).as_bytes();
-    let number = number.as_bytes();
+    let number = number.format(name_number(name)).as_bytes();
     let was = was.as_slice();
     let is = is.as_slice();
     write_record(out, &[kind, number, was, is])

@@ -5,6 +5,7 @@ use crate::page::{Page, Spot, times_over, whole};
 use crate::pen::{push, push_box, push_centred, push_circle, push_spot, push_text};
 use cad_map::{MapView, PlainMap};
 use cad_rows::Memory;
+use itoa::Buffer;
 use std::alloc::Global;
 
 /// Where the column begins.
@@ -41,8 +42,8 @@ pub(crate) fn worded(
     after: &str,
 ) -> Result<String, Memory> {
     let mut words = String::from_str(alloc, before)?;
-    let digits = number.to_string(alloc)?;
-    words.push_str(digits.as_str())?;
+    let mut digits = Buffer::new();
+    words.push_str(digits.format(number))?;
     words.push_str(after)?;
     Ok(words)
 }

@@ -11,6 +11,7 @@ use cad_files::{area_text_of, finished, hundredths, list_text, write_record, wri
 use cad_map::{MapView, PlainMap};
 use cad_rows::{Face, Memory, ParcelRow};
 use csv::Writer;
+use itoa::Buffer;
 use std::alloc::Global;
 
 // Writes the record of a parcel of a valid map.
@@ -24,17 +25,17 @@ fn write_parcel(
     ensures { OnOk result ((told : Record) × TellsParcel map.now row.now told
         × HasAppended (record_text told) out.old out.new) }
 {
-    let number = row.number.get().to_string(alloc)?;
+    let mut number = Buffer::new();
+    let mut digits = Buffer::new();
     let doubled = face_area(map, Face::Parcel(row.number));
     let area = area_text_of(alloc, hundredths(doubled))?;
-    let doubled = doubled.to_string(alloc)?;
     let sources = list_text(alloc, row.sources.as_slice())?;
     let pieces = cut_rings(alloc, map, Face::Parcel(row.number))?;
     let geometry = polygon_geometry(alloc, map, pieces.as_slice())?;
-    let number = number.as_bytes();
+    let number = number.format(row.number.get()).as_bytes();
     let label = row.label.as_str().as_bytes();
     let area = area.as_slice();
-    let doubled = doubled.as_bytes();
+    let doubled = digits.format(doubled).as_bytes();
     let sources = sources.as_slice();
     let geometry = geometry.as_slice();
     write_record(out, &[number, label, area, doubled, sources, geometry])?;

@@ -9,16 +9,17 @@ use cad_files::{PlanRows, PlanString, face_number, finished, list_text, write_re
 use cad_map::{MapView, PlainMap};
 use cad_rows::{Memory, PointRow};
 use csv::Writer;
+use itoa::Buffer;
 use std::alloc::Global;
 
 // Writes the record of a point.
 fn write_point(alloc: Global, out: &mut Writer<Vec<u8>>, row: &PointRow) -> Result<(), Memory>
     ensures { OnOk result (HasAppended (record_text (point_row row.now)) out.old out.new) }
 {
-    let number = row.number.get().to_string(alloc)?;
+    let mut number = Buffer::new();
     let sources = list_text(alloc, row.sources.as_slice())?;
     let geometry = point_geometry(alloc, row.position)?;
-    let number = number.as_bytes();
+    let number = number.format(row.number.get()).as_bytes();
     let sources = sources.as_slice();
     let geometry = geometry.as_slice();
     write_record(out, &[number, sources, geometry])
@@ -56,18 +57,18 @@ fn write_string(
     ensures { OnOk result
         (HasAppended (record_text (string_row map.now string.now)) out.old out.new) }
 {
-    let number = string.row.number.get().to_string(alloc)?;
-    let from = string.row.from.get().to_string(alloc)?;
-    let to = string.row.to.get().to_string(alloc)?;
-    let left = face_number(string.left).to_string(alloc)?;
-    let right = face_number(string.right).to_string(alloc)?;
+    let mut number = Buffer::new();
+    let mut from = Buffer::new();
+    let mut to = Buffer::new();
+    let mut left = Buffer::new();
+    let mut right = Buffer::new();
     let sources = list_text(alloc, string.row.sources.as_slice())?;
     let geometry = line_geometry(alloc, map, string.row.from, string.row.to)?;
-    let number = number.as_bytes();
-    let from = from.as_bytes();
-    let to = to.as_bytes();
-    let left = left.as_bytes();
-    let right = right.as_bytes();
+    let number = number.format(string.row.number.get()).as_bytes();
+    let from = from.format(string.row.from.get()).as_bytes();
+    let to = to.format(string.row.to.get()).as_bytes();
+    let left = left.format(face_number(string.left)).as_bytes();
+    let right = right.format(face_number(string.right)).as_bytes();
     let sources = sources.as_slice();
     let geometry = geometry.as_slice();
     write_record(out, &[number, from, to, left, right, sources, geometry])

@@ -7,6 +7,7 @@ use crate::well_known::push_coordinates;
 use cad_files::list_text;
 use cad_map::{Boundary, MapView, PlainMap};
 use cad_rows::{Face, Memory, Name, ParcelNo, ParcelRow, PointRow, SourceNo, SourceRow, StringRow};
+use itoa::Buffer;
 use std::alloc::Global;
 
 // Appends sources, where there are any, after what they witness.
@@ -46,12 +47,11 @@ fn point_told(alloc: Global, row: &PointRow) -> Result<Vec<u8>, Memory>
 fn string_told(alloc: Global, row: &StringRow) -> Result<Vec<u8>, Memory>
     ensures { IfOk result (λ text. text.items ≡ string_told_of row.now) }
 {
-    let from = row.from.get().to_string(alloc)?;
-    let to = row.to.get().to_string(alloc)?;
+    let mut digits = Buffer::new();
     let mut text = Vec::new(alloc);
-    text.extend_from_slice(from.as_bytes())?;
+    text.extend_from_slice(digits.format(row.from.get()).as_bytes())?;
     text.push(b' ')?;
-    text.extend_from_slice(to.as_bytes())?;
+    text.extend_from_slice(digits.format(row.to.get()).as_bytes())?;
     push_sources(alloc, &mut text, row.sources.as_slice())?;
     Ok(text)
 }

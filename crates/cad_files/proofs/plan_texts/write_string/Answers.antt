@@ -5,13 +5,13 @@ use Rattle.cad_files.proofs.plan_texts.write_string.Goals as goal
 pub returns : goal.returns
 returns c =
     rw (
-      c.as_bytes-number.ensures.value ∙ c.in_ok-number.ensures.ok,
+      c.as_bytes-number.ensures.value ∙ c.format.ensures.text,
       c.get.ensures.value,
-      c.as_bytes-from.ensures.value ∙ c.in_ok-from.ensures.ok,
+      c.as_bytes-from.ensures.value ∙ c.format-2.ensures.text,
       c.get-2.ensures.value,
-      c.as_bytes-to.ensures.value ∙ c.in_ok-to.ensures.ok,
+      c.as_bytes-to.ensures.value ∙ c.format-3.ensures.text,
       c.get-3.ensures.value,
-      c.as_bytes-left.ensures.value ∙ c.in_ok-left.ensures.ok ∙ c.face_number.ensures,
-      c.as_bytes-right.ensures.value ∙ c.in_ok-right.ensures.ok ∙ c.face_number-2.ensures,
+      c.as_bytes-left.ensures.value ∙ c.format-4.ensures.text ∙ c.face_number.ensures,
+      c.as_bytes-right.ensures.value ∙ c.format-5.ensures.text ∙ c.face_number-2.ensures,
       c.as_slice-sources.ensures.value ∙ c.in_ok-sources.ensures ∙ ap list_field c.as_slice.ensures,
     ) at c.write_record.ensures

@@ -30,11 +30,11 @@ returns c =
       parcel_row m row pieces,
       record { pieces = pieces; cut = c.in_ok-pieces.ensures; is = refl },
       rw (
-        c.as_bytes-number.ensures.value ∙ c.in_ok-number.ensures.ok,
+        c.as_bytes-number.ensures.value ∙ c.format.ensures.text,
         c.get.ensures.value,
         c.as_bytes-label.ensures.value ∙ c.as_str.ensures.value,
         c.as_slice-area.ensures.value ∙ c.in_ok-area.ensures ∙ ap area_field (hundredths ∙ ap hundredths_of c.face_area-doubled.ensures.value),
-        c.as_bytes-doubled.ensures.value ∙ c.in_ok-doubled.ensures.ok ∙ ap signed_decimal (same ∙ c.face_area-doubled.ensures.value),
+        c.as_bytes-doubled.ensures.value ∙ c.format-2.ensures.text ∙ ap signed_decimal (same ∙ c.face_area-doubled.ensures.value),
         c.as_slice-sources.ensures.value ∙ c.in_ok-sources.ensures ∙ ap list_field c.as_slice.ensures,
         c.as_slice-geometry.ensures.value ∙ c.in_ok-geometry.ensures ∙ ap (polygon_geometry m) c.as_slice-2.ensures.value,
       ) at c.in_ok-write_record.ensures,
