@@ -1,2 +1,3 @@
+mod DepthGiven
 mod JobFacts
 mod ScriptFacts

@@ -1,3 +1,4 @@
 pub mod Arguments
 pub mod Jobs
+pub mod Statuses
 pub mod Told

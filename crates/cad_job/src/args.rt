@@ -1,11 +1,11 @@
 //! The program's arguments.
-ghost use Rattle.std.specs.Prelude.{◌≡◌, IfOk, map, option_map};
+ghost use Rattle.std.specs.Prelude.{◌≡◌, IfErr, IfOk, map, option_map};
+ghost use Rattle.clap.specs.Values.{kind_of};
 ghost use Rattle.clap.specs.Words.{app_of};
-ghost use Rattle.cad_job.specs.Arguments.{ReadsArgs, cadedit};
+ghost use Rattle.cad_job.specs.Arguments.{IsRefused, ReadsArgs, cadedit};
 
 use cad_history::Depth;
-use clap::error::ErrorKind;
-use clap::{Arg, Command, Error};
+use clap::{Arg, ArgAction, Command, Error};
 use std::alloc::{AllocError, Global};
 
 /// The program's version, as `--version` tells it. CHANGELOG.md says what each brought.
@@ -63,6 +63,7 @@ fn command_line<'a>(alloc: Global) -> Result<Command<'a>, AllocError>
     let depth = Arg::new(alloc, "depth")
         .long("depth")
         .value_name("N")
+        .action(ArgAction::Set)
         .value_parser(clap::value_parser!(u16).range(1..=1000))
         .default_value("100")
         .help(DEPTH_HELP);
@@ -78,16 +79,14 @@ fn command_line<'a>(alloc: Global) -> Result<Command<'a>, AllocError>
 /// Reads the arguments `[--depth N] [FILE]`, the program's name first. N is from 1 to 1000, and 100 where it is
 /// left out. Fails as `clap` does, also for `--help` and `--version`.
 pub fn read_args<'a>(alloc: Global, words: &'a [&'a str]) -> Result<Args<'a>, Error>
-    ensures { IfOk result (λ args. ReadsArgs (map (λ w. w.now) words.entry.now) args.depth
+    ensures ok { IfOk result (λ args. ReadsArgs (map (λ w. w.now) words.entry.now) args.depth
         (option_map (λ f. f.now) args.file)) }
+    ensures err { IfErr result (λ e. IsRefused (map (λ w. w.now) words.entry.now) (kind_of e)) }
 {
-    let mut command = command_line(alloc)?;
-    let matches = command.try_get_matches_from_mut(words)?;
+    let command = command_line(alloc)?;
+    let matches = command.try_get_matches_from(words)?;
+    let edits = matches.get_one::<u16>("depth").unwrap();
+    let depth = Depth::new(usize::from(edits)).unwrap();
     let file = matches.get_str("file");
-    if let Some(edits) = matches.get_one::<u16>("depth") {
-        if let Some(depth) = Depth::new(usize::from(edits)) {
-            return Ok(Args { depth, file });
-        }
-    }
-    Err(command.error(ErrorKind::ValueValidation, "a depth from 1 to 1000")?)
+    Ok(Args { depth, file })
 }

@@ -1,5 +1,6 @@
 //! What the program does with the words of its command line, and what it tells of it.
-ghost use Rattle.std.specs.Prelude.{◌≡◌};
+ghost use Rattle.std.specs.Prelude.{◌≡◌, map};
+ghost use Rattle.cad_job.specs.Statuses.{IsStatusOfJob, IsStatusOfWords};
 ghost use Rattle.cad_job.specs.Told.{status_of};
 
 use crate::args::{Args, read_args};
@@ -22,6 +23,7 @@ pub fn run_words<R: Files + RandomSource + Input + Print + Eprint + AllocGlobal>
 ) -> u8
 where
     R::File: Drop,
+    ensures { IsStatusOfWords (map (λ w. w.now) words.now) result }
 {
     match read_args(rt.alloc(), words) {
         Ok(args) => run_args(rt, &args),
@@ -36,6 +38,7 @@ fn run_args<R: Files + RandomSource + Input + Print + Eprint + AllocGlobal>(
 ) -> u8
 where
     R::File: Drop,
+    ensures { IsStatusOfJob result }
 {
     match job_of(rt, args) {
         Ok(()) => 0,
