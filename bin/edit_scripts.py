@@ -15,6 +15,7 @@ another parcel, string or point:
     points        a point added, and dropped
     enclose       three points added and made an island, four undo
     attach        a source attached to a string and detached, a parcel renamed
+    divide-all    each parcel divided across once, 10,000 at most
     undo-walk     1,000 divisions and moves, then all of them undone and redone, again and again
     mixed         all of these but joins and islands, undo and redo at any moment, and now and then an outline, or an
                   edit that is refused
@@ -259,6 +260,13 @@ def divide_merge(grid, draws):
         yield f'merge,{grid.parcel(*square)},{parcel}'
 
 
+def divide_all(grid, draws):
+    count = grid.size ** 2
+    for turn in range(min(count, 10_000)):
+        row, column = divmod(turn * 7919 % count, grid.size)
+        yield divided(grid, (column, row), NEW_STRING + turn, NEW_PARCEL + turn)
+
+
 def chain(grid, draws):
     while True:
         square = draws.square(grid)
@@ -500,7 +508,8 @@ def common(petals, draws):
 
 
 KINDS = {'divide-undo': divide_undo, 'divide-merge': divide_merge, 'chain': chain, 'split-join': split_join,
-         'move': move, 'points': points, 'enclose': enclose, 'attach': attach, 'undo-walk': undo_walk, 'mixed': mixed}
+         'move': move, 'points': points, 'enclose': enclose, 'attach': attach,
+         'divide-all': divide_all, 'undo-walk': undo_walk, 'mixed': mixed}
 FACE_KINDS = {'edge': (Town, edge), 'kerb': (Town, kerb), 'island': (Islands, island), 'piece': (Islands, piece),
               'centre': (Star, centre), 'rim': (Star, rim), 'tip': (Comb, tip), 'tooth': (Comb, tooth),
               'strip': (Strips, strip), 'end': (Strips, end), 'common': (Petals, common)}
