@@ -1,4 +1,4 @@
-use Rattle.std.proofs.Common.{◌∙◌, ap, to_z, of_z, to_z-of_z, FitsSigned, arith}
+use Rattle.std.proofs.Common.{◌∙◌, ap, to_z-of_z, FitsSigned, arith}
 use Rattle.std.specs.Int.{w64}
 use Rattle.std.proofs.lemmas.Int.{ints}
 use Rattle.std.specs.Fmt.{signed_decimal}

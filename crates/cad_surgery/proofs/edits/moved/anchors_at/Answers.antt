@@ -1,4 +1,4 @@
-use Rattle.std.proofs.Common.{◌≡◌, ◌∙◌, ◌<◌, ◌≤◌, ◌++◌, ◌∷◌, [], ℕ, Bool, List, ap, subst, length, map, take}
+use Rattle.std.proofs.Common.{◌∙◌, ◌<◌, ◌≤◌, ◌++◌, ◌∷◌, [], ℕ, List, ap, subst, length, map, take}
 use Rattle.std.proofs.lemmas.List.{take_all}
 use Rattle.geo_exact.specs.Position.{Position}
 use Rattle.cad_rings.specs.Cycle.{Ring, anchor_of}

@@ -1,6 +1,5 @@
-use Rattle.std.proofs.Common.{◌≡◌, ◌∙◌, ◌<◌, ◌≤◌, ◌++◌, ◌∷◌, [], ℕ, Bool, List, ap, subst, length, map, take}
+use Rattle.std.proofs.Common.{◌∙◌, ◌<◌, ◌≤◌, ◌++◌, ◌∷◌, [], ℕ, Bool, List, ap, subst, length, map, take}
 use Rattle.std.proofs.lemmas.List.{take_all}
-use Rattle.geo_exact.specs.Position.{Position}
 use Rattle.cad_rings.specs.Cycle.{Ring, anchor_of}
 use Rattle.cad_map.specs.Map.{rings_at, is_in_ring}
 use Rattle.cad_surgery.proofs.MovedHalves.{told-push}

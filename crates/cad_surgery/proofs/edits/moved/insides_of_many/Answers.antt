@@ -1,7 +1,6 @@
-use Rattle.std.proofs.Common.{◌≡◌, ◌∙◌, ap, List, map, length}
+use Rattle.std.proofs.Common.{◌∙◌, map}
 use Rattle.std.proofs.lemmas.Result.{IfOk-weaker}
 use Rattle.std.proofs.lemmas.Simd.{map-map}
-use Rattle.geo_exact.specs.Position.{Position}
 use Rattle.geo_exact.specs.Inside.{is_inside}
 use Rattle.cad_rings.specs.Cycle.{Ring, anchor_of, placed, sides_of}
 use Rattle.cad_map.specs.Map.{rings_at, position_of}
