@@ -90,6 +90,10 @@ impl MapView for PlainStore {
         self.map.span_with(point, place)
     }
 
+    fn side_to(&self, point: PointNo, place: usize) -> Option<(PointNo, Face)> {
+        self.map.side_to(point, place)
+    }
+
     fn degree(&self, no: PointNo) -> usize {
         self.map.degree(no)
     }

@@ -26,7 +26,7 @@ use cad_map::{MapStore, MapView};
 use cad_rows::{Memory, Refusal};
 use cad_surgery::HalfMap;
 use csv::{ByteRecord, Reader};
-use half_table::Ticks;
+use half_table::{Tally, Ticks};
 use number_hash::NumberHash;
 use std::alloc::Global;
 use std::io::Read;
@@ -86,10 +86,10 @@ fn store_of(alloc: Global, hash: NumberHash, rows: PlanRows) -> Result<HalfMap<T
 }
 
 /// Does the records of a script that are left on the plan's map on half-edges, as `run_script` does on any store of it.
-fn run_on_map<R: Read, S: Sink>(
+fn run_on_map<R: Read, S: Sink, T: Tally>(
     alloc: Global,
     reader: &mut Reader<R>,
-    map: HalfMap<Ticks>,
+    map: HalfMap<T>,
     sink: &mut S,
     depth: Depth,
 ) -> Result<(), JobFault>

@@ -1,17 +1,17 @@
 //! Corners of a face's rings: the one that a chain leaves at a point, and whether two of them are in one ring.
-ghost use Rattle.std.specs.Prelude.{◌≡◌, ◌⊎◌, ◌&&◌, [], ◌∷◌, Some};
+ghost use Rattle.std.specs.Prelude.{◌≡◌, ◌⊎◌, ◌&&◌, ℕ, [], ◌∷◌, Some, option_map, slice_get};
 ghost use Rattle.std.specs.List.{Contains, list_any};
+ghost use Rattle.std.specs.List.Sorted.{IsPermutation};
 ghost use Rattle.cad_rows.specs.declared.names.Face.{Face as FaceOf};
 ghost use Rattle.cad_rings.specs.Cycle.{is_side, has_side, sides_of};
 ghost use Rattle.cad_rings.specs.Surgery.{corner as corner_of};
 ghost use Rattle.cad_map.specs.Chain.{leaving, has_in_sector as has_in_sector_of, chosen_corner as chosen_corner_of};
 ghost use Rattle.cad_map.specs.Choice.{MayBeChosen, IsFirst};
-ghost use Rattle.cad_map.specs.Map.{rings_of, face_corners};
+ghost use Rattle.cad_map.specs.Map.{rings_of, face_corners, far_end, strings_at};
 ghost use Rattle.cad_map.specs.Valid.{IsValid};
 
 use crate::look::is_face;
 use crate::rings::position;
-use crate::span::far_with;
 use crate::store::MapView;
 use crate::walk::Walk;
 use cad_rows::{Face, PointNo};
@@ -50,25 +50,29 @@ pub fn chosen_corner<M: MapView>(
 {
     let mut chosen = None;
     for place in 0..map.degree(at) {
-        let from = far_with(map, at, place).unwrap();
-        chosen = first_by_after(chosen, corner_after(map, face, from, at, towards));
+        chosen = first_by_after(chosen, corner_at(map, face, at, place, towards));
     }
     chosen
 }
 
-/// The corner of a face after the side between two points, where its sector has another point.
+/// The corner of a face at a point after the side along the string at a place among those that have the point, where
+/// its sector has another point.
 #[tactic(auto, using(crate::proofs::Boundaries::RingsOfMap::whole_valid))]
-fn corner_after<M: MapView>(
+fn corner_at<M: MapView>(
     map: &M,
     face: &Face,
-    from: PointNo,
     at: PointNo,
+    place: usize,
     towards: PointNo,
 ) -> Option<Corner>
     requires { IsValid (M.map map.now) }
-    ensures { IsFirst (MayBeChosen (M.map map.now) face.now at towards (from ∷ [])) result }
+    ensures first { (from : ℕ) → option_map (λ s. far_end s at)
+        (slice_get (M.view_strings map.now at) place) ≡ Some from
+        → IsFirst (MayBeChosen (M.map map.now) face.now at towards (from ∷ [])) result }
+    // The strings are the point's, each once.
+    ensures each { IsPermutation (strings_at (M.map map.now) at) (M.view_strings map.now at) }
 {
-    let on_left = map.face_of(from, at)?;
+    let (from, on_left) = map.side_to(at, place)?;
     if !is_face(face, &on_left) {
         return None;
     }

@@ -391,6 +391,13 @@ impl MapView for PlainMap {
         Some(span_of(row))
     }
 
+    fn side_to(&self, point: PointNo, place: usize) -> Option<(PointNo, Face)> {
+        let row = self.string_with(point, place)?;
+        let far = look::far_end(row, point);
+        let face = self.face_of(far, point)?;
+        Some((far, face))
+    }
+
     fn degree(&self, no: PointNo) -> usize {
         look::strings_with(&self.strings, no)
     }

@@ -123,6 +123,19 @@ pub trait MapView {
         ensures each { IsPermutation (strings_at (map self.now) point)
             (view_strings self.now point) };
 
+    /// The far end of the string at a place among those that have a point, as `string_with` tells them, and the face
+    /// that has the side from there to the point. `None` past the last string, and where no face has that side.
+    fn side_to(&self, point: PointNo, place: usize) -> Option<(PointNo, Face)>
+        ensures far { IfSome result (λ side. option_map (λ s. far_end s point)
+            (slice_get (view_strings self.now point) place) ≡ Some side.0) }
+        ensures some { IfSome result (λ side. HasSide (map self.now) side.1 (side.0, point)) }
+        ensures none { IfNone result ((s : StringOf)
+            → slice_get (view_strings self.now point) place ≡ Some s
+            → IsNoSide (map self.now) (far_end s point, point)) }
+        // The strings are the point's, each once.
+        ensures each { IsPermutation (strings_at (map self.now) point)
+            (view_strings self.now point) };
+
     /// How many strings have a point.
     fn degree(&self, no: PointNo) -> usize
         ensures { result ≡ degree_of (map self.now) no };

@@ -18,6 +18,7 @@ mod NearCorners
 mod StayedCorners
 mod SeenBetween
 mod SeenNear
+mod SeenEnds
 mod SightOfMap
 mod ManyStrings
 mod NearFaces

@@ -1,7 +1,7 @@
 -- What an edit touched as it lies on the map, and what of V3 and V4 is seen of it.
 use Rattle.std.specs.Prelude.{◌≡◌, Bool, true, not, ◌&&◌, ◌||◌, ◌==◌, ◌≤ℤ◌}
 use Rattle.std.specs.Prelude.{if◌then◌else◌, IsTrue}
-use Rattle.std.specs.List.{AllByRecursion, Contains, list_all}
+use Rattle.std.specs.List.{AllByRecursion, Contains, list_all, list_any}
 use Rattle.geo_exact.specs.Position.{Position}
 use Rattle.geo_exact.specs.SignTest.{boxes_overlap}
 use Rattle.cad_rows.specs.declared.rows.PointRow.{PointRow}
@@ -72,11 +72,31 @@ lies_by_sight p a b = (is_same_position p a || is_same_position p b) || not (hav
 abbrev pub is_clear_of : Lying → Lying → Bool
 is_clear_of f g = (f.number == g.number) || meets_by_sight f.a f.b g.a g.b
 
+-- two strings lie between the same positions
+abbrev pub lies_alike : Lying → Lying → Bool
+lies_alike f g = is_same_position f.a g.a && is_same_position f.b g.b
+
+-- of two strings one is the other, where it lies
+abbrev pub is_itself : Lying → Lying → Bool
+is_itself f g = (f.number == g.number) && lies_alike f g
+
+-- of two strings one is the other where it lies, or they are seen to meet only at a shared end
+abbrev pub is_met_by_sight : Lying → Lying → Bool
+is_met_by_sight f g = is_itself f g || meets_by_sight f.a f.b g.a g.b
+
 -- a string is seen to be clear of all strings and points that were gathered
 abbrev pub is_clear_string : Seen → Lying → Bool
 is_clear_string v f =
     list_all (λ s. is_clear_of s f) v.strings.items
     && list_all (λ p. lies_by_sight p.a f.a f.b) v.points.items
+
+-- a string ends at a position
+abbrev pub ends_at : Lying → Position → Bool
+ends_at s p = is_same_position p s.a || is_same_position p s.b
+
+-- each point that was gathered lies where a string that was gathered ends
+abbrev pub are_at_ends : Seen → Bool
+are_at_ends v = list_all (λ p. list_any (λ s. ends_at s p.a) v.strings.items) v.points.items
 
 -- a point is seen to be clear of all strings that were gathered
 abbrev pub is_clear_point : Seen → Lying → Bool
@@ -102,10 +122,6 @@ held_string h = record { number = h.string; a = h.from; b = h.to }
 
 abbrev pub held_point : HeldPoint → Lying
 held_point h = record { number = h.point; a = h.position; b = h.position }
-
--- two strings lie between the same positions
-abbrev pub lies_alike : Lying → Lying → Bool
-lies_alike f g = is_same_position f.a g.a && is_same_position f.b g.b
 
 -- the map has the string where it is held, and the point
 abbrev pub HasStringThere : Map → HeldString → Type 0

@@ -2,13 +2,16 @@
 //! is held. A look at rows is needed only where something held seems to be in the way: an edit's
 //! strings and points may be held where they were before, too.
 ghost use Rattle.std.specs.Prelude.{◌≡◌, ◌↔◌, IsTrue};
-ghost use Rattle.std.specs.List.{list_all};
+ghost use Rattle.std.specs.List.{list_all, list_any};
 ghost use Rattle.cad_map.specs.Valid.{HasSoundRows};
 ghost use Rattle.cad_near.specs.Near.{HoldsMap};
 ghost use Rattle.cad_valid.specs.Placed.{have_common as have_common_of};
 ghost use Rattle.cad_near.specs.Seen.{starts_alone as starts_alone_of, meets_by_sight, lies_by_sight as lies_by_sight_of};
 ghost use Rattle.cad_near.specs.Seen.{held_string, held_point, lies_alike, HasStringThere, HasPointThere};
 ghost use Rattle.cad_near.specs.Seen.{is_clear_of, is_clear_string as is_clear_string_of};
+ghost use Rattle.cad_near.specs.Seen.{is_itself as is_itself_of};
+ghost use Rattle.cad_near.specs.Seen.{is_met_by_sight as is_met_by_sight_of};
+ghost use Rattle.cad_near.specs.Seen.{ends_at as ends_at_of, are_at_ends};
 ghost use Rattle.cad_near.specs.Seen.{is_apart_from as is_apart_from_of, is_lone_point as is_lone_point_of};
 ghost use Rattle.cad_near.specs.Seen.{SeesStrings, SeesPoints, OfHeldString, OfHeldPoint};
 
@@ -40,6 +43,7 @@ fn starts_alone(v: Pt, a: Pt, b: Pt) -> bool
 }
 
 /// Whether the segments ab and cd are seen to have no common location but a shared end.
+#[inline(always)]
 fn meet_by_sight(a: Pt, b: Pt, c: Pt, d: Pt) -> bool
     ensures { result ≡ meets_by_sight a b c d }
 {
@@ -63,6 +67,21 @@ fn lies_by_sight(p: Pt, a: Pt, b: Pt) -> bool
     ensures { result ≡ lies_by_sight_of p a b }
 {
     is_same(p, a) || is_same(p, b) || !lies_on(a, b, p)
+}
+
+/// Whether two strings lie between the same positions.
+fn lie_alike(f: &Lying, g: &Lying) -> bool
+    ensures { result ≡ lies_alike f.now g.now }
+{
+    is_same(f.a, g.a) && is_same(f.b, g.b)
+}
+
+/// Whether of two strings one is the other, where it lies. Few have the same number, so this is
+/// asked first.
+fn is_itself(f: &Lying, g: &Lying) -> bool
+    ensures { result ≡ is_itself_of f.now g.now }
+{
+    f.number == g.number && lie_alike(f, g)
 }
 
 /// Whether of two strings one is the other, or they are seen to meet only at a shared end.
@@ -96,11 +115,77 @@ fn bears_by_sight(points: &[Lying], f: &Lying) -> bool
     true
 }
 
-/// Whether a string is seen to be clear of all strings and points that were gathered.
-fn is_clear_string(seen: &Seen, f: &Lying) -> bool
+/// Whether a string is seen to be clear of all strings and points that were gathered, told from
+/// each of them. Few strings need it.
+#[inline(never)]
+fn is_clear_compared(seen: &Seen, f: &Lying) -> bool
     ensures { result ≡ is_clear_string_of seen.now f.now }
 {
     is_clear_of_all(seen.strings.as_slice(), f) && bears_by_sight(seen.points.as_slice(), f)
+}
+
+/// Whether a string ends at a position.
+fn ends_at(f: &Lying, p: Pt) -> bool
+    ensures { result ≡ ends_at_of f.now p }
+{
+    is_same(p, f.a) || is_same(p, f.b)
+}
+
+/// Whether one of these strings ends at a position.
+fn is_at_an_end(strings: &[Lying], p: Pt) -> bool
+    ensures { result ≡ list_any (λ s. ends_at_of s p) strings.now }
+{
+    for string in strings {
+        if ends_at(string, p) {
+            return true;
+        }
+    }
+    false
+}
+
+/// Whether each point that was gathered lies where a string that was gathered ends.
+fn are_ends(seen: &Seen) -> bool
+    ensures { result ≡ are_at_ends seen.now }
+{
+    for point in seen.points.as_slice() {
+        if !is_at_an_end(seen.strings.as_slice(), point.a) {
+            return false;
+        }
+    }
+    true
+}
+
+/// Whether of two strings one is the other where it lies, or they are seen to meet only at a shared
+/// end. Then the ends of the first lie on the second only as its ends.
+fn is_met_by_sight(f: &Lying, g: &Lying) -> bool
+    ensures { result ≡ is_met_by_sight_of f.now g.now }
+{
+    is_itself(f, g) || meet_by_sight(f.a, f.b, g.a, g.b)
+}
+
+/// Whether a string is seen to meet each of these only at a shared end, or is it where it lies.
+fn are_met_by_sight(strings: &[Lying], f: &Lying) -> bool
+    ensures { result ≡ list_all (λ s. is_met_by_sight_of s f.now) strings.now }
+{
+    for string in strings {
+        if !is_met_by_sight(string, f) {
+            return false;
+        }
+    }
+    true
+}
+
+/// Whether a string is seen to be clear of all strings and points that were gathered. If these
+/// points are all ends of these strings, one that meets the strings only at ends bears no point.
+/// Nor does one of these strings that lies where it was gathered.
+fn is_clear_string(seen: &Seen, ends: bool, f: &Lying) -> bool
+    requires { ends ≡ are_at_ends seen.now }
+    ensures { result ≡ is_clear_string_of seen.now f.now }
+{
+    if ends && are_met_by_sight(seen.strings.as_slice(), f) {
+        return true;
+    }
+    is_clear_compared(seen, f)
 }
 
 /// Whether a point is seen to lie on none of these strings but as its end.
@@ -156,13 +241,6 @@ fn lying_held_point(held: &HeldPoint) -> Lying
     }
 }
 
-/// Whether two strings lie between the same positions.
-fn lie_alike(f: &Lying, g: &Lying) -> bool
-    ensures { result ≡ lies_alike f.now g.now }
-{
-    is_same(f.a, g.a) && is_same(f.b, g.b)
-}
-
 /// Whether the map doesn't have a string where it is held.
 #[tactic(auto, using(crate::proofs::SightOfMap::rows_gone))]
 fn is_stale<M: MapView>(map: &M, held: &HeldString) -> bool
@@ -188,12 +266,13 @@ fn is_stale_point<M: MapView>(map: &M, held: &HeldPoint) -> bool
 }
 
 /// Whether a held string is seen to be clear, or isn't the map's.
-fn passes<M: MapView>(map: &M, seen: &Seen, held: &HeldString) -> bool
-    requires { HasSoundRows (M.map map.now) }
+fn passes<M: MapView>(map: &M, seen: &Seen, ends: bool, held: &HeldString) -> bool
+    requires sound { HasSoundRows (M.map map.now) }
+    requires ends { ends ≡ are_at_ends seen.now }
     ensures { IsTrue result
         ↔ OfHeldString (M.map map.now) (is_clear_string_of seen.now) held.now }
 {
-    is_clear_string(seen, &lying_held(held)) || is_stale(map, held)
+    is_clear_string(seen, ends, &lying_held(held)) || is_stale(map, held)
 }
 
 /// Whether a point is seen to be clear of all strings and points that were gathered.
@@ -219,8 +298,9 @@ pub(crate) fn sees_strings_clear<M: MapView>(map: &M, grid: &CellGrid, seen: &Se
     ensures { IsTrue result
         ↔ SeesStrings (M.map map.now) seen.now (is_clear_string_of seen.now) }
 {
+    let ends = are_ends(seen);
     grid.candidates(seen.reach.low, seen.reach.high)
-        .all(|held| passes(map, seen, &held))
+        .all(|held| passes(map, seen, ends, &held))
 }
 
 /// And whether all points are seen to be clear of it.

@@ -11,6 +11,7 @@ pub mod EnclosedDraft
 pub mod EnclosedWork
 pub mod HeldEnclosures
 pub mod MovedHalves
+pub mod OneRing
 pub mod CrossedRing
 pub mod CrossedHoles
 pub mod DividedCrossing

@@ -6,12 +6,12 @@ use Rattle.std.proofs.lemmas.Option.{slice_get-map}
 use Rattle.cad_rows.specs.declared.rows.StringRow.{StringRow}
 use Rattle.cad_rings.specs.Cycle.{Side}
 use Rattle.cad_map.specs.Map.{far_end}
-use Rattle.cad_map.specs.Views.{ComesAfter, AreBeyond}
+use Rattle.cad_map.specs.Views.{HasSide, ComesAfter, AreBeyond}
 use Rattle.cad_map.proofs.CallerLemmas.{Contains-cases, Contains-first, Contains-later, Contains-at}
 use Rattle.half_table.specs.declared.half.Half.{Half}
 use Rattle.half_table.specs.Half.{twin}
 use Rattle.half_table.specs.Cycle.{IsRun, orbit}
-use Rattle.half_table.specs.Rows.{HalfRows, has, next, prev, origin_of, halves, cycle, IsLinked}
+use Rattle.half_table.specs.Rows.{HalfRows, has, next, prev, origin_of, face, halves, cycle, IsLinked}
 use Rattle.half_table.proofs.Halves.{twin-twin}
 use Rattle.half_table.proofs.Closed.{cycle-closes}
 use Rattle.key_lists.specs.Held.{items_at}
@@ -19,7 +19,7 @@ use Rattle.cad_laws.specs.Local.{IsShown}
 use Rattle.map_parts.specs.declared.stars.Spoke.{Spoke}
 use Rattle.map_parts.specs.Parts.{Parts, FitTogether, rows_of, map_of}
 use Rattle.map_parts.specs.Views.{string_row, view_strings}
-use Rattle.map_parts.proofs.PartsRings.{in_table, shown-on, half-corner}
+use Rattle.map_parts.proofs.PartsRings.{in_table, shown-on, half-side, half-corner}
 use Rattle.map_parts.proofs.StarHalves.{spoke-is}
 use Rattle.cad_surgery.proofs.StarStrings.{far-told}
 
@@ -105,3 +105,19 @@ module _ (d : Parts) (fit : FitTogether d) where
             there = told;
             far = it.far ∙ far;
           })
+
+  -- ---- The spoke at a place of a star
+
+  -- its half is of the map's strings, and the twin leads to the point from the far end of the string that is told at the place
+  pub record LeadsTo (p place : ℕ) (x : Spoke) : Type 0 where
+    pub shown : IsShown (rows_of d) x.half
+    pub far : option_map (λ s. far_end s p) (slice_get (view_strings d p) place) ≡ Some x.far
+    pub side : HasSide (map_of d) (face rows (twin x.half)) (x.far, p)
+
+  pub spoke-told : (p place : ℕ) (x : Spoke) → slice_get (items_at d.stars p) place ≡ Some x → LeadsTo p place x
+  spoke-told p place x is =
+      let it = spoke-is d fit.ends fit.two_ends fit.stars p x (Contains-at (items_at d.stars p) place x is) in record {
+        shown = it.shown;
+        far = sym (far-told d fit p place) ∙ ap (option_map (λ (y : Spoke). y.far)) is;
+        side = subst (HasSide (map_of d) (face rows (twin x.half))) (λ i. (it.far i, (ap o (twin-twin x.half) ∙ it.from) i)) (half-side d fit (twin x.half) it.shown);
+      }

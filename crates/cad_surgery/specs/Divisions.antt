@@ -1,11 +1,11 @@
 -- What a division names and gives.
-use Rattle.std.specs.Prelude.{◌≡◌, List, [], ◌∷◌, map, filter, IsPermutation}
+use Rattle.std.specs.Prelude.{◌≡◌, not, List, [], ◌∷◌, map, filter, IsPermutation}
 use Rattle.cad_rows.specs.declared.edits.Edit.{Edit}
 use Rattle.cad_rows.specs.declared.edits.Edit.TheVariants.{Divide}
 use Rattle.cad_rows.specs.declared.names.Face.TheVariants.{Parcel}
 use Rattle.cad_rows.specs.declared.rows.ParcelRow.{ParcelRow}
 use Rattle.cad_rows.specs.declared.rows.StringRow.{StringRow}
-use Rattle.cad_rings.specs.Cycle.{Corner}
+use Rattle.cad_rings.specs.Cycle.{Ring, Corner, has_side, sides_of}
 use Rattle.cad_map.specs.Boundaries.{is_face}
 use Rattle.cad_map.specs.Chain.{leaving, strings_along}
 use Rattle.cad_map.specs.Division.{hole_placed}
@@ -16,12 +16,14 @@ use Rattle.half_table.specs.Half.{forward_of}
 use Rattle.half_table.specs.Rows.{HalfRows}
 use Rattle.half_paths.specs.Path.{AreIn}
 use Rattle.cad_laws.specs.Faces.{IsDividedIn, left_of_chain, uncut}
+use Rattle.cad_laws.specs.Local.{side_by}
 use Rattle.cad_laws.specs.Tried.{AreChosen}
 use Rattle.cad_surgery.specs.declared.edits.given.NewParcel.{NewParcel}
 use Rattle.cad_surgery.specs.Enclosures.{parcel_by}
 use Rattle.map_parts.specs.Handing.{home_of}
 use Rattle.map_parts.specs.Labels.{IsAlong}
 use Rattle.map_parts.specs.Islands.{AreOfRings}
+use Rattle.map_parts.specs.Placed.{AreOfHoles}
 
 -- the edit
 abbrev pub divided_by : NewParcel → Edit
@@ -30,6 +32,13 @@ divided_by d = Divide d.face d.points.now d.strings.now d.parcel d.label.now d.s
 -- the rows of the strings along its chain
 abbrev pub strings_across : NewParcel → List StringRow
 strings_across d = strings_along (d.source ∷ []) d.strings.now d.points.now
+
+-- One half of each ring of the face that passes over to the left of its chain: of each hole that lies
+-- in the part of the cut ring left of the chain, but for the cut ring itself.
+pub record AreMovedOver (m : Map) (rows : HalfRows) (d : NewParcel) (first last : Corner) (cut : Ring) (moved : List Half) : Type 0 where
+  pub holes : List Half
+  pub holes_are : AreOfHoles m rows d.face (left_of_chain d.points.now first last cut) holes
+  pub off : moved ≡ filter (λ h. not (has_side (side_by rows h) (sides_of cut))) holes
 
 -- In a table that goes with the map, the halves that leave the two corners between which the chain
 -- leads, and one half of each ring that passes over.

@@ -79,11 +79,21 @@ fn and_more(rows: usize) -> usize {
 }
 
 /// The number and the ends of the string at a place in the star of a point, and `None` past the last.
+#[inline(always)]
 fn span_at(stars: &KeyLists<Spoke>, point: PointNo, place: usize) -> Option<Span>
     ensures { result ≡ option_map (span_along point) (slice_get (items_at stars.now point) place) }
 {
     let spoke = star_of(stars, point).get(place)?;
     Some(span_between(&spoke.half, point, spoke.far))
+}
+
+/// The spoke at a place in the star of a point, and `None` past the last.
+#[inline(always)]
+fn spoke_at(stars: &KeyLists<Spoke>, point: PointNo, place: usize) -> Option<Spoke>
+    ensures { result ≡ slice_get (items_at stars.now point) place }
+{
+    let spoke = star_of(stars, point).get(place)?;
+    Some(*spoke)
 }
 
 impl<T: Tally> Draft<T> {
@@ -140,6 +150,7 @@ impl<T: Tally> Draft<T> {
     }
 
     /// As [`Draft::half`], with the star of the second point at hand.
+    #[inline(always)]
     fn half_in(&self, here: &[Spoke], from: PointNo, to: PointNo) -> Option<Half>
         requires { here.now ≡ items_at self.now.stars to }
         ensures told { result ≡ view_half self.now (from, to) }
@@ -163,6 +174,7 @@ impl<T: Tally> Draft<T> {
 
     /// The point where a half ends. It is sought in the star of the point where it begins, which is at
     /// hand.
+    #[inline(always)]
     fn far_in(&self, point: PointNo, here: &[Spoke], half: &Half) -> PointNo
         requires there { has self.now.table.rows half.now ≡ true }
         requires star { here.now ≡ items_at self.now.stars point }
@@ -247,8 +259,15 @@ impl<T: Tally> MapView for Draft<T> {
         self.rows.strings.get(half.string.get())
     }
 
+    #[inline(always)]
     fn span_with(&self, point: PointNo, place: usize) -> Option<Span> {
         span_at(&self.stars, point, place)
+    }
+
+    #[inline(always)]
+    fn side_to(&self, point: PointNo, place: usize) -> Option<(PointNo, Face)> {
+        let spoke = spoke_at(&self.stars, point, place)?;
+        Some((spoke.far, self.table.face(self.table.twin(spoke.half))))
     }
 
     fn degree(&self, no: PointNo) -> usize {
@@ -273,6 +292,7 @@ impl<T: Tally> MapView for Draft<T> {
         Some(self.table.face(half))
     }
 
+    #[inline(always)]
     fn after(&self, from: PointNo, to: PointNo) -> Option<PointNo> {
         let here = star_of(&self.stars, to);
         let half = self.half_in(here, from, to)?;

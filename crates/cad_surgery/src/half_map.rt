@@ -152,6 +152,10 @@ impl<T: Tally> MapView for HalfMap<T> {
         self.draft.span_with(point, place)
     }
 
+    fn side_to(&self, point: PointNo, place: usize) -> Option<(PointNo, Face)> {
+        self.draft.side_to(point, place)
+    }
+
     fn degree(&self, no: PointNo) -> usize {
         self.draft.degree(no)
     }

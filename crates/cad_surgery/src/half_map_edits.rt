@@ -12,7 +12,7 @@ ghost use Rattle.cad_surgery.specs.Work.{TakesWork};
 
 use crate::half_map::HalfMap;
 use crate::play::{play, play_again, play_back};
-use cad_edit::{are_in_range, first_refusal};
+use cad_edit::{admit, are_in_range};
 use cad_rows::{Edit, Memory, Refusal};
 use edit_records::{SmallRecord, are_in_range as gives_in_range};
 use half_table::Tally;
@@ -34,11 +34,9 @@ impl<T: Tally> HalfMap<T> {
         ensures at_once { IsSome (first_refusal_of (map_of self.old) edit.now)
             → self.new.table.work ≡ self.old.table.work }
     {
-        if let Some(refusal) = first_refusal(&self.draft, edit) {
-            return Err(refusal);
-        }
+        let found = admit(&self.draft, edit)?;
         are_in_range(edit);
-        play(&mut self.draft, &mut self.areas, edit)
+        play(&mut self.draft, &mut self.areas, edit, found.corners)
     }
 
     /// Goes from the map after an edit to the map before it. Where memory runs out the map stays.

@@ -8,6 +8,7 @@ ghost use Rattle.cad_map.specs.Outcome.{MayRefuse};
 ghost use Rattle.cad_map.specs.Touched.{IsTouched};
 ghost use Rattle.cad_map.specs.Valid.{IsValid};
 ghost use Rattle.cad_laws.specs.Tried.{IsTried};
+ghost use Rattle.cad_edit.specs.Admitted.{HasCorners};
 ghost use Rattle.cad_near.specs.KeptAreas.{HoldsAreas};
 ghost use Rattle.cad_near.specs.Near.{HoldsMap, touched_of};
 ghost use Rattle.cad_surgery.specs.AtRest.{IsAtRest};
@@ -26,6 +27,7 @@ use crate::edits::try_adding::try_adding;
 use crate::edits::try_join::{back_join, forward_join, try_join};
 use crate::edits::try_merge::try_merge;
 use crate::edits::try_split::{Halving, back_split, forward_split, try_split};
+use cad_map::Corner;
 use cad_near::{FaceAreas, Touched, first_broken_near};
 use cad_rows::{Edit, Memory, Refusal};
 use cell_grid::Entries;
@@ -81,15 +83,17 @@ fn try_rows<T: Tally>(
     Ok(change)
 }
 
-// Makes an edit, and takes it back where it breaks a rule. The grid holds the strings and points of
-// the map after it.
+// Makes an edit, of a division by the corners that were found, and takes it back where it breaks a
+// rule. The grid holds the strings and points of the map after it.
 fn try_edit<T: Tally>(
     draft: &mut Draft<T>,
     edit: &Edit,
+    corners: Option<(Corner, Corner)>,
     areas: &FaceAreas,
     touched: &Touched,
 ) -> Result<SmallRecord, Refusal>
-    requires { IsReadyFor edit.now draft.old areas.now touched.now }
+    requires ready { IsReadyFor edit.now draft.old areas.now touched.now }
+    requires corners { HasCorners (map_of draft.old) edit.now corners }
     ensures { IsTrialOf edit.now draft.old draft.new result }
 {
     match edit {
@@ -111,7 +115,9 @@ fn try_edit<T: Tally>(
             try_split(draft, *string, &halving, areas, touched)
         }
         Edit::Join { point, string } => try_join(draft, *point, *string, areas, touched),
-        Edit::Divide { .. } | Edit::Enclose { .. } => try_adding(draft, edit, areas, touched),
+        Edit::Divide { .. } | Edit::Enclose { .. } => {
+            try_adding(draft, edit, corners, areas, touched)
+        }
         Edit::Merge { kept, ended } => try_merge(draft, *kept, *ended, areas, touched),
         _ => try_rows(draft, edit, areas, touched),
     }
@@ -156,14 +162,17 @@ fn exchange_by<T: Tally>(draft: &Draft<T>, edit: &Edit) -> Result<Exchange, Memo
     Ok(Exchange { gone, come })
 }
 
-/// Makes an edit that nothing speaks against at once, and gives its record. Where memory runs out,
-/// or it breaks a rule, the map stays. The areas are those that are kept of the map.
+/// Makes an edit that nothing speaks against at once, of a division by the corners that were found,
+/// and gives its record. Where memory runs out, or it breaks a rule, the map stays. The areas are
+/// those that are kept of the map.
 pub(crate) fn play<T: Tally>(
     draft: &mut Draft<T>,
     areas: &mut FaceAreas,
     edit: &Edit,
+    corners: Option<(Corner, Corner)>,
 ) -> Result<SmallRecord, Refusal>
     requires tried { IsTried (map_of draft.old) edit.now }
+    requires corners { HasCorners (map_of draft.old) edit.now corners }
     requires rest { IsAtRest draft.old }
     requires areas { HoldsAreas areas.old (map_of draft.old) }
     ensures made { OnOk result (map_of draft.new ≡ after (map_of draft.old) edit.now) }
@@ -184,7 +193,7 @@ pub(crate) fn play<T: Tally>(
         return Err(Refusal::Memory);
     };
     turn_areas(areas, draft, edit, &plan.touched);
-    match try_edit(draft, edit, areas, &plan.touched) {
+    match try_edit(draft, edit, corners, areas, &plan.touched) {
         Ok(change) => {
             draft.withdraw(&plan.exchange.gone);
             draft.keep_bent(areas, edit, &plan.touched);

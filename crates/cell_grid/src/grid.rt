@@ -164,6 +164,7 @@ impl CellGrid {
     /// several times. It takes no memory, and time by the cells of the box of ab, or by all cells
     /// that were given room where these are fewer, by what stands in the cells of the box, and by
     /// the long ones.
+    #[inline(always)]
     pub fn candidates(&self, a: Pt, b: Pt) -> Candidates<'_>
         ensures held { (s : HeldStringOf) → Contains result s
             → HoldsString self.now s.string s.from s.to
@@ -179,6 +180,7 @@ impl CellGrid {
 
     /// The points held in the box of the segment ab, each at the position where it is held: so all
     /// that lie on it. A point may come several times. Memory and time are as for `candidates`.
+    #[inline(always)]
     pub fn point_candidates(&self, a: Pt, b: Pt) -> PointCandidates<'_>
         ensures held { (p : HeldPointOf) → Contains result p
             → HoldsPoint self.now p.point p.position
@@ -220,6 +222,7 @@ impl Iterator for Candidates<'_> {
 
     ghost remaining = { item_count (λ c. c) };
 
+    #[inline(always)]
     fn next(&mut self) -> Option<HeldString> {
         let entry = self.near.next()?.entry();
         let string = StringNo::new(entry.number)?;
@@ -258,6 +261,7 @@ impl Iterator for PointCandidates<'_> {
 
     ghost remaining = { item_count (λ c. c) };
 
+    #[inline(always)]
     fn next(&mut self) -> Option<HeldPoint> {
         let entry = self.near.next()?.entry();
         let point = PointNo::new(entry.number)?;

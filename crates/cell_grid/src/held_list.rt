@@ -1,5 +1,5 @@
 //! One list of entries.
-ghost use Rattle.std.specs.Prelude.{◌≡◌, ◌<◌, ◌∷◌, ◌++◌, [], true, false, length, IsPermutation, OnOk, OnErr, slice_index_or};
+ghost use Rattle.std.specs.Prelude.{◌≡◌, ◌<◌, ◌∷◌, ◌++◌, [], true, false, length, IsPermutation, IfOk, OnOk, OnErr, slice_index_or};
 ghost use Rattle.std.specs.List.{Contains};
 
 use crate::entry::Entry;
@@ -10,6 +10,11 @@ use std::alloc::Global;
 /// Up to so many entries are looked through from the front: a step of that costs less than one of
 /// the search both ways.
 const LONGEST_SHORT: usize = 64;
+
+/// The room of a cell's list for its first entries. It doubles as the list grows: among squares of
+/// some three extents a cell of an even net holds 24 or 31 strings and nine or twelve points, so that
+/// edits have room beside them.
+const FIRST_ROOM: usize = 5;
 
 /// Entries in a list, and the place where one was taken out last: what is taken out one after
 /// another mostly stood side by side.
@@ -88,6 +93,16 @@ impl HeldList {
             entries: Vec::new(alloc),
             taken: 0,
         }
+    }
+
+    /// No entries, and room for the first few.
+    pub(crate) fn with_room(alloc: Global) -> Result<HeldList, Memory>
+        ensures { IfOk result (λ list. list.entries.items ≡ []) }
+    {
+        Ok(HeldList {
+            entries: Vec::with_capacity(alloc, FIRST_ROOM)?,
+            taken: 0,
+        })
     }
 
     /// Puts an entry last. Where memory runs out the entries stay as they are.

@@ -78,7 +78,7 @@ impl CellLists {
             list.put(entry)?;
             return Ok(());
         }
-        let mut list = HeldList::new(*self.lists.allocator());
+        let mut list = HeldList::with_room(*self.lists.allocator())?;
         list.put(entry)?;
         self.lists.insert(cell, list)?;
         Ok(())

@@ -28,6 +28,7 @@ pub(crate) struct Scope {
 }
 
 /// The cells that are looked at for a segment.
+#[inline(always)]
 fn scope_of(layer: &Layer, from: Pt, to: Pt) -> Scope
     requires { IsCellSize layer.now.size }
     ensures { IsScope layer.now.size from to result }
@@ -38,6 +39,7 @@ fn scope_of(layer: &Layer, from: Pt, to: Pt) -> Scope
 }
 
 /// How many lists there are to look at.
+#[inline(always)]
 fn searched_count(layer: &Layer, scope: &Scope) -> usize
     requires { IsBlock scope.now.block }
     ensures { result ≡ searched_count_of layer.now.lists scope.now }
@@ -50,6 +52,7 @@ fn searched_count(layer: &Layer, scope: &Scope) -> usize
 }
 
 /// The list at a place among these. One of a cell that the box doesn't touch counts as empty.
+#[inline(always)]
 fn searched_list<'a>(layer: &'a Layer, scope: &Scope, place: usize) -> &'a [PackedEntry]
     requires block { IsBlock scope.now.block }
     requires there { place < searched_count_of layer.now.lists scope.now }
@@ -64,6 +67,7 @@ fn searched_list<'a>(layer: &'a Layer, scope: &Scope, place: usize) -> &'a [Pack
 }
 
 /// The first entry of a list that is near, and those that come after it.
+#[inline(always)]
 fn first_near<'a>(
     list: &'a [PackedEntry],
     bounds: &Bounds,
@@ -90,6 +94,7 @@ struct Found<'a> {
 
 /// The first entry near in the lists from one place on to the last, which is at the place before
 /// `end`.
+#[inline(always)]
 fn find_from<'a>(
     layer: &'a Layer,
     bounds: &Bounds,
@@ -150,6 +155,7 @@ impl<'a> Model for NearInLayer<'a> {
 
 impl<'a> NearInLayer<'a> {
     /// The search at its beginning, for a segment with these bounds. It takes no memory.
+    #[inline(always)]
     fn of(layer: &'a Layer, from: Pt, to: Pt, bounds: Bounds) -> NearInLayer<'a>
         requires spread { IsSpread layer.now.size layer.now.lists }
         requires on_from { OnTheMap from }
@@ -179,6 +185,7 @@ impl<'a> Iterator for NearInLayer<'a> {
 
     ghost remaining = { item_count (λ w. w) };
 
+    #[inline(always)]
     fn next(&mut self) -> Option<&'a PackedEntry> {
         if let Some((entry, rest)) = first_near(self.list, &self.bounds) {
             self.list = rest;
@@ -222,6 +229,7 @@ impl<'a> Model for NearEntries<'a> {
 
 impl<'a> NearEntries<'a> {
     /// The search at its beginning. It takes no memory.
+    #[inline(always)]
     pub(crate) fn of(segments: &'a Segments, from: Pt, to: Pt) -> NearEntries<'a>
         requires spread { AreSpread segments.now }
         requires on_from { OnTheMap from }
@@ -250,6 +258,7 @@ impl<'a> Iterator for NearEntries<'a> {
 
     ghost remaining = { item_count (λ w. w) };
 
+    #[inline(always)]
     fn next(&mut self) -> Option<&'a PackedEntry> {
         if let Some(entry) = self.small_squares.next() {
             return Some(entry);

@@ -89,6 +89,12 @@ module _ {V : Type 0} where
       ap (λ (x : ℕ × Option V). mark_of x.1) g
   mark-row (suc i) (e ∷ es) k o h = mark-row i es k o h
 
+  -- all rows stand before the last slot, but its own, if it has one
+  pub before-last : (i : ℕ) (es : Slots V) (k : ℕ) (o : Option V) → slice_get es i ≡ Some (k, o)
+      → i + 1 ≡ length es → total_before i (marks_of es) + mark_of o ≡ length (rows_of es)
+  before-last i es k o h last =
+      rw (← mark-row i es k o h, length-rows es, ← last) (sym (total-more i (marks_of es)))
+
   -- the row at the slot of a number stands at the count of the marks before it
   pub number-place : (n i : ℕ) (es : Slots V) → IsRowSlot es i n
       → slice_get (keys_of (rows_of es)) (total_before i (marks_of es)) ≡ Some n

@@ -102,6 +102,7 @@ impl<V> EntryList<V> {
     }
 
     /// The row with the number; none where no row has it.
+    #[inline(always)]
     pub fn get(&self, number: u64) -> Option<&V>
         ensures { option_copied result ≡ row_at number self.now }
     {

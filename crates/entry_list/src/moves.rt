@@ -21,7 +21,7 @@ impl<V> EntryList<V> {
         ensures before { rows_before result self.new ≡ place }
     {
         let own = self.empty_slot_of(number);
-        if self.live.count_before(own) == place {
+        if self.count_before_empty(number, own) == place {
             return own;
         }
         let next = self.slot_after(place);
@@ -46,6 +46,20 @@ impl<V> EntryList<V> {
         ensures within { result < length self.now }
     {
         self.slots.place_of(number).unwrap()
+    }
+
+    // How many rows stand before the number's empty slot. Where it is the last slot they are all the
+    // rows, and need no count.
+    fn count_before_empty(&self, number: u64, own: usize) -> usize
+        requires { IsEmptySlot self.now own number }
+        ensures { result ≡ rows_before own self.now }
+    {
+        let slots = self.slots.len();
+        if own + 1 == slots {
+            self.len
+        } else {
+            self.live.count_before(own)
+        }
     }
 
     // The slot behind that of the row before the place.

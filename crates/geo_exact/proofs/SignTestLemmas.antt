@@ -1,12 +1,14 @@
 -- The test by signs answers true exactly where two segments have a common location.
-use Rattle.std.proofs.Common.{◌≡◌, ℤ, pos, ◌<ℤ◌, Bool, true, false, arith, refl}
+use Rattle.std.proofs.Common.{◌≡◌, ℤ, pos, ◌<ℤ◌, Bool, true, false, arith, refl, [], ◌∷◌}
 use Rattle.std.specs.Prelude.{not, ◌&&◌, int_lt, ◌↔◌}
-use Rattle.std.proofs.lemmas.Int.{ints}
+use Rattle.std.proofs.lemmas.Int.{ints, by_lt_z}
 use Rattle.geo_exact.specs.Position.{Position}
 use Rattle.geo_exact.specs.Orientation.{orientation}
-use Rattle.geo_exact.specs.Segment.{HaveCommonLocation}
-use Rattle.geo_exact.specs.SignTest.{straddles, overlaps, passes_signs}
+use Rattle.geo_exact.specs.Segment.{HaveCommonLocation, IsOnSegment}
+use Rattle.geo_exact.specs.SignTest.{straddles, overlaps, boxes_overlap, passes_signs}
 use Rattle.geo_exact.proofs.Meeting.{Straddle, Overlap, signs_from_location, location_from_signs}
+use Rattle.geo_exact.proofs.Polynomial.{by_parts}
+use Rattle.geo_exact.proofs.Polynomial.Polynomial.{var, num, ◌⊟◌, ◌⊠◌}
 
 straddle_from : (p q : ℤ) → (not (int_lt (pos 0) p && int_lt (pos 0) q) && not (int_lt p (pos 0) && int_lt q (pos 0))) ≡ true → Straddle p q
 straddle_from p q h = record { not_left = λ k l. grind (arith, ints); not_right = λ k l. grind (arith, ints) }
@@ -53,3 +55,35 @@ passes_signs-is a b c d =
           (both s1 s2 (straddle_to (orientation c d a) (orientation c d b) p.first.not_left p.first.not_right) (straddle_to (orientation a b c) (orientation a b d) p.second.not_left p.second.not_right))
           (both o1 o2 (overlap_to a.x b.x c.x d.x p.in_x.not_below p.in_x.not_above) (overlap_to a.y b.y c.y d.y p.in_y.not_below p.in_y.not_above))),
     )
+
+-- from a position to itself nothing lies on the left or on the right
+no_side : (q c : Position) → orientation q q c ≡ pos 0
+no_side q c =
+    let QX = var 0 in let QY = var 1 in let CX = var 2 in let CY = var 3 in
+    by_parts (q.x ∷ q.y ∷ c.x ∷ c.y ∷ []) ((QX ⊟ QX) ⊠ (CY ⊟ QY) ⊟ (QY ⊟ QY) ⊠ (CX ⊟ QX)) (num (pos 0)) (omega arith)
+
+-- two positions on a line aren't both on its left, nor both on its right
+on_line : (o p : ℤ) → o ≡ pos 0 → p ≡ pos 0 → Straddle o p
+on_line o p h k = record { not_left = λ l m. omega (arith, ints); not_right = λ l m. omega (arith, ints) }
+
+-- A position lies on a segment exactly where it lies in its box and on its line.
+pub on_segment-is : (a b q : Position) → ((boxes_overlap a b q q ≡ true) × (orientation a b q ≡ pos 0)) ↔ IsOnSegment a b q
+on_segment-is a b q =
+    let o1 = overlaps a.x b.x q.x q.x in let o2 = overlaps a.y b.y q.y q.y in let o = orientation a b q in (
+      (λ h. location_from_signs a b q q (record {
+        first = on_line (orientation q q a) (orientation q q b) (no_side q a) (no_side q b);
+        second = on_line o o h.1 h.1;
+        in_x = overlap_from a.x b.x q.x q.x (and_left o1 o2 h.0);
+        in_y = overlap_from a.y b.y q.y q.y (and_right o1 o2 h.0);
+      })),
+      (λ l.
+          let p = signs_from_location a b q q l in
+          let in_x = overlap_to a.x b.x q.x q.x p.in_x.not_below p.in_x.not_above in
+          let in_y = overlap_to a.y b.y q.y q.y p.in_y.not_below p.in_y.not_above in
+          (both o1 o2 in_x in_y, none o p.second)),
+    )
+  where
+    none : (o : ℤ) → Straddle o o → o ≡ pos 0
+    none o s =
+        by_lt_z (pos 0) o (λ l. absurd (s.not_left l l))
+        (λ ge. by_lt_z o (pos 0) (λ r. absurd (s.not_right r r)) (λ le. omega (arith, ints)))

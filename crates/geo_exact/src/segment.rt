@@ -2,7 +2,7 @@ ghost use Rattle.std.specs.Prelude.{◌≡◌, ◌↔◌, ◌&&◌, IsTrue};
 ghost use Rattle.geo_exact.specs.Segment.{HaveCommonLocation, IsOnSegment};
 ghost use Rattle.geo_exact.specs.SignTest.{straddles, are_below, overlaps, boxes_overlap, passes_signs};
 
-use crate::orientation::{is_left_of, is_right_of};
+use crate::orientation::{is_left_of, is_right_of, orient};
 use crate::position::Pt;
 
 // Both of a and b are below both of c and d.
@@ -74,9 +74,10 @@ pub fn meets(a: Pt, b: Pt, c: Pt, d: Pt) -> bool
     passes_sign_test(a, b, c, d)
 }
 
-/// Whether q lies on the segment ab, its ends included.
+/// Whether q lies on the segment ab, its ends included: it lies in the segment's box, and on its
+/// line, which one orientation tells. The box is asked for first, since that costs less.
 pub fn on_segment(a: Pt, b: Pt, q: Pt) -> bool
     ensures { IsTrue result ↔ IsOnSegment a b q }
 {
-    meets(a, b, q, q)
+    have_boxes_in_common(a, b, q, q) && orient(a, b, q) == 0
 }

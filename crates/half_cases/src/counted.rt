@@ -122,6 +122,11 @@ impl<M: MapView> MapView for Counted<'_, M> {
         self.inner.span_with(point, place)
     }
 
+    fn side_to(&self, point: PointNo, place: usize) -> Option<(PointNo, Face)> {
+        self.count();
+        self.inner.side_to(point, place)
+    }
+
     fn degree(&self, no: PointNo) -> usize {
         self.count();
         self.inner.degree(no)

@@ -24,6 +24,7 @@ pub(crate) fn number_of(string: &StringNo) -> u64
 }
 
 /// The links of a half.
+#[inline(always)]
 pub(crate) fn find_links<'a>(rows: &'a Rows, h: &Half) -> Option<&'a PackedLinks>
     ensures { option_copied result ≡ links_of rows.now h.now }
 {
@@ -32,6 +33,7 @@ pub(crate) fn find_links<'a>(rows: &'a Rows, h: &Half) -> Option<&'a PackedLinks
 }
 
 /// The half that follows, and of a half that isn't there itself.
+#[inline(always)]
 pub(crate) fn next_half(rows: &Rows, h: &Half) -> Half
     ensures { result ≡ next rows.now h.now }
 {
@@ -42,6 +44,7 @@ pub(crate) fn next_half(rows: &Rows, h: &Half) -> Half
 }
 
 // Changes the links of a half, and gives those that it had.
+#[inline(always)]
 fn change_links<F: FnOnce(Links) -> Links>(rows: &mut Rows, h: &Half, change: F) -> Links
     requires h_in { has rows.old h.now ≡ true }
     requires callable { F.IsAlwaysCallable change }
@@ -59,6 +62,7 @@ fn change_links<F: FnOnce(Links) -> Links>(rows: &mut Rows, h: &Half, change: F)
 }
 
 /// Links a half to another next, and gives the one that it had.
+#[inline(always)]
 pub(crate) fn set_next(rows: &mut Rows, h: &Half, to: &Half) -> Half
     requires { has rows.old h.now ≡ true }
     ensures changes { ChangesNext h.now to.now rows.old rows.new }
@@ -68,6 +72,7 @@ pub(crate) fn set_next(rows: &mut Rows, h: &Half, to: &Half) -> Half
 }
 
 /// Links a half to another prev, and gives the one that it had.
+#[inline(always)]
 pub(crate) fn set_prev(rows: &mut Rows, h: &Half, to: &Half) -> Half
     requires { has rows.old h.now ≡ true }
     ensures changes { ChangesPrev h.now to.now rows.old rows.new }

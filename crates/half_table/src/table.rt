@@ -94,6 +94,7 @@ impl<T: Tally> HalfTable<T> {
     }
 
     /// The other half of the same string.
+    #[inline(always)]
     pub fn twin(&self, h: Half) -> Half
         ensures is { result ≡ twin h }
         ensures inside { has self.now.rows result ≡ has self.now.rows h }
@@ -104,6 +105,7 @@ impl<T: Tally> HalfTable<T> {
         }
     }
 
+    #[inline(always)]
     fn links(&self, h: &Half) -> &PackedLinks
         requires { has self.now.rows h.now ≡ true }
         ensures is { links_of self.now.rows h.now ≡ Some result.now }
@@ -113,6 +115,7 @@ impl<T: Tally> HalfTable<T> {
     }
 
     /// The point where a half begins.
+    #[inline(always)]
     pub fn origin(&self, h: Half) -> PointNo
         requires { has self.now.rows h ≡ true }
         ensures { result ≡ origin_of self.now.rows h }
@@ -121,6 +124,7 @@ impl<T: Tally> HalfTable<T> {
     }
 
     /// The half that follows `h` along the boundary of its face.
+    #[inline(always)]
     pub fn next(&self, h: Half) -> Half
         requires { has self.now.rows h ≡ true }
         ensures is { result ≡ next self.now.rows h }
@@ -131,6 +135,7 @@ impl<T: Tally> HalfTable<T> {
     }
 
     /// The half that `h` follows.
+    #[inline(always)]
     pub fn prev(&self, h: Half) -> Half
         requires { has self.now.rows h ≡ true }
         ensures is { result ≡ prev self.now.rows h }
@@ -141,6 +146,7 @@ impl<T: Tally> HalfTable<T> {
     }
 
     /// The face to the left of a half.
+    #[inline(always)]
     pub fn face(&self, h: Half) -> Face
         requires { has self.now.rows h ≡ true }
         ensures { result ≡ face self.now.rows h }

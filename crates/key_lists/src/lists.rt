@@ -76,6 +76,7 @@ impl<X: Copy> KeyLists<X> {
     }
 
     // The list under a key. What reads mostly finds it at the first guess.
+    #[inline(always)]
     fn find(&self, key: u64) -> Option<&Items<X>>
         ensures { option_copied result ≡ list_at self.now key }
     {
@@ -83,6 +84,7 @@ impl<X: Copy> KeyLists<X> {
     }
 
     /// The items under a key.
+    #[inline(always)]
     pub fn at(&self, key: u64) -> &[X]
         ensures { result.now ≡ items_at self.now key }
     {

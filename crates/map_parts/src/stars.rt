@@ -21,6 +21,7 @@ pub struct Spoke {
 }
 
 /// The halves that begin at a point.
+#[inline(always)]
 pub fn star_of(stars: &KeyLists<Spoke>, point: PointNo) -> &[Spoke]
     ensures { result.now ≡ items_at stars.now point }
 {
@@ -36,6 +37,7 @@ pub fn half_at(stars: &KeyLists<Spoke>, point: PointNo, place: usize) -> Option<
 }
 
 // The first of these halves that ends at a point.
+#[inline(always)]
 fn first_to(spokes: &[Spoke], far: PointNo) -> Option<Half>
     ensures { result ≡ half_to far spokes.now }
 {
@@ -45,6 +47,7 @@ fn first_to(spokes: &[Spoke], far: PointNo) -> Option<Half>
 
 // The half along the side from one point to another, sought at the first. It takes time by the halves
 // that begin there.
+#[inline(always)]
 fn find_half(stars: &KeyLists<Spoke>, from: PointNo, to: PointNo) -> Option<Half>
     ensures { result ≡ half_along stars.now (from, to) }
 {
@@ -52,6 +55,7 @@ fn find_half(stars: &KeyLists<Spoke>, from: PointNo, to: PointNo) -> Option<Half
 }
 
 // The twin of a half that leads back, of which is known whether it is there.
+#[inline(always)]
 fn twin_if_there(back: Option<Half>) -> Option<Half>
     ensures { result ≡ option_map twin back }
 {
@@ -63,6 +67,7 @@ fn twin_if_there(back: Option<Half>) -> Option<Half>
 }
 
 // Whether these are more than a few halves, and fewer begin at a point.
+#[inline(always)]
 fn are_fewer_at(stars: &KeyLists<Spoke>, here: &[Spoke], there: PointNo) -> bool
     ensures { result ≡ (nat_lt 8 (length here.now)
         && nat_lt (length (items_at stars.now there)) (length here.now)) }
@@ -73,6 +78,7 @@ fn are_fewer_at(stars: &KeyLists<Spoke>, here: &[Spoke], there: PointNo) -> bool
 /// The half along the side from one point to another, sought at the second, or at the first where
 /// many halves begin at the second and fewer there: so a side between a point of very many strings
 /// and one of few is found among few.
+#[inline(always)]
 pub fn find_half_by_ends(stars: &KeyLists<Spoke>, from: PointNo, to: PointNo) -> Option<Half>
     ensures { result ≡ half_by_ends stars.now (from, to) }
 {
@@ -80,6 +86,7 @@ pub fn find_half_by_ends(stars: &KeyLists<Spoke>, from: PointNo, to: PointNo) ->
 }
 
 /// As [`find_half_by_ends`], with the star of the second point at hand.
+#[inline(always)]
 pub fn find_half_in_star(
     stars: &KeyLists<Spoke>,
     here: &[Spoke],
@@ -96,6 +103,7 @@ pub fn find_half_in_star(
 }
 
 // Whether a spoke is along a half.
+#[inline(always)]
 fn is_along(spoke: &Spoke, half: &Half) -> bool
     ensures { result ≡ is_half spoke.now.half half.now }
 {
@@ -103,6 +111,7 @@ fn is_along(spoke: &Spoke, half: &Half) -> bool
 }
 
 // The far end of the first of these spokes that is along a half.
+#[inline(always)]
 fn far_among(spokes: &[Spoke], half: &Half) -> Option<PointNo>
     ensures { result ≡ option_map (λ (x : SpokeOf). x.far) (find (λ (x : SpokeOf). is_half x.half half.now) spokes.now) }
 {
@@ -111,6 +120,7 @@ fn far_among(spokes: &[Spoke], half: &Half) -> Option<PointNo>
 }
 
 /// Where a half ends that begins at a point, as the point's star tells it if few halves begin there.
+#[inline(always)]
 pub fn far_in_star(spokes: &[Spoke], half: Half) -> Option<PointNo>
     ensures told { result ≡ far_among_few half spokes.now }
     ensures there { IfSome result (λ far. Contains spokes.now (spoke half far)) }

@@ -1,5 +1,5 @@
 -- A table after a change of its rows and the notes that follow it.
-use Rattle.std.proofs.Common.{◌≡◌, ◌≢◌, ◌∙◌, sym, ap, subst, refl, arith, IsTrue, ℕ, zero, suc, ◌+◌, ◌-◌, ◌<◌, ◌≤◌, List, [], ◌∷◌, ◌++◌, length, get_or, set, swap, swap_remove, slice_get, nat_eq, min, max, insert, remove, None, Some, Bool, is_some}
+use Rattle.std.proofs.Common.{◌≡◌, ◌≢◌, ◌∙◌, sym, ap, subst, refl, arith, IsTrue, ℕ, zero, suc, ◌+◌, ◌-◌, ◌<◌, ◌≤◌, List, [], ◌∷◌, ◌++◌, length, get_or, set, swap, swap_remove, slice_get, nat_eq, min, max, insert, remove, Option, None, Some, Bool, is_some}
 use Rattle.std.specs.List.{IsDistinct}
 use Rattle.std.specs.Map.{lookup}
 use Rattle.std.proofs.lemmas.Bool.{ne_eqb}
@@ -25,38 +25,38 @@ use Rattle.number_table.specs.Rows.{Rows, numbers_of, AreDistinct, IsSame, Updat
 use Rattle.number_table.proofs.Found.{apart, absent}
 
 -- what a note of a place leaves
-pub record Notes (ms : List ℕ) (first place : ℕ) (old new : List (ℕ × ℕ)) (before after : Bool) : Type 0 where
+pub record Notes (ms : List ℕ) (first : ℕ) (second : Option ℕ) (place : ℕ) (old new : List (ℕ × ℕ)) (before after : Bool) : Type 0 where
   pub whole : IsTrue after → IsTrue before
-  pub found : IsTrue after → IsFoundAt first new ms place
-  pub keeps : (other : ℕ) → IsFoundAt first old ms other → IsFoundAt first new ms other
+  pub found : IsTrue after → IsFoundAt first second new ms place
+  pub keeps : (other : ℕ) → IsFoundAt first second old ms other → IsFoundAt first second new ms other
 
 -- where every number elsewhere is found, and then the one at the place is noted, the table is right
-pub noted : (ms : List ℕ) (first place : ℕ) (old new : List (ℕ × ℕ)) (before after : Bool) → Notes ms first place old new before after
-    → IsDistinct nat_eq ms → (IsTrue before → (k : ℕ) → k ≢ place → IsFoundAt first old ms k) → IsTable ms first new after
-noted ms first place old new before after n d elsewhere = record {
+pub noted : (ms : List ℕ) (first : ℕ) (second : Option ℕ) (place : ℕ) (old new : List (ℕ × ℕ)) (before after : Bool) → Notes ms first second place old new before after
+    → IsDistinct nat_eq ms → (IsTrue before → (k : ℕ) → k ≢ place → IsFoundAt first second old ms k) → IsTable ms first second new after
+noted ms first second place old new before after n d elsewhere = record {
   distinct = d;
   found = λ w k. elim (ℕ_discrete k place) [
-    | yes e ↦ subst (λ (p : ℕ). IsFoundAt first new ms p) (sym e) (n.found w)
+    | yes e ↦ subst (λ (p : ℕ). IsFoundAt first second new ms p) (sym e) (n.found w)
     | no away ↦ n.keeps k (elsewhere (n.whole w) k away)
   ];
 }
 
 -- the same where two places are noted
-pub noted-twice : (ms : List ℕ) (first a b : ℕ) (old mid new : List (ℕ × ℕ)) (before between after : Bool) → Notes ms first a old mid before between
-    → Notes ms first b mid new between after → IsDistinct nat_eq ms
-    → (IsTrue before → (k : ℕ) → k ≢ a → k ≢ b → IsFoundAt first old ms k) → IsTable ms first new after
-noted-twice ms first a b old mid new before between after n m d elsewhere =
-    noted ms first b mid new between after m d
+pub noted-twice : (ms : List ℕ) (first : ℕ) (second : Option ℕ) (a b : ℕ) (old mid new : List (ℕ × ℕ)) (before between after : Bool) → Notes ms first second a old mid before between
+    → Notes ms first second b mid new between after → IsDistinct nat_eq ms
+    → (IsTrue before → (k : ℕ) → k ≢ a → k ≢ b → IsFoundAt first second old ms k) → IsTable ms first second new after
+noted-twice ms first second a b old mid new before between after n m d elsewhere =
+    noted ms first second b mid new between after m d
     (λ w k off. elim (ℕ_discrete k a) [
-      | yes e ↦ subst (λ (p : ℕ). IsFoundAt first mid ms p) (sym e) (n.found w)
+      | yes e ↦ subst (λ (p : ℕ). IsFoundAt first second mid ms p) (sym e) (n.found w)
       | no away ↦ n.keeps k (elsewhere (n.whole w) k away off)
     ])
 
 -- the same where the places from low to high are noted
-pub noted-between : (ms : List ℕ) (first low high : ℕ) (old new : List (ℕ × ℕ)) (before after : Bool) → (IsTrue after → IsTrue before)
-    → (IsTrue after → (k : ℕ) → low ≤ k → k ≤ high → IsFoundAt first new ms k) → ((k : ℕ) → IsFoundAt first old ms k → IsFoundAt first new ms k)
-    → IsDistinct nat_eq ms → (IsTrue before → (k : ℕ) → (low ≤ k → k ≤ high → ⊥) → IsFoundAt first old ms k) → IsTable ms first new after
-noted-between ms first low high old new before after whole found keeps d elsewhere = record {
+pub noted-between : (ms : List ℕ) (first : ℕ) (second : Option ℕ) (low high : ℕ) (old new : List (ℕ × ℕ)) (before after : Bool) → (IsTrue after → IsTrue before)
+    → (IsTrue after → (k : ℕ) → low ≤ k → k ≤ high → IsFoundAt first second new ms k) → ((k : ℕ) → IsFoundAt first second old ms k → IsFoundAt first second new ms k)
+    → IsDistinct nat_eq ms → (IsTrue before → (k : ℕ) → (low ≤ k → k ≤ high → ⊥) → IsFoundAt first second old ms k) → IsTable ms first second new after
+noted-between ms first second low high old new before after whole found keeps d elsewhere = record {
   distinct = d;
   found = λ w k. elim (dec_lt k low) [
     | yes below ↦ keeps k (elsewhere (whole w) k (λ p q. absurd (omega arith)))
@@ -68,11 +68,11 @@ noted-between ms first low high old new before after whole found keeps d elsewhe
 }
 
 -- a number that stands where it stood is found as it was
-pub stays : (ns ms : List ℕ) (first k : ℕ) (others : List (ℕ × ℕ)) → (k < length ms → (k < length ns) × (get_or ms k 0 ≡ get_or ns k 0))
-    → IsFoundAt first others ns k → IsFoundAt first others ms k
-stays ns ms first k others same was within =
+pub stays : (ns ms : List ℕ) (first : ℕ) (second : Option ℕ) (k : ℕ) (others : List (ℕ × ℕ)) → (k < length ms → (k < length ns) × (get_or ms k 0 ≡ get_or ns k 0))
+    → IsFoundAt first second others ns k → IsFoundAt first second others ms k
+stays ns ms first second k others same was within =
     let s = same within in
-    subst (λ (m : ℕ). IsNoted first others m k) (sym s.1) (was s.0)
+    subst (λ (m : ℕ). IsNoted first second others m k) (sym s.1) (was s.0)
 
 module _ (ns : List ℕ) (p d : ℕ) (within : p < length ns) where
   pub length-swap_remove : length (swap_remove ns p d) + 1 ≡ length ns
@@ -135,12 +135,12 @@ module _ {V : Type 0} (rows : Rows V) where
     pub moves-swap : IsPermutation rows (swap rows a b)
     moves-swap = IsPermutation-swap rows (swap rows a b) a b a-in b-in refl
 
-    pub stays-swap : (first : ℕ) (others : List (ℕ × ℕ)) → AreFound first others (numbers_of rows)
-        → (k : ℕ) → k ≢ a → k ≢ b → IsFoundAt first others (numbers_of (swap rows a b)) k
-    stays-swap first others was k off away =
+    pub stays-swap : (first : ℕ) (second : Option ℕ) (others : List (ℕ × ℕ)) → AreFound first second others (numbers_of rows)
+        → (k : ℕ) → k ≢ a → k ≢ b → IsFoundAt first second others (numbers_of (swap rows a b)) k
+    stays-swap first second others was k off away =
         let w = swapped_from_swap (numbers_of rows) (swap (numbers_of rows) a b) a b 0 (omega (arith, same-length)) (omega (arith, same-length)) refl in
         rw numbers-swap
-        (stays (numbers_of rows) (swap (numbers_of rows) a b) first k others
+        (stays (numbers_of rows) (swap (numbers_of rows) a b) first second k others
         (λ l. (omega (arith, l, length-swap (numbers_of rows) a b), w.2 k off away)) (was k))
 
   -- a row behind all others
@@ -160,11 +160,11 @@ module _ {V : Type 0} (rows : Rows V) where
         ap (lookup (nat_eq other)) (sym (insert_end rows (number, value)))
         ∙ lookup-insert nat_eq_equiv number value other rows (length rows) (none_passes_from_lookup (nat_eq number) rows none)
 
-    pub stays-push : (first : ℕ) (others : List (ℕ × ℕ)) → AreFound first others (numbers_of rows)
-        → (k : ℕ) → k ≢ length rows → IsFoundAt first others (numbers_of (rows ++ (number, value) ∷ [])) k
-    stays-push first others was k off =
+    pub stays-push : (first : ℕ) (second : Option ℕ) (others : List (ℕ × ℕ)) → AreFound first second others (numbers_of rows)
+        → (k : ℕ) → k ≢ length rows → IsFoundAt first second others (numbers_of (rows ++ (number, value) ∷ [])) k
+    stays-push first second others was k off =
         rw numbers-push
-        (stays (numbers_of rows) (numbers_of rows ++ number ∷ []) first k others
+        (stays (numbers_of rows) (numbers_of rows ++ number ∷ []) first second k others
         (λ l.
         let inside : k < length (numbers_of rows) = omega (arith, l, off, same-length, length_push (numbers_of rows) number) in
         (inside, get_or_append_left (numbers_of rows) (number ∷ []) 0 k inside)) (was k))
@@ -183,11 +183,11 @@ module _ {V : Type 0} (rows : Rows V) where
         (IsPermutation-trans rows (row ∷ remove rows from) (insert (remove rows from) to row)
         (IsPermutation-remove rows from row from-in read) (IsPermutation-insert (remove rows from) to row))
 
-    pub stays-move : (first : ℕ) (others : List (ℕ × ℕ)) → AreFound first others (numbers_of rows)
-        → (k : ℕ) → (min from to ≤ k → k ≤ max from to → ⊥) → IsFoundAt first others (numbers_of (move_index rows from to)) k
-    stays-move first others was k off =
+    pub stays-move : (first : ℕ) (second : Option ℕ) (others : List (ℕ × ℕ)) → AreFound first second others (numbers_of rows)
+        → (k : ℕ) → (min from to ≤ k → k ≤ max from to → ⊥) → IsFoundAt first second others (numbers_of (move_index rows from to)) k
+    stays-move first second others was k off =
         rw numbers-move
-        (stays (numbers_of rows) (move_index (numbers_of rows) from to) first k others
+        (stays (numbers_of rows) (move_index (numbers_of rows) from to) first second k others
         (moved-outside (numbers_of rows) from to (omega (arith, same-length)) (omega (arith, same-length)) k off) (was k))
 
   -- the last row in the place of one that is taken out
@@ -218,22 +218,22 @@ module _ {V : Type 0} (rows : Rows V) where
     numbers-without : numbers_of without ≡ swap_remove (numbers_of rows) place row.0
     numbers-without = map-swap_remove (λ (e : ℕ × V). e.0) rows place row (omega arith)
 
-    stays-without : (first : ℕ) (others : List (ℕ × ℕ)) → AreFound first others (numbers_of rows)
-        → (k : ℕ) → k ≢ place → IsFoundAt first others (numbers_of without) k
-    stays-without first others was k off =
+    stays-without : (first : ℕ) (second : Option ℕ) (others : List (ℕ × ℕ)) → AreFound first second others (numbers_of rows)
+        → (k : ℕ) → k ≢ place → IsFoundAt first second others (numbers_of without) k
+    stays-without first second others was k off =
         let ns = numbers_of rows in
         let inside : place < length ns = omega (arith, same-length) in
         let long = length-swap_remove ns place row.0 inside in
         rw numbers-without
-        (stays ns (swap_remove ns place row.0) first k others
+        (stays ns (swap_remove ns place row.0) first second k others
         (λ l. (omega (arith, l, long), get_or-swap_remove ns place row.0 inside k off (omega (arith, l, long)))) (was k))
 
     -- what is noted of the number that is taken out may be forgotten
-    pub stays-forgotten : (first : ℕ) (others fewer : List (ℕ × ℕ)) → AreFound first others (numbers_of rows)
+    pub stays-forgotten : (first : ℕ) (second : Option ℕ) (others fewer : List (ℕ × ℕ)) → AreFound first second others (numbers_of rows)
         → ((other : ℕ) → row.0 ≢ other → lookup (nat_eq other) fewer ≡ lookup (nat_eq other) others)
-        → (k : ℕ) → k ≢ place → IsFoundAt first fewer (numbers_of without) k
-    stays-forgotten first others fewer was same k off l =
-        elim (stays-without first others was k off l) [
+        → (k : ℕ) → k ≢ place → IsFoundAt first second fewer (numbers_of without) k
+    stays-forgotten first second others fewer was same k off l =
+        elim (stays-without first second others was k off l) [
           | inl follows ↦ inl follows
           | inr has ↦ inr (same (get_or (numbers_of without) k 0) (λ e. gone k l (sym e)) ∙ has)
         ]

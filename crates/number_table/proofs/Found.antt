@@ -6,7 +6,7 @@ use Rattle.std.proofs.lemmas.Bool.{ne_eqb}
 use Rattle.std.proofs.lemmas.Bool.Decides.{Decides-eqb}
 use Rattle.std.proofs.lemmas.Map.Made.{AllPairs-from_IsDistinct}
 use Rattle.std.proofs.Common.{Result, Ok, Err}
-use Rattle.std.specs.Prelude.{OnOk, OnErr}
+use Rattle.std.specs.Prelude.{OnOk, OnErr, IsSome}
 use Rattle.std.proofs.lemmas.List.{get_or-map, length-map}
 use Rattle.indexmap.specs.IndexMap.{IndexMap, Updates}
 use native.Mathlib.Decide.{dec_lt, ℕ_discrete}
@@ -14,7 +14,7 @@ use Rattle.std.proofs.lemmas.Option.{slice_get-map, slice_get-get_or, slice_get_
 use Rattle.std.proofs.lemmas.Map.Entries.{lookup_from_place}
 use Rattle.std.proofs.lemmas.Cmp.{nat_eq_equiv}
 use Rattle.std.specs.Option.{option_map}
-use Rattle.number_table.specs.Rows.{Rows, numbers_of, HasNumberAt, IsNoted, IsFoundAt, AreFound}
+use Rattle.number_table.specs.Rows.{Rows, numbers_of, HasNumberAt, FollowsSecond, IsNoted, IsFoundAt, AreFound}
 
 -- numbers at different places differ
 pub apart : (ns : List ℕ) (i j : ℕ) → IsDistinct nat_eq ns → i < length ns → j < length ns → i ≢ j → get_or ns i 0 ≢ get_or ns j 0
@@ -26,11 +26,11 @@ apart ns i j d p q n e =
     ]
 
 -- what was found before a place was noted is found after it
-pub still-found : (ns : List ℕ) (first place : ℕ) (old new : List (ℕ × ℕ)) → IsDistinct nat_eq ns → place < length ns
+pub still-found : (ns : List ℕ) (first : ℕ) (second : Option ℕ) (place : ℕ) (old new : List (ℕ × ℕ)) → IsDistinct nat_eq ns → place < length ns
     → lookup (nat_eq (get_or ns place 0)) new ≡ Some place
     → ((q : ℕ) → nat_eq (get_or ns place 0) q ≡ false → lookup (nat_eq q) new ≡ lookup (nat_eq q) old)
-    → (other : ℕ) → IsFoundAt first old ns other → IsFoundAt first new ns other
-still-found ns first place old new d within noted same other was there =
+    → (other : ℕ) → IsFoundAt first second old ns other → IsFoundAt first second new ns other
+still-found ns first second place old new d within noted same other was there =
     elim (ℕ_discrete other place) [
       | yes e ↦ inr (subst (λ (k : ℕ). lookup (nat_eq (get_or ns k 0)) new ≡ Some k) (sym e) noted)
       | no n ↦ elim (was there) [
@@ -39,17 +39,35 @@ still-found ns first place old new d within noted same other was there =
       ]
     ]
 
+-- a second run that begins, or stays, leaves each place that was a number's
+run-kept : (first : ℕ) (old new : Option ℕ) (others : List (ℕ × ℕ)) (number place : ℕ) → (IsSome old → new ≡ old)
+    → IsNoted first old others number place → IsNoted first new others number place
+run-kept first None new others number place stays was =
+    elim was [
+      | inl follows ↦ elim follows [
+        | inl run ↦ inl (inl run)
+        | inr run ↦ absurd (none-some number run)
+      ]
+      | inr has ↦ inr has
+    ]
+run-kept first (Some base) new others number place stays was = rw (stays refl) was
+
+-- so what was found before is found after
+pub found-by_run : (ns : List ℕ) (first : ℕ) (old new : Option ℕ) (others : List (ℕ × ℕ)) (place : ℕ) → (IsSome old → new ≡ old)
+    → IsFoundAt first old others ns place → IsFoundAt first new others ns place
+found-by_run ns first old new others place stays was within = run-kept first old new others (get_or ns place 0) place stays (was within)
+
 module _ {V S A B : Type 0} where
   -- what was found before a row's place was noted is found after it, whether or not there was memory
-  pub kept : (rows : Rows V) (first place : ℕ) (row : ℕ × V) (old new : IndexMap ℕ ℕ S) (r : Result A B) → IsDistinct nat_eq (numbers_of rows)
+  pub kept : (rows : Rows V) (first : ℕ) (second : Option ℕ) (place : ℕ) (row : ℕ × V) (old new : IndexMap ℕ ℕ S) (r : Result A B) → IsDistinct nat_eq (numbers_of rows)
       → place < length rows → row ≡ get_or rows place row → OnOk r (Updates nat_eq old new row.0 (Some place)) → OnErr r (new.entries ≡ old.entries)
-      → (other : ℕ) → IsFoundAt first old.entries (numbers_of rows) other → IsFoundAt first new.entries (numbers_of rows) other
-  kept rows first place row old new (Ok x) d within read u e =
+      → (other : ℕ) → IsFoundAt first second old.entries (numbers_of rows) other → IsFoundAt first second new.entries (numbers_of rows) other
+  kept rows first second place row old new (Ok x) d within read u e =
       let long = length-map rows (λ (e : ℕ × V). e.0) in
       let here : get_or (numbers_of rows) place 0 ≡ row.0
       = get_or-map (λ (e : ℕ × V). e.0) rows place row 0 within ∙ ap (λ (e : ℕ × V). e.0) (sym read) in
-      still-found (numbers_of rows) first place old.entries new.entries d (omega arith) (rw here u.1) (λ q t. u.2 q (rw here at t))
-  kept rows first place row old new (Err x) d within read u e = λ other was. rw e was
+      still-found (numbers_of rows) first second place old.entries new.entries d (omega arith) (rw here u.1) (λ q t. u.2 q (rw here at t))
+  kept rows first second place row old new (Err x) d within read u e = λ other was. rw e was
 
 module _ {V : Type 0} where
   -- a number that stands at no place has no row
@@ -58,15 +76,19 @@ module _ {V : Type 0} where
   absent (r ∷ rs) n h =
       rw (ne_eqb n r.0 (λ e. h 0 (omega arith) (sym e))) (absent rs n (λ k l e. h (suc k) (omega (arith, l)) e))
 
-  -- where each number is found, one that isn't where it would be has no row
-  pub not-found : (rows : Rows V) (first n guess : ℕ) (others : List (ℕ × ℕ)) → AreFound first others (numbers_of rows)
+  -- where each number is found, one that isn't where it would be in either run, nor where it is noted, has no row
+  pub not-found : (rows : Rows V) (first : ℕ) (second : Option ℕ) (n guess other : ℕ) (others : List (ℕ × ℕ)) → AreFound first second others (numbers_of rows)
       → ((p : ℕ) → n ≡ first + p → guess ≡ p) → (HasNumberAt rows guess n → ⊥)
+      → ((p : ℕ) → FollowsSecond second n p → other ≡ p) → (HasNumberAt rows other n → ⊥)
       → ((p : ℕ) → lookup (nat_eq n) others ≡ Some p → HasNumberAt rows p n → ⊥) → lookup (nat_eq n) rows ≡ None
-  not-found rows first n guess others found is away elsewhere =
+  not-found rows first second n guess other others found is away is-other away-other elsewhere =
       absent rows n (λ k l e.
       let here : HasNumberAt rows k n = slice_get-get_or (numbers_of rows) k 0 l ∙ ap Some e in
-      elim (subst (λ (m : ℕ). IsNoted first others m k) e (found k l)) [
-        | inl follows ↦ away (subst (λ (p : ℕ). HasNumberAt rows p n) (sym (is k follows)) here)
+      elim (subst (λ (m : ℕ). IsNoted first second others m k) e (found k l)) [
+        | inl follows ↦ elim follows [
+          | inl run ↦ away (subst (λ (p : ℕ). HasNumberAt rows p n) (sym (is k run)) here)
+          | inr run ↦ away-other (subst (λ (p : ℕ). HasNumberAt rows p n) (sym (is-other k run)) here)
+        ]
         | inr has ↦ elsewhere k has here
       ])
 

@@ -1,6 +1,6 @@
 -- Rows under numbers, and how the place of a number is found.
 use Rattle.std.specs.Prelude.{◌≡◌, ◌+◌, ◌<◌, ◌⊎◌, ℕ, List, length, slice_get, slice_index, nat_eq}
-use Rattle.std.specs.Prelude.{Bool, IsTrue, if◌then◌else◌, Option, Some}
+use Rattle.std.specs.Prelude.{Bool, IsTrue, if◌then◌else◌, Option, Some, option_map}
 use Rattle.std.specs.List.{IsDistinct}
 use Rattle.std.specs.Map.{lookup, keys_of}
 
@@ -31,22 +31,33 @@ module _ {V : Type 0} where
       (other : ℕ) → lookup (nat_eq other) new
       ≡ (if nat_eq number other then value else lookup (nat_eq other) old)
 
--- the place is the number's if all from the first on follow one another, or it is noted for it
-abbrev pub IsNoted : ℕ → List (ℕ × ℕ) → ℕ → ℕ → Type 0
-IsNoted first others number place =
-    (number ≡ first + place) ⊎ (lookup (nat_eq number) others ≡ Some place)
+-- there is a second run, and counted up from its base the place has the number
+abbrev pub FollowsSecond : Option ℕ → ℕ → ℕ → Type 0
+FollowsSecond second number place = option_map (λ base. base + place) second ≡ Some number
 
--- the number at the place, if there is one, is found there
-abbrev pub IsFoundAt : ℕ → List (ℕ × ℕ) → List ℕ → ℕ → Type 0
-IsFoundAt first others numbers place =
-    place < length numbers → IsNoted first others (slice_index numbers place) place
+-- counted up from the first, or from the base of the second run, the place has the number
+abbrev pub Follows : ℕ → Option ℕ → ℕ → ℕ → Type 0
+Follows first second number place =
+    (number ≡ first + place) ⊎ FollowsSecond second number place
 
--- each number is found at its place
-abbrev pub AreFound : ℕ → List (ℕ × ℕ) → List ℕ → Type 0
-AreFound first others numbers = (place : ℕ) → IsFoundAt first others numbers place
+-- the place is the number's in one of the two runs, or it is noted for it
+abbrev pub IsNoted : ℕ → Option ℕ → List (ℕ × ℕ) → ℕ → ℕ → Type 0
+IsNoted first second others number place =
+    Follows first second number place ⊎ (lookup (nat_eq number) others ≡ Some place)
 
--- no number has two rows, and in a table that is whole each is found
-pub record IsTable (numbers : List ℕ) (first : ℕ) (others : List (ℕ × ℕ)) (is_whole : Bool)
+-- the number at the place, if there is one, is found there by the two runs or by what is noted
+abbrev pub IsFoundAt : ℕ → Option ℕ → List (ℕ × ℕ) → List ℕ → ℕ → Type 0
+IsFoundAt first second others numbers place =
+    place < length numbers → IsNoted first second others (slice_index numbers place) place
+
+-- each number is found at its place by the two runs or by what is noted
+abbrev pub AreFound : ℕ → Option ℕ → List (ℕ × ℕ) → List ℕ → Type 0
+AreFound first second others numbers =
+    (place : ℕ) → IsFoundAt first second others numbers place
+
+-- no number has two rows, and in a table that is whole each is found by the two runs or a note
+pub record IsTable
+    (numbers : List ℕ) (first : ℕ) (second : Option ℕ) (others : List (ℕ × ℕ)) (is_whole : Bool)
     : Type 0 where
   pub distinct : IsDistinct nat_eq numbers
-  pub found : IsTrue is_whole → AreFound first others numbers
+  pub found : IsTrue is_whole → AreFound first second others numbers

@@ -1,6 +1,6 @@
 //! Rows that go and come, and change places.
 ghost use Rattle.std.specs.Prelude.{◌≡◌, ◌+◌, ◌<◌, ◌++◌, ◌∷◌, [], length, take, None, Some};
-ghost use Rattle.std.specs.Prelude.{OnOk, OnErr};
+ghost use Rattle.std.specs.Prelude.{OnOk, OnErr, IsSome};
 ghost use Rattle.std.specs.Prelude.{nat_eq, slice_get, swap, swap_remove, option_map};
 ghost use Rattle.std.specs.Borrow.{sem};
 ghost use Rattle.std.specs.Map.{lookup, values_of};
@@ -9,10 +9,21 @@ ghost use Rattle.indexmap.specs.Layout.{set_value_at};
 ghost use Rattle.number_table.specs.Lends.{LendsValue};
 ghost use Rattle.number_table.specs.Rows.{AreDistinct, IsSame, Updates};
 
-use crate::notes::{forget, note, note_between};
+use crate::notes::{follows, forget, note, note_between};
 use crate::table::NumberTable;
 use std::alloc::AllocError;
 use std::mem;
+
+// The base of the second run after a row was put behind all others. The first number that doesn't
+// follow from the first row begins the run, and then its base stays.
+fn second_after(first: u64, second: Option<u64>, number: u64, place: usize) -> Option<u64>
+    ensures { IsSome second → result ≡ second }
+{
+    if second.is_some() || follows(first, number, place) {
+        return second;
+    }
+    number.checked_sub(place as u64)
+}
 
 impl<V> NumberTable<V> {
     /// The value at a place, to write. Its number stays.
@@ -37,6 +48,7 @@ impl<V> NumberTable<V> {
 
     /// Puts a row behind all others. Where memory runs out the table stays as it is. The first two
     /// rows tell where the others would stand without a gap, since the very first may stand apart.
+    /// The first row that stands elsewhere tells where those of the second run would.
     pub fn push(&mut self, number: u64, value: V) -> Result<(), AllocError>
     where
         V: Drop,
@@ -50,12 +62,21 @@ impl<V> NumberTable<V> {
         self.rows.push((number, value))?;
         if place < 2 {
             self.first = number.saturating_sub(place as u64);
-            self.is_whole = note(&self.rows, &mut self.others, self.first, 0, self.is_whole);
+            self.is_whole = note(
+                &self.rows,
+                &mut self.others,
+                self.first,
+                self.second,
+                0,
+                self.is_whole,
+            );
         }
+        self.second = second_after(self.first, self.second, number, place);
         self.is_whole = note(
             &self.rows,
             &mut self.others,
             self.first,
+            self.second,
             place,
             self.is_whole,
         );
@@ -71,8 +92,22 @@ impl<V> NumberTable<V> {
         ensures distinct { AreDistinct self.new }
     {
         self.rows.swap(a, b);
-        let is_whole = note(&self.rows, &mut self.others, self.first, a, self.is_whole);
-        self.is_whole = note(&self.rows, &mut self.others, self.first, b, is_whole);
+        let is_whole = note(
+            &self.rows,
+            &mut self.others,
+            self.first,
+            self.second,
+            a,
+            self.is_whole,
+        );
+        self.is_whole = note(
+            &self.rows,
+            &mut self.others,
+            self.first,
+            self.second,
+            b,
+            is_whole,
+        );
     }
 
     /// Takes the row at a place out and gives it, with its number. The last row takes its place.
@@ -90,6 +125,7 @@ impl<V> NumberTable<V> {
             &self.rows,
             &mut self.others,
             self.first,
+            self.second,
             place,
             self.is_whole,
         );
@@ -112,6 +148,7 @@ impl<V> NumberTable<V> {
             &self.rows,
             &mut self.others,
             self.first,
+            self.second,
             from.min(to),
             from.max(to),
             self.is_whole,

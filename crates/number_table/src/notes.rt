@@ -33,30 +33,43 @@ pub(crate) fn place_among<V>(rows: &[(u64, V)], number: u64) -> Option<usize>
     None
 }
 
-// Notes at which place a row stands, if its number doesn't follow from the first. Gives whether all
-// are found that were before, and this one.
+// Whether a number stands where it would if all from a base on followed one another.
+pub(crate) fn follows(base: u64, number: u64, place: usize) -> bool
+    ensures { IsTrue result → number ≡ base + place }
+{
+    number >= base && (number - base) as usize == place
+}
+
+// Notes at which place a row stands, if its number follows neither from the first nor in the second
+// run. Gives whether all are found that were before, and this one.
 pub(crate) fn note<V>(
     rows: &[(u64, V)],
     others: &mut Others,
     first: u64,
+    second: Option<u64>,
     place: usize,
     is_whole: bool,
 ) -> bool
     requires { AreDistinct rows.now }
     ensures whole { IsTrue result → IsTrue is_whole }
     ensures found { IsTrue result
-        → IsFoundAt first others.new.entries (numbers_of rows.now) place }
+        → IsFoundAt first second others.new.entries (numbers_of rows.now) place }
     ensures keeps { (other : ℕ)
-        → IsFoundAt first others.old.entries (numbers_of rows.now) other
-        → IsFoundAt first others.new.entries (numbers_of rows.now) other }
+        → IsFoundAt first second others.old.entries (numbers_of rows.now) other
+        → IsFoundAt first second others.new.entries (numbers_of rows.now) other }
 {
     if !is_whole {
         return false;
     }
     match rows.get(place) {
         Some((number, _)) => {
-            if *number >= first && (*number - first) as usize == place {
+            if follows(first, *number, place) {
                 return true;
+            }
+            if let Some(base) = second {
+                if follows(base, *number, place) {
+                    return true;
+                }
             }
             others.insert(*number, place).is_ok()
         }
@@ -79,6 +92,7 @@ pub(crate) fn note_between<V>(
     rows: &[(u64, V)],
     others: &mut Others,
     first: u64,
+    second: Option<u64>,
     from: usize,
     to: usize,
     is_whole: bool,
@@ -87,14 +101,14 @@ pub(crate) fn note_between<V>(
     requires within { to < length rows.now }
     ensures whole { IsTrue result → IsTrue is_whole }
     ensures found { IsTrue result → (place : ℕ) → from ≤ place → place ≤ to
-        → IsFoundAt first others.new.entries (numbers_of rows.now) place }
+        → IsFoundAt first second others.new.entries (numbers_of rows.now) place }
     ensures keeps { (other : ℕ)
-        → IsFoundAt first others.old.entries (numbers_of rows.now) other
-        → IsFoundAt first others.new.entries (numbers_of rows.now) other }
+        → IsFoundAt first second others.old.entries (numbers_of rows.now) other
+        → IsFoundAt first second others.new.entries (numbers_of rows.now) other }
 {
     let mut all = is_whole;
     for place in from..to + 1 {
-        all = note(rows, others, first, place, all);
+        all = note(rows, others, first, second, place, all);
     }
     all
 }

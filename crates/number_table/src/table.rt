@@ -3,7 +3,7 @@ ghost use Rattle.std.specs.Prelude.{◌≡◌, ◌^◌, ◌<◌, ◌+◌, ◌↔
 ghost use Rattle.std.specs.Prelude.{option_map, option_copied, Some, IsSome, IfSome, IfNone};
 ghost use Rattle.std.specs.Prelude.{IfOk, IsOk, IsTrue};
 ghost use Rattle.std.specs.Map.{lookup, values_of};
-ghost use Rattle.number_table.specs.Rows.{AreDistinct, HasNumberAt};
+ghost use Rattle.number_table.specs.Rows.{AreDistinct, FollowsSecond, HasNumberAt};
 
 use crate::notes::{Others, noted_place, place_among};
 use indexmap::IndexMap;
@@ -11,20 +11,24 @@ use number_hash::NumberHash;
 use std::alloc::{AllocError, Global};
 use std::marker::Model;
 
-/// Values under numbers, in order of entry. Numbers mostly follow one another without a gap, and
-/// then the place of each is known from the first; only a number that stands elsewhere has an entry
-/// in an index.
+/// Values under numbers, in order of entry. Numbers mostly follow one another without a gap, in a
+/// run from the first on or in a second one that comes later and stands apart. The place of each is
+/// then known from the number that its run begins with; only a number that stands elsewhere has an
+/// entry in an index.
 ///
 /// Only `push` fails where memory runs out. If a place can't be noted, the numbers that stand
 /// elsewhere are sought among all rows from then on.
 pub struct NumberTable<V> {
     pub(crate) rows: Vec<(u64, V)>,
-    // Where numbers stand that don't follow from the first. What it has of others is out of date, so
-    // a place counts only if the row there has the number.
+    // Where numbers stand that follow in neither run. What it has of others is out of date, so a
+    // place counts only if the row there has the number.
     pub(crate) others: Others,
     // The number that the first row would have if it was followed without a gap.
     pub(crate) first: u64,
-    // Whether each number is found by the two above.
+    // The number that the first row would have if the numbers of the second run, which came later
+    // and stand apart, went back to it without a gap. None until a number stands apart.
+    pub(crate) second: Option<u64>,
+    // Whether each number is found by the three above.
     pub(crate) is_whole: bool,
 }
 
@@ -35,6 +39,7 @@ impl<V: Drop> Drop for NumberTable<V> {
             rows: _rows,
             others: _others,
             first: _first,
+            second: _second,
             is_whole: _is_whole,
         } = self;
     }
@@ -48,7 +53,7 @@ impl<V> Model for NumberTable<V> {
     ghost view = { λ a. a.rows.items };
 
     ghost invariant = { λ a.
-        IsTable (numbers_of a.rows.items) a.first a.others.entries a.is_whole };
+        IsTable (numbers_of a.rows.items) a.first a.second a.others.entries a.is_whole };
 }
 
 // Where a number stands if all from the first followed one another, as they mostly do.
@@ -56,6 +61,16 @@ fn place_after(first: u64, number: u64) -> usize
     ensures { (place : ℕ) → number ≡ first + place → result ≡ place }
 {
     number.wrapping_sub(first) as usize
+}
+
+// Where a number stands if it is of the second run.
+fn place_in_second(second: Option<u64>, number: u64) -> usize
+    ensures { (place : ℕ) → FollowsSecond second number place → result ≡ place }
+{
+    match second {
+        Some(base) => place_after(base, number),
+        None => 0,
+    }
 }
 
 impl<V> NumberTable<V> {
@@ -67,6 +82,7 @@ impl<V> NumberTable<V> {
             rows: Vec::new(alloc),
             others: IndexMap::with_hasher(alloc, hash),
             first: 0,
+            second: None,
             is_whole: true,
         }
     }
@@ -80,6 +96,7 @@ impl<V> NumberTable<V> {
             rows: Vec::with_capacity(alloc, rows)?,
             others: IndexMap::with_hasher(alloc, hash),
             first: 0,
+            second: None,
             is_whole: true,
         })
     }
@@ -123,6 +140,7 @@ impl<V> NumberTable<V> {
     }
 
     // Whether the row at a place has a number.
+    #[inline(always)]
     fn is_at(&self, place: usize, number: u64) -> bool
         ensures { IsTrue result ↔ HasNumberAt self.now place number }
     {
@@ -149,8 +167,11 @@ impl<V> NumberTable<V> {
         self.find_place(number)
     }
 
-    // The place of the row with a number. It is looked for first where it mostly is, from either
-    // end. Who calls has mostly looked from the first, in place, and comes here where it isn't there.
+    // The place of the row with a number. It is looked for first where it mostly is, in either run
+    // and from the last. Who calls has mostly looked from the first, in place, and comes here where
+    // it isn't there.
+    #[cold]
+    #[inline(never)]
     fn find_place(&self, number: u64) -> Option<usize>
         ensures there { IfSome result (λ place. HasNumberAt self.now place number) }
         ensures none { IfNone result (lookup (nat_eq number) self.now ≡ None) }
@@ -158,6 +179,10 @@ impl<V> NumberTable<V> {
         let guess = place_after(self.first, number);
         if self.is_at(guess, number) {
             return Some(guess);
+        }
+        let second = place_in_second(self.second, number);
+        if self.is_at(second, number) {
+            return Some(second);
         }
         let guess = self.place_from_last(number);
         if self.is_at(guess, number) {
@@ -175,6 +200,7 @@ impl<V> NumberTable<V> {
     }
 
     /// The value under the number. What reads mostly finds it at the first guess.
+    #[inline(always)]
     pub fn get(&self, number: u64) -> Option<&V>
         ensures { option_copied result ≡ lookup (nat_eq number) self.now }
     {

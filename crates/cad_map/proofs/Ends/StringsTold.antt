@@ -29,6 +29,12 @@ module _ {X : Type 0} where
   pub lent-is : (o : Option (Bor X)) (r : Bor X) (xs : List X) (i : ℕ) → option_copied o ≡ slice_get xs i → o ≡ Some r → slice_get xs i ≡ Some r.now
   lent-is o r xs i is at = sym is ∙ ap option_copied at
 
+  -- an element stands at each place before the end
+  pub told-there : (xs : List X) (i : ℕ) → i < length xs → (x : X) × (slice_get xs i ≡ Some x)
+  told-there [] i low = absurd (omega arith)
+  told-there (x ∷ xs) zero low = (x, refl)
+  told-there (x ∷ xs) (suc i) low = told-there xs i (omega arith)
+
 -- ---- What is told of the elements of a list
 
 module _ {X Y : Type 0} (f : X → Y) where

@@ -1,6 +1,7 @@
 //! What comes with a parcel that comes by a division or an enclosure.
 ghost use Rattle.std.specs.Prelude.{◌≡◌, ◌≤◌, length, IfOk};
 ghost use Rattle.cad_laws.specs.Tried.{IsTried};
+ghost use Rattle.cad_edit.specs.Admitted.{HasCorners};
 ghost use Rattle.cad_surgery.specs.Divisions.{divided_by};
 ghost use Rattle.cad_surgery.specs.Enclosures.{enclosed_by, strings_by};
 ghost use Rattle.cad_surgery.specs.NewParcels.{Comes, IsComing, edit_as, edit_by};
@@ -13,6 +14,7 @@ use crate::edits::given::{Kind, NewParcel, closed, halves_of, parcel_of};
 use crate::edits::merging::Way;
 use crate::edits::moved::moved_halves;
 use cad_edit::rows_along;
+use cad_map::Corner;
 use cad_rings::Ring;
 use cad_rows::{Memory, ParcelRow, StringRow};
 use half_table::{Half, Tally};
@@ -68,15 +70,20 @@ pub(crate) fn coming_with(
 }
 
 // What comes with a division.
-fn coming_across<T: Tally>(draft: &Draft<T>, new: &NewParcel<'_>) -> Result<Coming, Memory>
-    requires { IsTried (map_of draft.now) (divided_by new.now) }
+fn coming_across<T: Tally>(
+    draft: &Draft<T>,
+    new: &NewParcel<'_>,
+    corners: Option<(Corner, Corner)>,
+) -> Result<Coming, Memory>
+    requires tried { IsTried (map_of draft.now) (divided_by new.now) }
+    requires corners { HasCorners (map_of draft.now) (divided_by new.now) corners }
     ensures edit { IfOk result (λ c. edit_by c.lead.way new.now ≡ divided_by new.now) }
     ensures comes { IfOk result (λ c. Comes c.lead.way (map_of draft.now) draft.now.table.rows new.now
         c.strings.items c.parcel c.lead.path.items c.lead.moved.items) }
 {
     let alloc = draft.rows.points.allocator();
     let strings = rows_along(alloc, new.points, new.strings, new.source)?;
-    let Crossing { start, end, moved } = crossing_of(draft, new)?;
+    let Crossing { start, end, moved } = crossing_of(draft, new, corners)?;
     coming_with(alloc, new, strings, Way::Along { start, end }, moved)
 }
 
@@ -107,19 +114,21 @@ pub(crate) fn coming_round<T: Tally>(
     coming_with(alloc, new, strings, Way::Round, moved)
 }
 
-/// What comes with a division or an enclosure.
+/// What comes with a division, between the corners that were found, or with an enclosure.
 pub(crate) fn coming_by<T: Tally>(
     draft: &Draft<T>,
     kind: Kind,
     new: &NewParcel<'_>,
+    corners: Option<(Corner, Corner)>,
 ) -> Result<Coming, Memory>
-    requires { IsTried (map_of draft.now) (edit_as kind new.now) }
+    requires tried { IsTried (map_of draft.now) (edit_as kind new.now) }
+    requires corners { HasCorners (map_of draft.now) (edit_as kind new.now) corners }
     ensures edit { IfOk result (λ c. edit_by c.lead.way new.now ≡ edit_as kind new.now) }
     ensures comes { IfOk result (λ c. Comes c.lead.way (map_of draft.now) draft.now.table.rows new.now
         c.strings.items c.parcel c.lead.path.items c.lead.moved.items) }
 {
     match kind {
-        Kind::Divide => coming_across(draft, new),
+        Kind::Divide => coming_across(draft, new, corners),
         Kind::Enclose => coming_round(draft, new),
     }
 }

@@ -2,23 +2,22 @@
 ghost use Rattle.std.specs.Prelude.{◌≡◌, ◌≢◌, ◌≤◌, not, length, filter, map as map_by, IsTrue, IfOk};
 ghost use Rattle.std.specs.List.{Contains};
 ghost use Rattle.cad_rings.specs.Cycle.{has_side, sides_of};
-ghost use Rattle.cad_map.specs.Chain.{start_of, next_of, end_of, last_but_one, leaving};
-ghost use Rattle.cad_map.specs.Chain.{chosen_corner as chosen_corner_of};
+ghost use Rattle.cad_map.specs.Chain.{leaving};
 ghost use Rattle.cad_map.specs.Map.{all_sides};
-ghost use Rattle.cad_map.specs.Valid.{IsValid};
 ghost use Rattle.half_table.specs.Rows.{origin_of, cycle};
 ghost use Rattle.half_paths.specs.Path.{AreIn};
 ghost use Rattle.cad_laws.specs.Faces.{left_of_chain};
 ghost use Rattle.cad_laws.specs.Local.{IsShown, side_by};
 ghost use Rattle.cad_laws.specs.Tried.{IsTried, AreChosen};
+ghost use Rattle.cad_edit.specs.Admitted.{HasCorners};
 ghost use Rattle.map_parts.specs.Labels.{IsAlong};
 ghost use Rattle.map_parts.specs.Parts.{map_of};
-ghost use Rattle.cad_surgery.specs.Divisions.{HasCrossing, divided_by};
+ghost use Rattle.cad_surgery.specs.Divisions.{AreMovedOver, HasCrossing, divided_by};
 
 use crate::draft::{Draft, side};
 use crate::edits::given::NewParcel;
 use crate::edits::moved::moved_halves;
-use cad_map::{Corner, chosen_corner};
+use cad_map::{Corner, face_place};
 use cad_rings::Ring;
 use cad_rows::{Face, Memory, PointNo};
 use half_table::{Half, Tally};
@@ -31,38 +30,6 @@ pub(crate) struct Crossing {
     pub(crate) start: Half,
     pub(crate) end: Half,
     pub(crate) moved: Vec<Half>,
-}
-
-// The corner of a face from which a chain leaves its first point.
-fn first_corner<T: Tally>(draft: &Draft<T>, face: &Face, chain: &[PointNo]) -> Option<Corner>
-    requires valid { IsValid (map_of draft.now) }
-    requires long { 2 ≤ length chain.now }
-    ensures { result ≡ chosen_corner_of (map_of draft.now) face.now (start_of chain.now)
-        (next_of chain.now) }
-{
-    chosen_corner(draft, face, chain[0], chain[1])
-}
-
-// The corner of a face in which a chain reaches its last point.
-fn last_corner<T: Tally>(draft: &Draft<T>, face: &Face, chain: &[PointNo]) -> Option<Corner>
-    requires valid { IsValid (map_of draft.now) }
-    requires long { 2 ≤ length chain.now }
-    ensures { result ≡ chosen_corner_of (map_of draft.now) face.now (end_of chain.now)
-        (last_but_one chain.now) }
-{
-    let last = chain.len() - 1;
-    chosen_corner(draft, face, chain[last], chain[last - 1])
-}
-
-// The two corners of the face between which the chain leads.
-fn corners_of<T: Tally>(draft: &Draft<T>, division: &NewParcel<'_>) -> (Corner, Corner)
-    requires { IsTried (map_of draft.now) (divided_by division.now) }
-    ensures { AreChosen (map_of draft.now) division.now.face division.now.points.now
-        result.0 result.1 }
-{
-    let first = first_corner(draft, &division.face, division.points).unwrap();
-    let last = last_corner(draft, &division.face, division.points).unwrap();
-    (first, last)
 }
 
 /// The half along a side of the map.
@@ -130,24 +97,54 @@ fn halves_off<T: Tally>(
     Ok(off)
 }
 
-/// Where the chain of a division crosses the face. It takes time by the strings at the chain's
-/// ends, by the sides of the face's rings, and for each hole of the face by those of the ring that
-/// is cut.
+// One half of each ring of the face that passes over to the left of the chain. A parcel of one
+// ring, which is cut, has no other, so that neither the ring nor its left part is laid out there.
+fn moved_over<T: Tally>(
+    alloc: Global,
+    draft: &Draft<T>,
+    division: &NewParcel<'_>,
+    first: &Corner,
+    last: &Corner,
+    start: &Half,
+) -> Result<Vec<Half>, Memory>
+    requires tried { IsTried (map_of draft.now) (divided_by division.now) }
+    requires chosen { AreChosen (map_of draft.now) division.now.face division.now.points.now
+        first.now last.now }
+    requires along { IsAlong (map_of draft.now) draft.now.table.rows (leaving first.now) start.now }
+    ensures { IfOk result (λ moved. AreMovedOver (map_of draft.now) draft.now.table.rows
+        division.now first.now last.now
+        (map_by (origin_of draft.now.table.rows) (cycle draft.now.table.rows start.now))
+        moved.items) }
+{
+    // One half of each ring.
+    let kept = draft.kept.at(face_place(division.face));
+    if matches!(division.face, Face::Parcel(_)) && kept.len() == 1 {
+        return Ok(Vec::new(alloc));
+    }
+    let cut = ring_of(alloc, draft, start)?;
+    let left = left_of(&cut, division.points, first, last)?;
+    let holes = moved_halves(alloc, draft, &division.face, &left)?;
+    halves_off(alloc, draft, holes.as_slice(), &cut)
+}
+
+/// Where the chain of a division crosses the face, between the corners that were found. It takes
+/// time by the strings at the chain's ends. Where the face isn't a parcel of one ring, it also
+/// takes time by the sides of the face's rings, and for each hole of the face by those of the ring
+/// that is cut.
 pub(crate) fn crossing_of<T: Tally>(
     draft: &Draft<T>,
     division: &NewParcel<'_>,
+    corners: Option<(Corner, Corner)>,
 ) -> Result<Crossing, Memory>
-    requires { IsTried (map_of draft.now) (divided_by division.now) }
+    requires tried { IsTried (map_of draft.now) (divided_by division.now) }
+    requires corners { HasCorners (map_of draft.now) (divided_by division.now) corners }
     ensures { IfOk result (λ c. HasCrossing (map_of draft.now) draft.now.table.rows division.now
         c.start c.end c.moved.items) }
 {
     let alloc = draft.rows.points.allocator();
-    let (first, last) = corners_of(draft, division);
+    let (first, last) = corners.unwrap();
     let start = half_leaving(draft, &first);
     let end = half_leaving(draft, &last);
-    let cut = ring_of(alloc, draft, &start)?;
-    let left = left_of(&cut, division.points, &first, &last)?;
-    let holes = moved_halves(alloc, draft, &division.face, &left)?;
-    let moved = halves_off(alloc, draft, holes.as_slice(), &cut)?;
+    let moved = moved_over(alloc, draft, division, &first, &last, &start)?;
     Ok(Crossing { start, end, moved })
 }

@@ -1,5 +1,6 @@
 //! A division or an enclosure on a map on half-edges: tried, and taken back where it breaks a rule.
 ghost use Rattle.std.specs.Prelude.{◌≡◌};
+ghost use Rattle.cad_edit.specs.Admitted.{HasCorners};
 ghost use Rattle.cad_surgery.specs.AddedParcels.{added_record};
 ghost use Rattle.cad_surgery.specs.NewParcels.{BringsParcel, Comes, edit_by, kept_by};
 ghost use Rattle.cad_surgery.specs.Trials.{IsReadyFor, IsTrialOf};
@@ -11,6 +12,7 @@ use crate::edits::coming::{Coming, Lead, coming_by, course_of};
 use crate::edits::counted::is_work_in_range;
 use crate::edits::given::{Given, Kept, NewParcel, given_by};
 use crate::edits::merging::Way;
+use cad_map::Corner;
 use cad_near::{FaceAreas, Touched};
 use cad_rows::{Edit, Refusal};
 use edit_records::SmallRecord;
@@ -72,23 +74,25 @@ fn add_recording<T: Tally>(
     Ok(record_of_parcel(new, kept, lead))
 }
 
-/// Divides a face, or encloses a part of it, and takes it back where it breaks a rule. The grid holds
-/// the strings and points of the map after it.
+/// Divides a face, between the corners that were found, or encloses a part of it, and takes it back
+/// where it breaks a rule. The grid holds the strings and points of the map after it.
 pub(crate) fn try_adding<T: Tally>(
     draft: &mut Draft<T>,
     edit: &Edit,
+    corners: Option<(Corner, Corner)>,
     areas: &FaceAreas,
     touched: &Touched,
 ) -> Result<SmallRecord, Refusal>
     requires parcel { BringsParcel edit.now }
     requires ready { IsReadyFor edit.now draft.old areas.now touched.now }
+    requires corners { HasCorners (map_of draft.old) edit.now corners }
     ensures { IsTrialOf edit.now draft.old draft.new result }
 {
     let Ok(given) = given_by(edit) else {
         return Err(Refusal::Memory);
     };
     let Given { kind, new, kept } = given;
-    let Ok(coming) = coming_by(draft, kind, &new) else {
+    let Ok(coming) = coming_by(draft, kind, &new, corners) else {
         return Err(Refusal::Memory);
     };
     add_recording(draft, &new, kept, coming, areas, touched)

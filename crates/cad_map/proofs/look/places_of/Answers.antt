@@ -1,4 +1,4 @@
-use Rattle.std.proofs.Common.{◌∙◌, ap, subst, ◌+◌, ℕ}
+use Rattle.std.proofs.Common.{ap, subst, ◌+◌, ℕ}
 use Rattle.cad_map.specs.Boundaries.{face_place, IsFirstFrom}
 use Rattle.cad_map.proofs.Lists.Runs.{AreBounds, bounds_rise}
 use Rattle.cad_map.proofs.Boundaries.FaceRuns.{place_of, rings-run, up-to}

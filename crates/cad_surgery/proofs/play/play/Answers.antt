@@ -7,6 +7,7 @@ use Rattle.cad_map.specs.Outcome.{out_of_memory}
 use Rattle.cad_map.specs.Valid.{IsValid}
 use Rattle.cad_map.specs.Touched.{IsTouched}
 use Rattle.cad_laws.specs.Tried.{IsTried}
+use Rattle.cad_edit.specs.Admitted.{HasCorners}
 use Rattle.cad_map.specs.Rings.{HasWholeRings}
 use Rattle.cad_map.proofs.CallerLemmas.{whole_valid}
 use Rattle.cad_near.specs.KeptAreas.{HoldsAreas}
@@ -45,8 +46,8 @@ pub turn_areas-requires-clause-held : goal.turn_areas-requires-clause-held
 turn_areas-requires-clause-held g c =
     subst (HoldsAreas c.args.areas.now) (sym (same-map c.args.draft.now c.enter.new.self c.enter.ensures.beside)) c.requires.areas
 
-pub try_edit-requires : goal.try_edit-requires
-try_edit-requires g c =
+pub try_edit-requires-clause-ready : goal.try_edit-requires-clause-ready
+try_edit-requires-clause-ready g c =
     let m = map_of c.args.draft.now in
     let e = c.args.edit.now in
     let lists = c.in-Ok.plan.exchange in
@@ -60,6 +61,10 @@ try_edit-requires g c =
       touched = subst (λ n. IsTouched n (after n e) (touched_of c.in-Ok.plan.touched)) same c.in-Ok.ensures.touched;
       proper = same-proper c.args.draft.now c.enter.new.self c.enter.ensures.beside c.requires.rest.proper;
     }
+
+pub try_edit-requires-clause-corners : goal.try_edit-requires-clause-corners
+try_edit-requires-clause-corners g c =
+    subst (λ n. HasCorners n c.args.edit.now c.args.corners) (sym (same-map c.args.draft.now c.enter.new.self c.enter.ensures.beside)) c.requires.corners
 
 pub withdraw-requires : goal.withdraw-requires
 withdraw-requires g c =

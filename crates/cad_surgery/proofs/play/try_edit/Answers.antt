@@ -9,24 +9,24 @@ use Rattle.cad_surgery.proofs.play.try_edit.Goals as goal
 pub at-position-requires : goal.at-position-requires
 at-position-requires g c =
     let e = c.in-Split in
-    on_map e.x e.y (split-on (map_of c.args.draft.now) e.string e.point e.x e.y e.first e.second (rw e.is at c.requires.tried))
+    on_map e.x e.y (split-on (map_of c.args.draft.now) e.string e.point e.x e.y e.first e.second (rw e.is at c.requires.ready.tried))
 
 pub try_split-requires : goal.try_split-requires
 try_split-requires g c =
     let e = c.in-Split in
     let m = map_of c.args.draft.now in
-    let same = same-split m c.args.edit.now e.string e.point e.x e.y e.first e.second c.at-position.result c.requires.tried e.is c.at-position.ensures in
-    subst (λ d. IsReadyFor d c.args.draft.now c.args.areas.now c.args.touched.now) (sym same) c.requires
+    let same = same-split m c.args.edit.now e.string e.point e.x e.y e.first e.second c.at-position.result c.requires.ready.tried e.is c.at-position.ensures in
+    subst (λ d. IsReadyFor d c.args.draft.now c.args.areas.now c.args.touched.now) (sym same) c.requires.ready
 
 pub returns-in-Split : goal.returns-in-Split
 returns-in-Split g c =
     let e = c.in-Split in
     let m = map_of c.args.draft.now in
-    let same = same-split m c.args.edit.now e.string e.point e.x e.y e.first e.second c.at-position.result c.requires.tried e.is c.at-position.ensures in
+    let same = same-split m c.args.edit.now e.string e.point e.x e.y e.first e.second c.at-position.result c.requires.ready.tried e.is c.at-position.ensures in
     subst (λ d. IsTrialOf d c.args.draft.now c.try_split.new.draft c.try_split.result) same c.try_split.ensures
 
 pub try_join-requires : goal.try_join-requires
-try_join-requires g c = rw c.in-Join.is at c.requires
+try_join-requires g c = rw c.in-Join.is at c.requires.ready
 
 pub returns-in-Join : goal.returns-in-Join
 returns-in-Join g c = rw c.in-Join.is c.try_join.ensures
@@ -35,7 +35,7 @@ pub try_adding-requires-clause-parcel : goal.try_adding-requires-clause-parcel
 try_adding-requires-clause-parcel g c = elim c.in-Divide.is [ inl it ↦ rw it.6 tt | inr it ↦ rw it.6 tt ]
 
 pub try_merge-requires : goal.try_merge-requires
-try_merge-requires g c = rw c.in-Merge.is at c.requires
+try_merge-requires g c = rw c.in-Merge.is at c.requires.ready
 
 pub returns-in-Merge : goal.returns-in-Merge
 returns-in-Merge g c = rw c.in-Merge.is c.try_merge.ensures
@@ -51,7 +51,7 @@ returns-in_default g c = record {
       becomes = c.try_rows.ensures.made;
       err = c.try_rows.ensures.err;
       grid = c.try_rows.ensures.beside.grid;
-      proper = c.try_rows.ensures.beside.proper c.requires.proper;
+      proper = c.try_rows.ensures.beside.proper c.requires.ready.proper;
       work = idle c.args.draft.now c.try_rows.new.draft _ c.try_rows.ensures.beside.table;
     };
     valid = c.try_rows.ensures.valid;

@@ -6,7 +6,7 @@ use Rattle.cad_surgery.proofs.CrossedRing.{can-be}
 use Rattle.cad_surgery.proofs.edits.coming.coming_across.Goals as goal
 
 pub rows_along-requires : goal.rows_along-requires
-rows_along-requires g c = (can-be (map_of c.args.draft.now) c.args.new.now c.requires).as_many
+rows_along-requires g c = (can-be (map_of c.args.draft.now) c.args.new.now c.requires.tried).as_many
 
 pub returns-clause-edit : goal.returns-clause-edit
 returns-clause-edit g c = IfOk-weaker c.coming_with.result _ _ (λ k it. same-edit it) c.coming_with.ensures

@@ -40,9 +40,9 @@ invariant_of-self g c =
     let from : c.args.from < length rows = rw c.self.view_is c.requires.from_within in
     let to : c.args.to < length rows = rw c.self.view_is c.requires.to_within in
     let note = rw (c.deref.ensures.value, c.min.ensures, c.max.ensures) at c.note_between-self-inside.ensures in
-    noted-between _ c.self.inside.first _ _ c.self.inside.others.entries c.note_between-self-inside.new.others.entries c.self.inside.is_whole c.note_between-self-inside.result
+    noted-between _ c.self.inside.first c.self.inside.second _ _ c.self.inside.others.entries c.note_between-self-inside.new.others.entries c.self.inside.is_whole c.note_between-self-inside.result
     note.whole note.found note.keeps (distinct-moved rows c.insert.new.self.items m c.self.invariant.distinct)
-    (λ w. rw is (stays-move rows c.args.from c.args.to from to c.self.inside.first c.self.inside.others.entries (c.self.invariant.found w)))
+    (λ w. rw is (stays-move rows c.args.from c.args.to from to c.self.inside.first c.self.inside.second c.self.inside.others.entries (c.self.invariant.found w)))
 
 pub returns : goal.returns
 returns g c =

@@ -1,6 +1,7 @@
 use Rattle.std.proofs.Common.{arith, ◌≡◌, ◌≢◌, ◌∙◌, sym, subst, refl, ◌+◌, length, nat_eq, None, IsTrue, ℕ}
 use Rattle.std.specs.Map.{lookup}
 use Rattle.number_table.specs.Rows.{AreDistinct, numbers_of, IsFoundAt}
+use Rattle.number_table.proofs.Found.{found-by_run}
 use Rattle.number_table.proofs.Changed.{noted, length-push, distinct-push, updates-push, stays-push}
 use Rattle.number_table.proofs.table.NumberTable.push.Goals.{In_ok-push, then-place-lt2, else-place-lt2}
 use Rattle.number_table.proofs.table.NumberTable.push.Goals as goal
@@ -32,28 +33,30 @@ invariant_of-self-2 g c =
     let number = c.args.number in
     let value = c.args.value in
     let joined = c.if-place-lt2.self-inside in
+    let after = c.second_after-self-inside.result in
     let ms = numbers_of c.push.new.self.items in
     let d = differ g (goal.at.invariant_of-self-2 g c).In_ok-push in
     let same : joined.rows ≡ c.push.new.self
     = elim c.if-place-lt2.branch [ then-place-lt2 w ↦ rw w.self-inside-is refl | else-place-lt2 w ↦ rw w.self-inside-is refl ] in
     let place : c.len-place.result ≡ length rows = omega (arith, c.len-place.ensures) in
     let long : length ms ≡ length rows + 1 = rw c.in_ok-push.ensures.items (length-push rows number value) in
-    let was : IsTrue joined.is_whole → (k : ℕ) → k ≢ c.len-place.result → IsFoundAt joined.first joined.others.entries ms k
+    let was : IsTrue joined.is_whole → (k : ℕ) → k ≢ c.len-place.result → IsFoundAt joined.first joined.second joined.others.entries ms k
     = elim c.if-place-lt2.branch [
       | then-place-lt2 w ↦
           let note = rw w.deref.ensures.value at w.note-self-inside.ensures in
           rw w.self-inside-is
           (λ whole k off l.
           let zero : 0 ≡ k = omega (arith, l, off, place, long, w.if-place-lt2.true) in
-          subst (λ (p : ℕ). IsFoundAt w.saturating_sub-self-inside.result w.note-self-inside.new.others.entries ms p) zero (note.found whole) l)
+          subst (λ (p : ℕ). IsFoundAt w.saturating_sub-self-inside.result c.self.inside.second w.note-self-inside.new.others.entries ms p) zero (note.found whole) l)
       | else-place-lt2 w ↦
           rw (w.self-inside-is, c.in_ok-push.ensures.items)
-          (λ whole k off. stays-push rows number value c.self.inside.first c.self.inside.others.entries (c.self.invariant.found whole) k (λ e. off (e ∙ sym place)))
+          (λ whole k off. stays-push rows number value c.self.inside.first c.self.inside.second c.self.inside.others.entries (c.self.invariant.found whole) k (λ e. off (e ∙ sym place)))
     ] in
     let note = rw (c.deref-2.ensures.value, same) at c.note-self-inside-2.ensures in
     rw same
-    (noted ms joined.first c.len-place.result joined.others.entries c.note-self-inside-2.new.others.entries joined.is_whole c.note-self-inside-2.result
-    (record { whole = note.whole; found = note.found; keeps = note.keeps }) d was)
+    (noted ms joined.first after c.len-place.result joined.others.entries c.note-self-inside-2.new.others.entries joined.is_whole c.note-self-inside-2.result
+    (record { whole = note.whole; found = note.found; keeps = note.keeps }) d
+    (λ whole k off. found-by_run ms joined.first joined.second after joined.others.entries k c.second_after-self-inside.ensures (was whole k off)))
 
 pub returns-clause-updates : goal.returns-clause-updates
 returns-clause-updates g c =

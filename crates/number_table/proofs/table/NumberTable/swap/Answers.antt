@@ -30,11 +30,11 @@ invariant_of-self g c =
     let m = moves g (goal.at.invariant_of-self g c).After-swap in
     let one = rw c.deref.ensures.value at c.note-is_whole.ensures in
     let two = rw c.deref-2.ensures.value at c.note-self-inside.ensures in
-    noted-twice _ c.self.inside.first c.args.a c.args.b c.self.inside.others.entries c.note-is_whole.new.others.entries c.note-self-inside.new.others.entries
+    noted-twice _ c.self.inside.first c.self.inside.second c.args.a c.args.b c.self.inside.others.entries c.note-is_whole.new.others.entries c.note-self-inside.new.others.entries
     c.self.inside.is_whole c.note-is_whole.result c.note-self-inside.result
     (record { whole = one.whole; found = one.found; keeps = one.keeps }) (record { whole = two.whole; found = two.found; keeps = two.keeps })
     (distinct-moved rows c.swap.new.self.items m c.self.invariant.distinct)
-    (λ w. rw c.swap.ensures.items (stays-swap rows c.args.a c.args.b a b c.self.inside.first c.self.inside.others.entries (c.self.invariant.found w)))
+    (λ w. rw c.swap.ensures.items (stays-swap rows c.args.a c.args.b a b c.self.inside.first c.self.inside.second c.self.inside.others.entries (c.self.invariant.found w)))
 
 pub returns-clause-same : goal.returns-clause-same
 returns-clause-same g c =

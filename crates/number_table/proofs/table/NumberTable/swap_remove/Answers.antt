@@ -22,11 +22,11 @@ invariant_of-self g c =
     let row = c.swap_remove-row.result in
     let within : c.args.place < length rows = rw c.self.view_is c.requires in
     let note = rw c.deref.ensures.value at c.note-self-inside.ensures in
-    noted _ c.self.inside.first c.args.place c.forget.new.others.entries c.note-self-inside.new.others.entries c.self.inside.is_whole c.note-self-inside.result
+    noted _ c.self.inside.first c.self.inside.second c.args.place c.forget.new.others.entries c.note-self-inside.new.others.entries c.self.inside.is_whole c.note-self-inside.result
     (record { whole = note.whole; found = note.found; keeps = note.keeps })
     (differ g (goal.at.invariant_of-self g c).After-swap_remove-row)
     (λ w. rw c.swap_remove-row.ensures.items
-    (stays-forgotten rows c.args.place row within c.swap_remove-row.ensures.value c.self.invariant.distinct c.self.inside.first c.self.inside.others.entries c.forget.new.others.entries
+    (stays-forgotten rows c.args.place row within c.swap_remove-row.ensures.value c.self.invariant.distinct c.self.inside.first c.self.inside.second c.self.inside.others.entries c.forget.new.others.entries
     (c.self.invariant.found w) c.forget.ensures))
 
 pub returns-clause-row : goal.returns-clause-row
