@@ -1,4 +1,4 @@
-use Rattle.std.proofs.Common.{◌≡◌, sym, ◌+◌}
+use Rattle.std.proofs.Common.{sym, ◌+◌}
 use Rattle.std.proofs.lemmas.Option.{same_Some}
 use Rattle.number_table.proofs.table.place_in_second.Goals as goal
 
