@@ -26,6 +26,8 @@ pub struct HalfMap<T: Tally> {
     pub(crate) draft: Draft<T>,
     /// The areas of its long rings, as far as there was memory to keep them.
     pub(crate) areas: FaceAreas,
+    /// What was read ahead last. Nothing is told by it.
+    pub(crate) ahead: u64,
 }
 
 impl<T: Tally> Model for HalfMap<T> {
@@ -62,7 +64,11 @@ impl<T: Tally> HalfMap<T> {
         let draft = Draft::of(alloc, map, tally)?;
         let mut areas = FaceAreas::none(alloc, hash);
         keep_areas(&draft, &mut areas, long.as_slice());
-        Ok(HalfMap { draft, areas })
+        Ok(HalfMap {
+            draft,
+            areas,
+            ahead: 0,
+        })
     }
 
     /// The doubly connected edge list of the map. It takes no memory.

@@ -10,6 +10,7 @@ ghost use Rattle.map_parts.specs.Parts.{map_of};
 ghost use Rattle.edit_records.specs.Record.{Belongs, weight};
 ghost use Rattle.cad_surgery.specs.Work.{TakesWork};
 
+use crate::ahead::read_ahead;
 use crate::half_map::HalfMap;
 use crate::play::{play, play_again, play_back};
 use cad_edit::{admit, are_in_range};
@@ -34,6 +35,7 @@ impl<T: Tally> HalfMap<T> {
         ensures at_once { IsSome (first_refusal_of (map_of self.old) edit.now)
             → self.new.table.work ≡ self.old.table.work }
     {
+        self.ahead = read_ahead(&self.draft, edit);
         let found = admit(&self.draft, edit)?;
         are_in_range(edit);
         play(&mut self.draft, &mut self.areas, edit, found.corners)

@@ -1,6 +1,7 @@
 //! Maps on half-edges, changed in place.
 #![tactic(auto)]
 
+mod ahead;
 mod areas;
 mod draft;
 mod draft_areas;
