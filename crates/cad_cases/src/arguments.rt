@@ -98,7 +98,7 @@ fn version(rt: HostRuntime) -> Result<(), Fail> {
         Ok(_) => panic!(rt; "arguments were read"),
         Err(error) => {
             let told = format!(in rt.alloc(); "{error}")?;
-            assert!(rt; told.as_str() == "cadedit 1.0.21\n");
+            assert!(rt; told.as_str() == "cadedit 1.0.22\n");
         }
     }
     Ok(())

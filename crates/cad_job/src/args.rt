@@ -9,7 +9,7 @@ use clap::{Arg, ArgAction, Command, Error};
 use std::alloc::{AllocError, Global};
 
 /// The program's version, as `--version` tells it. CHANGELOG.md says what each brought.
-const VERSION: &str = "1.0.21";
+const VERSION: &str = "1.0.22";
 
 const ABOUT: &str = "\
 Edits a cadastral map. A job is a plan and a script; each record of the script is done and answered, in order.";

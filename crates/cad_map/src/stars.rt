@@ -1,4 +1,5 @@
 //! The strings at each point of a map.
+ghost use Rattle.std.proofs.Common.{rules};
 ghost use Rattle.std.specs.Prelude.{◌≡◌, ◌++◌, ◌∷◌, [], ℕ, IfOk, OnOk, if◌then◌else◌};
 ghost use Rattle.cad_map.specs.Stars.{spoke_of, spokes_at, spokes_of, star};
 ghost use Rattle.cad_map.specs.Stars.{is_marked as is_marked_of, marked_star};
@@ -9,7 +10,7 @@ use crate::rings::position;
 use crate::store::MapView;
 use cad_rows::{Memory, PointNo, StringRow};
 use geo_exact::Pt;
-use key_lists::KeyLists;
+use key_lists::{KeyLists, Short};
 use number_hash::NumberHash;
 use std::alloc::Global;
 use std::marker::Model;
@@ -26,6 +27,22 @@ pub struct Spoke {
     pub position: Pt,
     /// The place of the string in order of entry.
     pub place: usize,
+}
+
+/// One that nobody sees: it fills places that hold nothing.
+impl Default for Spoke {
+    fn default() -> Self {
+        Spoke {
+            at: PointNo::default(),
+            far: PointNo::default(),
+            position: Pt { x: 0, y: 0 },
+            place: 0,
+        }
+    }
+}
+
+impl Short for Spoke {
+    ghost fits = { Prim.search rules };
 }
 
 /// The strings of each point of a map, found by the point. A string from a point to itself stands

@@ -52,30 +52,27 @@ fn star_at<T: Tally>(draft: &Draft<T>, point: PointNo) -> &[Spoke]
     star_of(&draft.stars, point)
 }
 
-// A part of the rows of a few halves, and of the points where they end.
+// A part of what is kept of a face: whether it is a parcel's, and if asked for, how many rings it has.
 #[inline(always)]
-fn read_star<T: Tally>(draft: &Draft<T>, star: &[Spoke]) -> u64
-    requires { (x : SpokeOf) → Contains star.now x → has draft.now.table.rows x.half ≡ true }
-{
-    let mut read = 0;
-    for place in 0..star.len().min(MOST_READ) {
-        let spoke = star[place];
-        let face = draft.table.face(draft.table.twin(spoke.half));
-        read ^= read_point(draft, spoke.far) ^ u64::from(matches!(face, Face::Outside));
+fn read_beside<T: Tally>(draft: &Draft<T>, face: Face, rings: bool) -> u64 {
+    if rings {
+        draft.ring_count(face) as u64
+    } else {
+        u64::from(matches!(face, Face::Outside))
     }
-    read
 }
 
-// A part of the lists of the rings of the faces to the right of a few halves.
+// A part of the rows of a few halves, of the points where they end, and of the faces to the right
+// of them; if asked for, of the lists of the rings of these faces.
 #[inline(always)]
-fn read_faces<T: Tally>(draft: &Draft<T>, star: &[Spoke]) -> u64
+fn read_star<T: Tally>(draft: &Draft<T>, star: &[Spoke], rings: bool) -> u64
     requires { (x : SpokeOf) → Contains star.now x → has draft.now.table.rows x.half ≡ true }
 {
     let mut read = 0;
     for place in 0..star.len().min(MOST_READ) {
         let spoke = star[place];
         let face = draft.table.face(draft.table.twin(spoke.half));
-        read ^= draft.ring_count(face) as u64;
+        read ^= read_point(draft, spoke.far) ^ read_beside(draft, face, rings);
     }
     read
 }
@@ -85,13 +82,13 @@ fn read_for_division<T: Tally>(draft: &Draft<T>, face: &Face, start: PointNo, en
     let named = read_face(draft, face) ^ read_point(draft, start) ^ read_point(draft, end);
     let at_start = star_at(draft, start);
     let at_end = star_at(draft, end);
-    named ^ read_star(draft, at_start) ^ read_star(draft, at_end)
+    named ^ read_star(draft, at_start, false) ^ read_star(draft, at_end, false)
 }
 
 // Parts of what a move looks at: the point, what begins there, and the faces round it.
 fn read_for_move<T: Tally>(draft: &Draft<T>, point: PointNo) -> u64 {
     let star = star_at(draft, point);
-    read_point(draft, point) ^ read_star(draft, star) ^ read_faces(draft, star)
+    read_point(draft, point) ^ read_star(draft, star, true)
 }
 
 /// Reads what a division or a move will look at first: the rows of what it names, and of up to

@@ -2,7 +2,8 @@
 #![tactic(auto)]
 
 mod items;
-mod lent;
 mod lists;
+mod short;
 
 pub use lists::KeyLists;
+pub use short::Short;

@@ -3,6 +3,7 @@ ghost use Rattle.std.specs.Prelude.{◌≡◌, ◌≤◌, ◌<◌, ◌++◌, ◌
 ghost use Rattle.key_lists.specs.Held.{items_at, list_at, capacity_at, HasRoomAt, KeepsOthers, IsSame, IsUnderAt};
 
 use crate::items::Items;
+use crate::short::Short;
 use number_hash::NumberHash;
 use number_table::NumberTable;
 use std::alloc::{AllocError, Global};
@@ -10,20 +11,20 @@ use std::marker::Model;
 
 /// Under each key a list of items; under a key that was never given room, the empty one.
 ///
-/// A first item stands in the key's row of the table. Only where more are to fit does a list take
+/// Up to six items stand in the key's row of the table. Only where more are to fit does a list take
 /// memory of its own, and then it keeps it.
 ///
 /// Only `reserve` and `push` take memory, and `reserve` changes no item. A key keeps its list with
 /// its room, also where no item is left, so a change that is taken back needs no memory either. Each
 /// call but those two takes a look into the table, and no time by the length of the list.
-pub struct KeyLists<X: Copy> {
+pub struct KeyLists<X: Short> {
     lists: NumberTable<Items<X>>,
     // No key above it was ever given room.
     greatest: u64,
 }
 
 // Written out, so that the end of one is a single call in a caller's proof.
-impl<X: Copy> Drop for KeyLists<X> {
+impl<X: Short> Drop for KeyLists<X> {
     fn drop(self) {
         let KeyLists {
             lists: _lists,
@@ -32,7 +33,7 @@ impl<X: Copy> Drop for KeyLists<X> {
     }
 }
 
-impl<X: Copy> Model for KeyLists<X> {
+impl<X: Short> Model for KeyLists<X> {
     ghost use Rattle.key_lists.specs.Held.{Held, NoneAbove};
 
     ghost Value = { Held X };
@@ -42,7 +43,7 @@ impl<X: Copy> Model for KeyLists<X> {
     ghost invariant = { λ a. NoneAbove a.greatest a.lists };
 }
 
-impl<X: Copy> KeyLists<X> {
+impl<X: Short> KeyLists<X> {
     /// No items, and no room under any key. The keys will be found by this hash.
     pub fn new(alloc: Global, hash: NumberHash) -> Self
         ensures { result ≡ [] }
@@ -104,9 +105,8 @@ impl<X: Copy> KeyLists<X> {
         ensures err { OnErr result (IsSame self.old self.new) }
         ensures err_room { OnErr result (capacity_at self.new key ≡ capacity_at self.old key) }
     {
-        let alloc = self.lists.allocator();
         let items = self.lists.value_at(place);
-        items.push(alloc, item)
+        items.push(item)
     }
 
     // Sees that so many items more fit under the key at a place.
@@ -119,9 +119,8 @@ impl<X: Copy> KeyLists<X> {
         ensures had_room { HasRoomAt self.old key more → IsOk result }
         ensures err { OnErr result (capacity_at self.new key ≡ capacity_at self.old key) }
     {
-        let alloc = self.lists.allocator();
         let items = self.lists.value_at(place);
-        items.reserve(alloc, more)
+        items.reserve(more)
     }
 
     /// Sees that so many items more fit under a key. It takes memory where they don't yet, and
@@ -143,7 +142,7 @@ impl<X: Copy> KeyLists<X> {
         }
         let alloc = self.lists.allocator();
         let mut list = Items::new(alloc);
-        list.reserve(alloc, more)?;
+        list.reserve(more)?;
         self.lists.push(key, list)?;
         self.greatest = self.greatest.max(key);
         Ok(())
@@ -164,7 +163,7 @@ impl<X: Copy> KeyLists<X> {
         }
         let alloc = self.lists.allocator();
         let mut list = Items::new(alloc);
-        list.push(alloc, item)?;
+        list.push(item)?;
         self.lists.push(key, list)?;
         self.greatest = self.greatest.max(key);
         Ok(())

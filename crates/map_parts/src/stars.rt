@@ -1,4 +1,5 @@
 //! The halves that begin at each point.
+ghost use Rattle.std.proofs.Common.{rules};
 ghost use Rattle.std.specs.Prelude.{◌≡◌, ◌++◌, ◌∷◌, [], ◌≢◌, ◌&&◌, OnOk, IfSome, ℕ, find, length, nat_lt, option_map, slice_get};
 ghost use Rattle.std.specs.List.{Contains};
 ghost use Rattle.half_table.specs.Half.{half_of, is_half, twin};
@@ -8,16 +9,21 @@ ghost use Rattle.map_parts.specs.Stars.{spoke, far_among_few, half_to, half_alon
 
 use cad_rows::{Memory, PointNo, StringNo, StringRow};
 use half_table::Half;
-use key_lists::KeyLists;
+use key_lists::{KeyLists, Short};
 
 // Among so few halves a side is sought without a look at its other end.
 const FEW: usize = 8;
 
-/// A half-edge that begins at a point, and the point where it ends.
-#[derive(Clone, Copy, Debug)]
+/// A half-edge that begins at a point, and the point where it ends. The default fills places that
+/// hold nothing.
+#[derive(Clone, Copy, Debug, Default)]
 pub struct Spoke {
     pub half: Half,
     pub far: PointNo,
+}
+
+impl Short for Spoke {
+    ghost fits = { Prim.search rules };
 }
 
 /// The halves that begin at a point.

@@ -21,3 +21,6 @@ returns g c =
 
 pub value_at-items-requires : goal.value_at-items-requires
 value_at-items-requires g c = lies-within _ c.args.key c.self.view_is c.requires
+
+pub push-requires : goal.push-requires
+push-requires g c = g.met.X.Short.fits

@@ -12,8 +12,7 @@ changed g c =
     written _ _ c.self.view_is (rw c.unwrap-found.ensures at c.place_of.ensures.there) c.value_at-items.ensures.value c.value_at-items.ensures.distinct
 
 pub swap_remove-requires : goal.swap_remove-requires
-swap_remove-requires g c =
-    rw (changed g (goal.at.swap_remove-requires g c).After-value_at-items c.value_at-items.result.now).was at c.requires
+swap_remove-requires g c = (g.met.X.Short.fits, rw (changed g (goal.at.swap_remove-requires g c).After-value_at-items c.value_at-items.result.now).was at c.requires)
 
 pub invariant_of-self : goal.invariant_of-self
 invariant_of-self g c =
