@@ -1,6 +1,7 @@
 //! The strings at each point of a map.
 ghost use Rattle.std.proofs.Common.{rules};
 ghost use Rattle.std.specs.Prelude.{◌≡◌, ◌++◌, ◌∷◌, [], ℕ, IfOk, OnOk, if◌then◌else◌};
+ghost use Rattle.cad_map.specs.Map.{origin};
 ghost use Rattle.cad_map.specs.Stars.{spoke_of, spokes_at, spokes_of, star};
 ghost use Rattle.cad_map.specs.Stars.{is_marked as is_marked_of, marked_star};
 ghost use Rattle.key_lists.specs.Held.{items_at};
@@ -31,6 +32,8 @@ pub struct Spoke {
 
 /// One that nobody sees: it fills places that hold nothing.
 impl Default for Spoke {
+    ghost is_default = { λ s. s ≡ record { at = 1; far = 1; position = origin; place = 0 } };
+
     fn default() -> Self {
         Spoke {
             at: PointNo::default(),
