@@ -9,16 +9,22 @@ use std::test::Fail;
 
 #[test]
 fn depth_and_file(rt: HostRuntime) -> Result<(), Fail> {
-    for (words, depth, file) in [
-        (["cadedit", "--depth", "5", "F"].as_slice(), 5, Some("F")),
-        (["cadedit"].as_slice(), 100, None),
-        (["cadedit", "F"].as_slice(), 100, Some("F")),
-        (["cadedit", "--depth", "1000"].as_slice(), 1000, None),
+    for (words, depth, stop, file) in [
+        (
+            ["cadedit", "--depth", "5", "F"].as_slice(),
+            5,
+            false,
+            Some("F"),
+        ),
+        (["cadedit"].as_slice(), 100, false, None),
+        (["cadedit", "--stop", "F"].as_slice(), 100, true, Some("F")),
+        (["cadedit", "--depth", "1000"].as_slice(), 1000, false, None),
     ] {
-        let Ok(args) = read_args(rt.alloc(), words) else {
+        let Ok(args) = read_args(rt.alloc(), "9.8.7", words) else {
             panic!(rt; "arguments were not read")
         };
         assert_eq!(rt; args.depth.get(), depth);
+        assert_eq!(rt; args.stop, stop);
         assert!(rt; args.file == file);
     }
     Ok(())
@@ -31,10 +37,11 @@ fn arguments_that_are_none(rt: HostRuntime) -> Result<(), Fail> {
         (["cadedit", "--depth", "1001"].as_slice(), 64),
         (["cadedit", "--depth", "x"].as_slice(), 64),
         (["cadedit", "F", "G"].as_slice(), 64),
+        (["cadedit", "--stop", "--stop"].as_slice(), 64),
         (["cadedit", "--help"].as_slice(), 0),
         (["cadedit", "--version"].as_slice(), 0),
     ] {
-        match read_args(rt.alloc(), words) {
+        match read_args(rt.alloc(), "9.8.7", words) {
             Ok(_) => panic!(rt; "arguments were read"),
             Err(error) => assert_eq!(rt; args_status(&error), status),
         }
@@ -44,7 +51,7 @@ fn arguments_that_are_none(rt: HostRuntime) -> Result<(), Fail> {
 
 /// What is told of these words, which are no arguments of a job.
 fn told<'a>(alloc: Global, words: &'a [&'a str]) -> Result<String, Fail> {
-    match read_args(alloc, words) {
+    match read_args(alloc, "9.8.7", words) {
         Ok(_) => Err(Fail::from("arguments were read")),
         Err(error) => Ok(format!(in alloc; "{error}")?),
     }
@@ -82,10 +89,11 @@ fn help(rt: HostRuntime) -> Result<(), Fail> {
     for part in [
         "Edits a cadastral map.",
         "\n\nUsage: cadedit [OPTIONS] [FILE]\n\nArguments:\n  [FILE]  The job; standard input where",
-        "\n\nOptions:\n      --depth <N>  How many edits can be undone, from 1 to 1000 [default: 100]\n",
+        "\n\nOptions:\n      --depth <N>  How many edits can be undone, from 1 to 1000 [default: 100]\n      \
+        --stop       End after the first record whose answer is",
         "  -h, --help       Print help",
         "  -V, --version    Print version\n",
-        "Status: 0 the job is done, 2 the plan is at fault, 3",
+        "Status: 0 the job is done, 1 `--stop` ended it, 2 the plan is at fault, 3",
     ] {
         assert!(rt; told.as_str().contains(part), "{part}");
     }
@@ -94,11 +102,11 @@ fn help(rt: HostRuntime) -> Result<(), Fail> {
 
 #[test]
 fn version(rt: HostRuntime) -> Result<(), Fail> {
-    match read_args(rt.alloc(), &["cadedit", "--version"]) {
+    match read_args(rt.alloc(), "9.8.7", &["cadedit", "--version"]) {
         Ok(_) => panic!(rt; "arguments were read"),
         Err(error) => {
             let told = format!(in rt.alloc(); "{error}")?;
-            assert!(rt; told.as_str() == "cadedit 1.0.22\n");
+            assert!(rt; told.as_str() == "cadedit 9.8.7\n");
         }
     }
     Ok(())
@@ -120,13 +128,13 @@ fn a_job_in_a_file(rt: HostRuntime) -> Result<(), Fail> {
     let depth = Depth::new(AMPLE_DEPTH).expect(&rt, "a depth");
     fs::write(&rt, "job_in_a_file.csv", job.as_slice())?;
     let mut sink = MemSink::new(rt.alloc(), u64::MAX);
-    let end = run_path(&rt, "job_in_a_file.csv", &mut sink, depth);
+    let end = run_path(&rt, "job_in_a_file.csv", &mut sink, depth, false);
     fs::remove_file(&rt, "job_in_a_file.csv")?;
-    assert_eq!(rt; end, Ok(()));
+    assert_eq!(rt; end, Ok(None));
     assert!(rt; sink.bytes() == answers.as_slice());
     let mut none = MemSink::new(rt.alloc(), u64::MAX);
     assert_eq!(rt;
-        run_path(&rt, "not_there.csv", &mut none, depth),
+        run_path(&rt, "not_there.csv", &mut none, depth, false),
         Err(JobFault::Read)
     );
     assert!(rt; none.bytes().is_empty());

@@ -40,4 +40,6 @@ mod reports;
 #[cfg(test)]
 mod stars;
 #[cfg(test)]
+mod stopping;
+#[cfg(test)]
 mod stores;

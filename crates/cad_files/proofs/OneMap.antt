@@ -1,4 +1,7 @@
 -- The map of a plan's rows is one, and so is what a plan comes to.
+-- Without a fault each side has one follower, so two rings with a side in common are one, two
+-- maps of the rows have the same rings, each with the face of its sides, and canonical order does
+-- the rest.
 use Rattle.std.proofs.Common.{◌≡◌, ◌≢◌, ℕ, zero, suc, ◌+◌, ◌≤◌, inl, inr, refl, sym, ap, subst, ◌∙◌, List, [], ◌∷◌, ◌++◌, length, map, Some, None, true, cond, true≢false, arith}
 use Rattle.std.proofs.lemmas.Bool.{eqb-true}
 use Rattle.std.proofs.lemmas.List.{take_all}

@@ -27,7 +27,7 @@ use Rattle.clap.proofs.CallerLemmas.{default_present, same_rules_by_id}
 use Rattle.clap.proofs.CallerReads.{signed_reads}
 use Rattle.clap.proofs.SimpleLemmas.{is_false, is_nil}
 use Rattle.clap.proofs.WalkLemmas.{both}
-use Rattle.cad_job.specs.Arguments.{cadedit, depth_rule, file_rule}
+use Rattle.cad_job.specs.Arguments.{cadedit, depth_rule, file_rule, stop_rule}
 
 -- the entry of an id that has one
 entry_of : (P : Entry → Type 0) (xs : List Entry) (id : Text) → HasIn xs id → All P xs
@@ -44,13 +44,15 @@ entry_of P (x ∷ xs) id has all = go (bytes_eq x.0.now id) refl has (λ h. entr
         let found = rest (i, omega arith, here) in
         (found.0, rw not found.1, found.2, found.3)
 
--- two rules are those of two arguments
-two_args : (xs : List Arg) (p q : Rule) → map rule_of xs ≡ p ∷ q ∷ []
-    → (a : Arg) × (b : Arg) × (xs ≡ a ∷ b ∷ []) × (rule_of a ≡ p) × (rule_of b ≡ q)
-two_args [] p q h = let bad : ◌≡◌ {A = ℕ} 0 2 = ap (λ (l : List Rule). length l) h in absurd (omega arith)
-two_args (a ∷ []) p q h = let bad : ◌≡◌ {A = ℕ} 1 2 = ap (λ (l : List Rule). length l) h in absurd (omega arith)
-two_args (a ∷ b ∷ []) p q h = (a, b, refl, ap (λ (l : List Rule). slice_index_or l 0 p) h, ap (λ (l : List Rule). slice_index_or l 1 p) h)
-two_args (a ∷ b ∷ c ∷ xs) p q h = let bad : suc (suc (suc (length (map rule_of xs)))) ≡ 2 = ap (λ (l : List Rule). length l) h in absurd (omega arith)
+-- three rules are those of three arguments
+three_args : (xs : List Arg) (p q r : Rule) → map rule_of xs ≡ p ∷ q ∷ r ∷ []
+    → (a : Arg) × (b : Arg) × (c : Arg) × (xs ≡ a ∷ b ∷ c ∷ []) × (rule_of a ≡ p) × (rule_of b ≡ q) × (rule_of c ≡ r)
+three_args [] p q r h = let bad : ◌≡◌ {A = ℕ} 0 3 = ap (λ (l : List Rule). length l) h in absurd (omega arith)
+three_args (a ∷ []) p q r h = let bad : ◌≡◌ {A = ℕ} 1 3 = ap (λ (l : List Rule). length l) h in absurd (omega arith)
+three_args (a ∷ b ∷ []) p q r h = let bad : ◌≡◌ {A = ℕ} 2 3 = ap (λ (l : List Rule). length l) h in absurd (omega arith)
+three_args (a ∷ b ∷ c ∷ []) p q r h =
+    (a, b, c, refl, ap (λ (l : List Rule). slice_index_or l 0 p) h, ap (λ (l : List Rule). slice_index_or l 1 p) h, ap (λ (l : List Rule). slice_index_or l 2 p) h)
+three_args (a ∷ b ∷ c ∷ d ∷ xs) p q r h = let bad : suc (suc (suc (suc (length (map rule_of xs))))) ≡ 3 = ap (λ (l : List Rule). length l) h in absurd (omega arith)
 
 -- what the rule of `--depth` says of its argument
 record IsDepthArg (a : Arg) : Type 0 where
@@ -131,25 +133,27 @@ entry_given c a e is no_groups key same (passed, filled, counts, grouped, read) 
     ] in
     (reading, first_given e.1.vals.items some accepted)
 
--- both arguments of two
-all_two : (P : Arg → Type 0) (a b : Arg) → P a → P b → All P (a ∷ b ∷ [])
-all_two P a b pa pb zero d low = pa
-all_two P a b pa pb (suc zero) d low = pb
-all_two P a b pa pb (suc (suc k)) d low = absurd (omega arith)
+-- all arguments of three
+all_three : (P : Arg → Type 0) (a b c : Arg) → P a → P b → P c → All P (a ∷ b ∷ c ∷ [])
+all_three P a b c pa pb pc zero d low = pa
+all_three P a b c pa pb pc (suc zero) d low = pb
+all_three P a b c pa pb pc (suc (suc zero)) d low = pc
+all_three P a b c pa pb pc (suc (suc (suc k))) d low = absurd (omega arith)
 
 -- an argument with a simple rule is of no group
 ungrouped : (a : Arg) (r : Rule) → rule_of a ≡ r → r.is_simple ≡ true → a.groups.items ≡ []
 ungrouped a r is simple = is_nil _ (both _ _ (both _ _ (both _ _ (ap (λ (r : Rule). r.is_simple) is ∙ simple)).1).1).0
 
--- only the first of the two arguments has its id
-only_first : (xs : List Arg) (a b : Arg) → xs ≡ a ∷ b ∷ [] → a.id.now ≡ codes "depth" → b.id.now ≡ codes "file"
+-- only the first of the three arguments has its id
+only_first : (xs : List Arg) (a b c : Arg) → xs ≡ a ∷ b ∷ c ∷ [] → a.id.now ≡ codes "depth" → b.id.now ≡ codes "stop" → c.id.now ≡ codes "file"
     → (j : ℕ) (e : Arg) → j < length xs → bytes_eq (slice_index_or xs j e).id.now (slice_index_or xs 0 a).id.now ≡ true → j ≡ 0
-only_first xs a b list depth file = rw list go
+only_first xs a b c list depth stop file = rw list go
   where
-    go : (j : ℕ) (e : Arg) → j < length (a ∷ b ∷ []) → bytes_eq (slice_index_or (a ∷ b ∷ []) j e).id.now a.id.now ≡ true → j ≡ 0
+    go : (j : ℕ) (e : Arg) → j < length (a ∷ b ∷ c ∷ []) → bytes_eq (slice_index_or (a ∷ b ∷ c ∷ []) j e).id.now a.id.now ≡ true → j ≡ 0
     go zero e low same = refl
-    go (suc zero) e low same = let bad : false ≡ true = rw (depth, file) at same in cc
-    go (suc (suc j)) e low same = absurd (omega arith)
+    go (suc zero) e low same = let bad : false ≡ true = rw (depth, stop) at same in cc
+    go (suc (suc zero)) e low same = let bad : false ≡ true = rw (depth, file) at same in cc
+    go (suc (suc (suc j))) e low same = absurd (omega arith)
 
 -- a plain command has no groups and no global argument
 settings : (c : Command) → has_plain_fields (out-Command c) ≡ true → (groups_of c ≡ []) × ((out-Command c).has_globals ≡ false)
@@ -161,11 +165,12 @@ settings c plain =
 depth_given : (old : Command) (m : ArgMatches) → app_of old ≡ cadedit → IsParsedFrom old m
     → (t : Text) × (one_text (found_of m) (codes "depth") ≡ Some (without_minus t)) × IsSignedIn (pos 1) (pos 1000) t
 depth_given old m is p =
-    let (a, b, list, is_depth, is_file) = two_args (args_of old) depth_rule file_rule (ap (λ (x : App). x.top.rules) is) in
+    let (a, b, f, list, is_depth, is_stop, is_file) = three_args (args_of old) depth_rule stop_rule file_rule (ap (λ (x : App). x.top.rules) is) in
     let arg = is_depth_arg a is_depth in
-    let file : b.id.now ≡ codes "file" = ap (λ (r : Rule). r.id) is_file in
+    let stop : b.id.now ≡ codes "stop" = ap (λ (r : Rule). r.id) is_stop in
+    let file : f.id.now ≡ codes "file" = ap (λ (r : Rule). r.id) is_file in
     let (groupless, globals) = settings old (ap (λ (x : App). x.top.is_plain) is) in
-    let none_named : NamesNoGroup old = rw list (all_two (λ a. a.groups.items ≡ []) a b (ungrouped a _ is_depth refl) (ungrouped b _ is_file refl)) in
+    let none_named : NamesNoGroup old = rw list (all_three (λ a. a.groups.items ≡ []) a b f (ungrouped a _ is_depth refl) (ungrouped b _ is_stop refl) (ungrouped f _ is_file refl)) in
     let no_groups : groups_of p.built ≡ [] = (p.from.same_groups none_named).1 ∙ groupless in
     let low : 0 < length (args_of old) = rw list (omega arith) in
     let first : slice_index_or (args_of old) 0 a ≡ a = ap (λ (l : List Arg). slice_index_or l 0 a) list in
@@ -174,7 +179,7 @@ depth_given old m is p =
     let has_depth : HasIn (found_of m).entries.items (codes "depth") = rw (first, arg.id) at has in
     let (e, found, key, passes) = entry_of (EntryPasses p.built) _ (codes "depth") has_depth (p.parsed (p.from.globals ∙ globals)).values in
     let given = entry_given p.built a e arg no_groups key
-    (λ i y within at same. rw first at (same_rules_by_id old m p 0 a low (only_first _ a b list arg.id file) own i y within at (rw (first, arg.id) same))) passes in
+    (λ i y within at same. rw first at (same_rules_by_id old m p 0 a low (only_first _ a b f list arg.id stop file) own i y within at (rw (first, arg.id) same))) passes in
     (given.1.0, rw (found, given.0) given.1.1, given.1.2)
 
 -- what `get_one` reads of it as a `u16`

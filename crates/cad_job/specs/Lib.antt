@@ -1,4 +1,5 @@
 pub mod Arguments
 pub mod Jobs
 pub mod Statuses
+pub mod Stopped
 pub mod Told

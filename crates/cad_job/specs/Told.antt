@@ -1,5 +1,5 @@
 -- What the program tells of a fault, and the status with which it ends.
-use Rattle.std.specs.Prelude.{ℕ, List, ◌++◌, codes}
+use Rattle.std.specs.Prelude.{ℕ, List, ◌++◌, codes, decimal}
 use Rattle.cad_files.specs.FaultTexts.{fault_text}
 use Rattle.cad_job.specs.declared.faults.JobFault.{JobFault}
 use Rattle.cad_job.specs.declared.faults.JobFault.TheVariants as fault
@@ -19,3 +19,7 @@ status_of fault.Read = 3
 status_of fault.Write = 3
 status_of fault.Long = 4
 status_of fault.Memory = 5
+
+-- the line on standard error where a script was to stop, and stopped after so many records
+abbrev pub stopped_text : ℕ → List ℕ
+stopped_text n = codes "cadedit: stopped after record " ++ (decimal n ++ codes " of the script")

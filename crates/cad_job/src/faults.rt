@@ -38,6 +38,26 @@ impl fmt::Display for JobFault {
     }
 }
 
+/// The status with which the program ends where a script stopped.
+pub const STOPPED_STATUS: u8 = 1;
+
+/// After how many of its records a script stopped.
+#[derive(Clone, Copy, Debug)]
+pub struct Stopped(pub u32);
+
+/// The line that the program writes on standard error.
+impl fmt::Display for Stopped {
+    ghost use Rattle.std.specs.Prelude.{Some};
+    ghost use Rattle.cad_job.specs.Told.{stopped_text};
+
+    ghost output = { λ stopped. Some (stopped_text stopped.0) };
+
+    fn fmt<W: fmt::Write>(&self, f: &mut fmt::Formatter<W>) -> fmt::Result {
+        let records = self.0;
+        write!(f, "cadedit: stopped after record {records} of the script")
+    }
+}
+
 /// The status with which the program ends after a fault.
 pub fn status(fault: &JobFault) -> u8
     ensures { result ≡ status_of fault.now }

@@ -9,7 +9,7 @@ mod program;
 
 pub use args::{Args, read_args};
 pub use command_line::args_status;
-pub use faults::{JobFault, status};
-pub use job::{run_job, run_script};
+pub use faults::{JobFault, STOPPED_STATUS, Stopped, status};
+pub use job::{run_job, run_job_until_refused, run_script};
 pub use path::run_path;
 pub use program::{run_words, tell};

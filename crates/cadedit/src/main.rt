@@ -1,4 +1,4 @@
-//! The editor of cadastral maps: `cadedit [--depth N] [FILE]` does the job in FILE, or on standard input, and writes
+//! The editor of cadastral maps: `cadedit [--depth N] [--stop] [FILE]` does the job in FILE, or on standard input, and writes
 //! an answer for each record of its script.
 #![tactic(auto)]
 
@@ -6,6 +6,9 @@ use cad_job::run_words;
 use command_line::run_named;
 use std::process::ExitCode;
 
+/// The program's version, as `--version` tells it. CHANGELOG.md says what each brought.
+const VERSION: &str = "1.1.0";
+
 fn main(rt: HostRuntime) -> ExitCode {
-    ExitCode::from(run_named(&rt, "cadedit", |words| run_words(&rt, words)))
+    ExitCode::from(run_named(&rt, "cadedit", |words| run_words(&rt, VERSION, words)))
 }

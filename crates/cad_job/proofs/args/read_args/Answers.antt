@@ -1,6 +1,6 @@
 use Rattle.std.proofs.Common.{ap, arith, codes, inl, inr, map, refl, subst, sym, true, List, [], ◌≡◌, ◌∙◌}
 use Rattle.std.specs.Prelude.{Err, IfErr, IsErrAnd, Ok, Result, Some}
-use Rattle.clap.specs.Words.{App, HasKind, Text, app_of, fault_of, first_of, found_of, is_simple, is_simple_and_free, kind_of, matches_of, one_of, rows_of}
+use Rattle.clap.specs.Words.{App, HasKind, Text, app_of, fault_of, first_of, found_of, is_simple, is_simple_and_free, kind_of, matches_of, one_of, one_text, rows_of}
 use Rattle.clap.specs.declared.error.Error.{Error}
 use Rattle.clap.specs.declared.error.kind.ErrorKind.TheVariants as kinds
 use Rattle.clap.proofs.WalkLemmas.{first_value-rows, one_text-rows}
@@ -69,10 +69,12 @@ returns-clause-ok c =
     let asked : Some n ≡ Some c.from.result = sym is ∙ (c.unwrap-edits.ensures ∙ ap (λ k. Some k) (sym c.from.ensures)) in
     let made : c.unwrap-depth.result ≡ c.from.result = rw c.unwrap-depth.ensures at c.new.ensures.value in
     let one : c.unwrap-depth.result ≡ n = cc in
+    let flag : one_text (found_of m) (codes "stop") ≡ one_of (codes "stop") (matches_of cadedit words) = one_text-rows (found_of m) (codes "stop") ∙ ap (one_of (codes "stop")) rows in
     record {
       low = omega arith;
       high = omega arith;
       no_fault = ap (λ (a : App). fault_of a words) (sym app_is) ∙ no_fault;
+      flagged = (λ given. c.get_flag-stop.ensures.value (flag ∙ given), λ given. c.get_flag-stop.ensures.other (flag ∙ given), λ given. c.get_flag-stop.ensures.none (flag ∙ given));
       given = (t, ap (one_of (codes "depth")) (sym rows) ∙ sym (one_text-rows (found_of m) (codes "depth")) ∙ text, one ∙ value);
       named = c.get_str-file.ensures ∙ first_value-rows (found_of m) (codes "file") ∙ ap (first_of (codes "file")) rows;
     }
