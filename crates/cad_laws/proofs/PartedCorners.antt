@@ -1,4 +1,7 @@
 -- A ring parted by a chain, among other rings: which corners stand, which come and which go.
+-- It speaks of a ring in four pieces and of a chain alone. A map comes in by two permutations of
+-- its corners, and by the fact that none of its old corners has a side of the chain. So one proof
+-- serves a division (pieces from the cut) and a merger (pieces from the join).
 use Rattle.std.proofs.Common.{◌≡◌, ℕ, ◌⊎◌, inl, inr, refl, sym, ap, subst, ◌∙◌, List, [], ◌∷◌, ◌++◌, map, reverse, arith}
 use Rattle.std.proofs.lemmas.List.Elements.{Contains-append_cases, Contains-append_left, Contains-append_right}
 use Rattle.std.proofs.lemmas.List.Sorted.{IsPermutation-sym, IsPermutation-reverse, Contains-permutation}

@@ -1,4 +1,7 @@
 -- Where no side comes near a way, a ring has both of its ends inside, or neither.
+-- A side that is counted at one end of the way and not at the other has just one end right of the
+-- way, at a height between. In a closed list each such end is one of two sides, so the parity
+-- stays.
 use Rattle.std.proofs.Common.{◌≡◌, ℕ, ℤ, ◌<ℤ◌, refl, sym, ◌∙◌, List, [], ◌∷◌, Bool, true, false, not, true≢false, arith}
 use Rattle.std.proofs.lemmas.Int.{ints}
 use Rattle.std.specs.Prelude.{◌&&◌, int_le, int_lt}

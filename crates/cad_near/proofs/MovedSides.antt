@@ -1,4 +1,6 @@
 -- Past a position that a point went past with all its sides, or with none, the same rings go.
+-- The sides of a ring that change are those at the point, and they are two for each time that the
+-- ring passes it. Where all of them change how they are counted, or none, the parity stays.
 use Rattle.std.proofs.Common.{◌≡◌, ◌≢◌, ℕ, ℤ, ◌≤ℤ◌, ◌<ℤ◌, ◌⊎◌, inl, inr, refl, sym, ap, ◌∙◌, List, [], ◌∷◌, Bool, true, false, not, cond, true≢false, arith, ◌==◌}
 use Rattle.std.proofs.Math.Bool.{or_comm}
 use Rattle.std.proofs.lemmas.Bool.{eqb-true, and_from, or_right}

@@ -1,5 +1,8 @@
 -- Where all that a moved point's strings swept is clear of other points, and no other string comes near its way, points
 -- lie apart and strings meet only at ends.
+-- A segment that comes into such a triangle and has no end there leaves it through another side
+-- (`PastTriangle`). Of the other two sides one is the way, which nothing comes near, and one is
+-- the string as it lay, which no string met in the valid map.
 use Rattle.std.proofs.Common.{◌≡◌, ◌≢◌, ℕ, ℤ, pos, ◌⊎◌, inl, inr, refl, sym, ap, subst, ◌∙◌, List, [], ◌∷◌, map, Option, Some, Bool, true, false, true≢false, ◌==◌, eqb-true, arith}
 use Rattle.std.proofs.lemmas.Bool.{and_parts, and_from, eqb-false}
 use Rattle.std.proofs.lemmas.Int.{ints}

@@ -1,4 +1,6 @@
 -- Where one point moved, the corners at a neighbour that sees it between the same two strings are empty as they were.
+-- It rests on the order of directions round a point (`RoundPoint`): of three it is the same from
+-- whichever it is begun, and four follow one another as two times three do.
 use Rattle.std.proofs.Common.{◌≡◌, ◌≢◌, ℕ, refl, sym, ap, subst, ◌∙◌, ◌⊎◌, inl, inr, Bool, true, false, true≢false, not, length, ◌≤◌, Option, Some, eq-eqb, eqb-true}
 use Rattle.std.proofs.lemmas.Bool.{cases_eq, not-true}
 use Rattle.std.specs.Prelude.{IsTrue, IfSome, ◌↔◌, ◌==◌, ◌||◌}

@@ -1,4 +1,6 @@
 -- A ring with a point between two others, and without it: what the one tells of the other.
+-- A split is a move of the new point from where the string's first end lies: there one of its two
+-- sides has no length, and the other is the string that was split. A join is that read backwards.
 use Rattle.std.proofs.Common.{◌≡◌, ℕ, ◌≤◌, inl, inr, refl, sym, ap, subst, ◌∙◌, List, [], ◌∷◌, ◌++◌, length, map, flat_map, Bool, true, false, pos, arith, ◌⊎◌, ◌==◌, eqb-true}
 use Rattle.std.proofs.lemmas.Int.{ints}
 use Rattle.std.specs.Prelude.{IsPermutation}

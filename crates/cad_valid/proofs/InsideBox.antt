@@ -1,4 +1,6 @@
 -- What is inside a ring is inside the box of the ring, in whatever order its sides are counted.
+-- A closed list changes the side of a horizontal line an even number of times. So of the sides
+-- that lie right of a position an even number is counted there (`not_inside`).
 use Rattle.std.proofs.Common.{◌≡◌, ℕ, ◌+◌, ◌%◌, refl, sym, ap, ◌∙◌, List, [], ◌∷◌, Bool, true, false, not, cond, nat_eq, true≢false, ℤ, pos, ◌+ℤ◌, ◌-ℤ◌, ◌*ℤ◌, neg_ℤ, ◌≤ℤ◌, ◌<ℤ◌, arith}
 use Rattle.std.specs.Prelude.{IsPermutation, ◌&&◌, ◌||◌, int_le, int_lt, count_by}
 use Rattle.std.specs.List.{AllByRecursion}

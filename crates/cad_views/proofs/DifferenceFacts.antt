@@ -1,10 +1,9 @@
--- The names that two maps tell differently: each stands once, and none is left out.
+-- The names of which two maps don't have the same: each stands once, and none is left out.
 use Rattle.std.proofs.Common.{◌≡◌, ◌≢◌, ◌⊎◌, inl, inr, refl, sym, ap, subst, ◌∙◌, ℕ, List, [], ◌∷◌, ◌++◌, map, filter, Some, None, Option, Bool, true, false, not, true≢false, arith}
-use Rattle.std.specs.Prelude.{◌==◌, is_some, option_map}
+use Rattle.std.specs.Prelude.{◌==◌, ◌&&◌, is_some, option_map}
 use Rattle.std.specs.List.{AllByRecursion, Contains, list_any}
 use Rattle.std.proofs.lemmas.Bool.{eqb-true, not-true}
 use Rattle.std.proofs.lemmas.Bool.Decides.{Decides-eqb}
-use Rattle.std.proofs.lemmas.Slice.Eq.{bytes_eq-Decides}
 use Rattle.std.proofs.lemmas.List.Elements.{Contains-append_left, Contains-append_right, Contains-append_cases}
 use Rattle.cad_rows.specs.declared.names.Name.{Name}
 use Rattle.cad_rows.specs.declared.names.Name.TheVariants as name
@@ -13,7 +12,7 @@ use Rattle.cad_map.specs.Table.{row_with}
 use Rattle.cad_map.specs.Valid.{EachPair, HasSoundRows}
 use Rattle.cad_map.proofs.CallerLemmas.{All-from_Contains, All-Contains, Contains-cases, Contains-filter, Contains-map, filter-Contains, find-Contains, list_any-Contains, map-Contains, EachPair-join}
 use Rattle.cad_map.proofs.Lists.TakenOut.{EachPair-filter}
-use Rattle.cad_views.specs.Differences.{told_of, names_in, names_of_kind, is_told_alike, is_listed, differing, HasOneEach}
+use Rattle.cad_views.specs.Differences.{words_of, names_in, names_of_kind, are_words_alike, is_alike, is_land_alike, is_listed, differing, HasOneEach}
 use Rattle.cad_views.specs.declared.names.Kind.TheVariants.{Sources, Points, Parcels, Retired, Strings}
 
 -- ---- Rows and their names
@@ -147,16 +146,16 @@ module _ (m : Map) where
   abbrev T : List Name
   T = names_of_kind m Strings
 
-  parcel-named : (n : ℕ) → is_some (told_of m (name.Parcel n)) ≡ true → Contains (C ++ (D ++ T)) (name.Parcel n)
+  parcel-named : (n : ℕ) → is_some (words_of m (name.Parcel n)) ≡ true → Contains (C ++ (D ++ T)) (name.Parcel n)
   parcel-named n some = by (is_some (parcel_of m n)) refl (is_retired m n) refl some
     where
-      by : (b : Bool) → is_some (parcel_of m n) ≡ b → (r : Bool) → is_retired m n ≡ r → is_some (told_of m (name.Parcel n)) ≡ true → Contains (C ++ (D ++ T)) (name.Parcel n)
+      by : (b : Bool) → is_some (parcel_of m n) ≡ b → (r : Bool) → is_retired m n ≡ r → is_some (words_of m (name.Parcel n)) ≡ true → Contains (C ++ (D ++ T)) (name.Parcel n)
       by true is r gone some = Contains-append_left C (D ++ T) (name.Parcel n) (name-there (λ r. r.number) (λ k. name.Parcel k) m.parcels n is)
       by false is true gone some = Contains-append_right C (D ++ T) (name.Parcel n) (Contains-append_left D T (name.Parcel n) (name-there (λ (k : ℕ). k) (λ k. name.Parcel k) m.retired n (among-some n m.retired gone)))
       by false is false gone some = absurd (true≢false (sym (rw (is, gone) at some)))
 
   -- what is told of is named
-  pub told-named : (n : Name) → is_some (told_of m n) ≡ true → Contains (names_in m) n
+  pub told-named : (n : Name) → is_some (words_of m n) ≡ true → Contains (names_in m) n
   told-named (name.Source n) some =
       Contains-append_left S (P ++ (C ++ (D ++ T))) (name.Source n) (name-there (λ r. r.number) (λ k. name.Source k) m.sources n (is_some-from_map _ (source_of m n) some))
   told-named (name.Point n) some =
@@ -191,13 +190,13 @@ module _ (m : Map) where
   never : {R : Type 0} (f : R → Name) (rows : List R) (x : Name) → ((r : R) → f r ≡ x → ⊥) → Contains (map f rows) x → ⊥
   never f rows x clash h = let there = map-Contains f rows x h in clash there.0 there.2
 
-  parcel-told-some : (n : ℕ) → is_some (parcel_of m n) ≡ true → is_some (told_of m (name.Parcel n)) ≡ true
+  parcel-told-some : (n : ℕ) → is_some (parcel_of m n) ≡ true → is_some (words_of m (name.Parcel n)) ≡ true
   parcel-told-some n is = rw is (is_some-map _ (parcel_of m n) is)
 
-  retired-told-some : (n : ℕ) → Contains D (name.Parcel n) → is_some (told_of m (name.Parcel n)) ≡ true
+  retired-told-some : (n : ℕ) → Contains D (name.Parcel n) → is_some (words_of m (name.Parcel n)) ≡ true
   retired-told-some n h = by (is_some (parcel_of m n)) refl
     where
-      by : (b : Bool) → is_some (parcel_of m n) ≡ b → is_some (told_of m (name.Parcel n)) ≡ true
+      by : (b : Bool) → is_some (parcel_of m n) ≡ b → is_some (words_of m (name.Parcel n)) ≡ true
       by true is = parcel-told-some n is
       by false is =
           let there = map-Contains (λ k. name.Parcel k) m.retired (name.Parcel n) h in
@@ -206,7 +205,7 @@ module _ (m : Map) where
           rw (is, gone) refl
 
   -- what is named is told of
-  pub named-told : (n : Name) → Contains (names_in m) n → is_some (told_of m n) ≡ true
+  pub named-told : (n : Name) → Contains (names_in m) n → is_some (words_of m n) ≡ true
   named-told (name.Source n) h = elim (named (name.Source n) h) [
     | source here ↦ is_some-map _ (source_of m n) (number-there (λ r. r.number) (λ k. name.Source k) (λ a b same. cc) m.sources n here)
     | point here ↦ absurd (never (λ r. name.Point r.number) m.points (name.Source n) (λ r same. cc) here)
@@ -238,20 +237,19 @@ module _ (m : Map) where
 
 -- ---- What differs
 
-alike-refl : (t : Option (List ℕ)) → is_told_alike t t ≡ true
-alike-refl None = refl
-alike-refl (Some t) = (bytes_eq-Decides t t).1 refl
+some-else : (s t : Option (List ℕ)) → is_some s ≡ false → are_words_alike s t ≡ false → is_some t ≡ true
+some-else None None none unlike = absurd (true≢false unlike)
+some-else None (Some t) none unlike = refl
+some-else (Some s) t none unlike = absurd (true≢false none)
 
-alike-same : (s t : Option (List ℕ)) → is_told_alike s t ≡ true → s ≡ t
-alike-same None None alike = refl
-alike-same None (Some t) alike = absurd (true≢false (sym alike))
-alike-same (Some s) None alike = absurd (true≢false (sym alike))
-alike-same (Some s) (Some t) alike = ap Some ((bytes_eq-Decides s t).0 alike)
+none-alike : (s t : Option (List ℕ)) → is_some s ≡ false → is_some t ≡ true → are_words_alike s t ≡ false
+none-alike None None none some = absurd (true≢false (sym some))
+none-alike None (Some t) none some = refl
+none-alike (Some s) t none some = absurd (true≢false none)
 
-some-else : (s t : Option (List ℕ)) → is_some s ≡ false → s ≢ t → is_some t ≡ true
-some-else None None none differ = absurd (differ refl)
-some-else None (Some t) none differ = refl
-some-else (Some s) t none differ = absurd (true≢false none)
+and-left : (s t : Bool) → (s && t) ≡ false → t ≡ true → s ≡ false
+and-left true t both here = absurd (true≢false (sym here ∙ both))
+and-left false t both here = refl
 
 module _ (old new : Map) where
   abbrev W : List Name
@@ -260,34 +258,44 @@ module _ (old new : Map) where
   abbrev A : List Name
   A = filter (is_listed old new true) (names_in new)
 
+  -- the land of a name that the old map hasn't is alike
+  land-none : (n : Name) → is_some (words_of old n) ≡ false → is_land_alike old new n ≡ true
+  land-none (name.Source n) none = refl
+  land-none (name.Point n) none = refl
+  land-none (name.String n) none = refl
+  land-none (name.Parcel n) none = by (has_parcel old n) refl
+    where
+      by : (b : Bool) → has_parcel old n ≡ b → is_land_alike old new (name.Parcel n) ≡ true
+      by true is = absurd (true≢false (sym (parcel-told-some old n is) ∙ none))
+      by false is = rw is refl
+
+  came-unlike : (n : Name) → is_some (words_of old n) ≡ false → is_some (words_of new n) ≡ true → is_alike old new n ≡ false
+  came-unlike n none some = ap (λ (b : Bool). b && is_land_alike old new n) (none-alike (words_of old n) (words_of new n) none some)
+
   came-apart : (x : Name) → Contains W x → Contains A x → ⊥
   came-apart x h k =
       let o = filter-Contains (is_listed old new false) (names_in old) x h in
       let n = filter-Contains (is_listed old new true) (names_in new) x k in
-      true≢false (sym (named-told old x o.0) ∙ not-true (is_some (told_of old x)) n.1)
+      true≢false (sym (named-told old x o.0) ∙ not-true (is_some (words_of old x)) n.1)
 
-  differing-all : (n : Name) → told_of old n ≢ told_of new n → Contains (W ++ A) n
-  differing-all n differ = by (is_some (told_of old n)) refl
+  differing-all : (n : Name) → is_alike old new n ≡ false → Contains (W ++ A) n
+  differing-all n unlike = by (is_some (words_of old n)) refl
     where
-      unlike : (t : Bool) → is_told_alike (told_of old n) (told_of new n) ≡ t → is_listed old new false n ≡ true
-      unlike true is = absurd (differ (alike-same (told_of old n) (told_of new n) is))
-      unlike false is = ap not is
+      by : (b : Bool) → is_some (words_of old n) ≡ b → Contains (W ++ A) n
+      by true is = Contains-append_left W A n (Contains-filter (is_listed old new false) (names_in old) n (told-named old n is) (ap not unlike))
+      by false is =
+          let words = and-left (are_words_alike (words_of old n) (words_of new n)) (is_land_alike old new n) unlike (land-none n is) in
+          Contains-append_right W A n (Contains-filter (is_listed old new true) (names_in new) n (told-named new n (some-else (words_of old n) (words_of new n) is words)) (ap not is))
 
-      by : (b : Bool) → is_some (told_of old n) ≡ b → Contains (W ++ A) n
-      by true is = Contains-append_left W A n (Contains-filter (is_listed old new false) (names_in old) n (told-named old n is) (unlike (is_told_alike (told_of old n) (told_of new n)) refl))
-      by false is = Contains-append_right W A n (Contains-filter (is_listed old new true) (names_in new) n (told-named new n (some-else (told_of old n) (told_of new n) is differ)) (ap not is))
-
-  differing-only : (n : Name) → Contains (W ++ A) n → told_of old n ≢ told_of new n
-  differing-only n h same = elim (Contains-append_cases W A n h) [
-    | inl here ↦
-        let o = filter-Contains (is_listed old new false) (names_in old) n here in
-        true≢false (sym (alike-refl (told_of old n)) ∙ ap (is_told_alike (told_of old n)) same ∙ not-true (is_told_alike (told_of old n) (told_of new n)) o.1)
+  differing-only : (n : Name) → Contains (W ++ A) n → is_alike old new n ≡ false
+  differing-only n h = elim (Contains-append_cases W A n h) [
+    | inl here ↦ not-true (is_alike old new n) (filter-Contains (is_listed old new false) (names_in old) n here).1
     | inr there ↦
         let c = filter-Contains (is_listed old new true) (names_in new) n there in
-        true≢false (sym (named-told new n c.0) ∙ sym (ap is_some same) ∙ not-true (is_some (told_of old n)) c.1)
+        came-unlike n (not-true (is_some (words_of old n)) c.1) (named-told new n c.0)
   ]
 
-  -- each name that is told differently stands once among those that are listed, and no other does
+  -- each name of which the maps don't have the same stands once among those that are listed, and no other does
   pub one-each : HasSoundRows old → HasSoundRows new → HasOneEach old new (differing old new)
   one-each sound_old sound_new = record {
     once = distinct-together W A (EachPair-filter (λ x y. x ≢ y) (is_listed old new false) (names_in old) (names-once old sound_old))

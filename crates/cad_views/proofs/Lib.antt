@@ -4,4 +4,5 @@ pub mod MetresFacts
 pub mod JoinFacts
 pub mod ToldFacts
 pub mod DifferenceFacts
+pub mod LandFacts
 pub mod ReadingFacts

@@ -1,6 +1,7 @@
 pub mod Cut
 pub mod Differences
 pub mod Drawings
+pub mod Land
 pub mod Metres
 pub mod Reading
 pub mod Tables

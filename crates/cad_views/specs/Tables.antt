@@ -1,9 +1,10 @@
 -- The records of a map's rows with their geometry.
-use Rattle.std.specs.Prelude.{◌≡◌, List, [], ◌∷◌, map, codes, decimal, ⊤}
+use Rattle.std.specs.Prelude.{◌≡◌, List, [], ◌∷◌, ℕ, map, codes, decimal, ⊤}
 use Rattle.std.specs.Fmt.{signed_decimal}
 use Rattle.geo_exact.specs.Measure.{doubled_area}
 use Rattle.cad_rows.specs.declared.rows.PointRow.{PointRow}
 use Rattle.cad_rows.specs.declared.rows.ParcelRow.{ParcelRow}
+use Rattle.cad_rows.specs.declared.rows.SourceRow.{SourceRow}
 use Rattle.cad_rows.specs.declared.names.Face.TheVariants as face
 use Rattle.cad_rings.specs.Cycle.{Ring}
 use Rattle.cad_map.specs.Map.{Map, rings_of, sum_of_face}
@@ -20,6 +21,17 @@ point_header = codes "number" ∷ codes "sources" ∷ codes "WKT" ∷ []
 -- a point
 abbrev pub point_row : PointRow → Record
 point_row r = decimal r.number ∷ list_field r.sources ∷ point_geometry r.position ∷ []
+
+abbrev pub source_header : Record
+source_header = codes "number" ∷ codes "text" ∷ []
+
+-- a source
+abbrev pub source_row : SourceRow → Record
+source_row r = decimal r.number ∷ r.text ∷ []
+
+-- the number of a parcel that a merger ended
+abbrev pub retired_row : ℕ → Record
+retired_row n = decimal n ∷ []
 
 abbrev pub string_header : Record
 string_header =
@@ -60,6 +72,12 @@ AreTold R _ _ = ⊥
 
 abbrev pub point_table : Map → List Record
 point_table m = point_header ∷ map point_row m.points
+
+abbrev pub source_table : Map → List Record
+source_table m = source_header ∷ map source_row m.sources
+
+abbrev pub retired_table : Map → List Record
+retired_table m = (codes "number" ∷ []) ∷ map retired_row m.retired
 
 abbrev pub string_table : Map → List Record
 string_table m = string_header ∷ map (string_row m) (map (plan_string_of m) m.strings)

@@ -1,18 +1,19 @@
 //! The points of a drawing.
 
 use crate::edges::Edge;
-use crate::marks::{Mark, mark_of};
+use crate::marks::{Mark, point_mark};
 use crate::page::{Page, Spot};
 use crate::pen::{push, push_circle, push_number, push_spot};
 use cad_map::{MapView, PlainMap};
-use cad_rows::{Memory, Name, PointNo};
+use cad_rows::{Memory, PointNo};
 use std::alloc::Global;
 
 /// A point on the page.
 #[derive(Clone, Copy)]
 pub(crate) struct Dot {
-    spot: Spot,
-    mark: Mark,
+    pub(crate) number: PointNo,
+    pub(crate) spot: Spot,
+    pub(crate) mark: Mark,
     /// No string ends there.
     free: bool,
 }
@@ -25,16 +26,16 @@ impl Dot {
 
     // Whether no line leads there.
     fn is_alone(&self) -> bool {
-        self.mark == Mark::Went || self.free
+        self.mark == Mark::Removed || self.free
     }
 
     // Its class.
     fn class(&self) -> &'static str {
         match self.mark {
             Mark::Same => "f",
-            Mark::Came => "o came",
+            Mark::Added => "o added",
             Mark::Changed => "o changed",
-            Mark::Went => "o went",
+            Mark::Removed => "o removed",
         }
     }
 }
@@ -61,7 +62,8 @@ fn ends_of(alloc: Global, map: &PlainMap) -> Result<Vec<PointNo>, Memory> {
     Ok(ends)
 }
 
-/// The points of a map. `Err` where memory runs out.
+/// The points of a map, and behind them those that an older map has, if there is one, and this one hasn't. `Err` where memory
+/// runs out.
 pub(crate) fn dots_of(
     alloc: Global,
     page: &Page,
@@ -73,17 +75,21 @@ pub(crate) fn dots_of(
     for place in 0..map.counts().points {
         if let Some(row) = map.point_at(place) {
             dots.push(Dot {
+                number: row.number,
                 spot: page.spot(row.position),
-                mark: mark_of(since, map, &Name::Point(row.number)),
+                mark: point_mark(since, map, row.number),
                 free: ends.as_slice().binary_search(&row.number).is_err(),
             })?;
         }
     }
+    if let Some(old) = since {
+        push_gone_dots(&mut dots, page, old, map)?;
+    }
     Ok(dots)
 }
 
-/// Puts the points last that an older map has and this one hasn't. `Err` where memory runs out.
-pub(crate) fn push_gone_dots(
+// Puts the points last that an older map has and this one hasn't.
+fn push_gone_dots(
     dots: &mut Vec<Dot>,
     page: &Page,
     old: &PlainMap,
@@ -93,14 +99,26 @@ pub(crate) fn push_gone_dots(
         if let Some(row) = old.point_at(place) {
             if map.point(row.number).is_none() {
                 dots.push(Dot {
+                    number: row.number,
                     spot: page.spot(row.position),
-                    mark: Mark::Went,
+                    mark: Mark::Removed,
                     free: false,
                 })?;
             }
         }
     }
     Ok(())
+}
+
+/// How many of these points are free.
+pub(crate) fn free_count(dots: &[Dot]) -> usize {
+    let mut count: usize = 0;
+    for dot in dots {
+        if dot.free {
+            count = count.saturating_add(1);
+        }
+    }
+    count
 }
 
 // Draws the plain points, as one path of a stroke so wide.

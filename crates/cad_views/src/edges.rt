@@ -22,6 +22,11 @@ pub(crate) struct Area {
     pub(crate) bottom: i64,
 }
 
+/// The middle between two places.
+pub(crate) fn middle_of(left: i64, right: i64) -> i64 {
+    (left / 2).saturating_add(right / 2)
+}
+
 impl Edge {
     /// The line between two points of a map.
     pub(crate) fn between(page: &Page, map: &PlainMap, from: PointNo, to: PointNo) -> Edge {
@@ -29,6 +34,24 @@ impl Edge {
             from: page.spot(position(map, from)),
             to: page.spot(position(map, to)),
         }
+    }
+
+    /// Its middle.
+    pub(crate) fn middle(&self) -> Spot {
+        Spot::at(
+            middle_of(self.from.x, self.to.x),
+            middle_of(self.from.y, self.to.y),
+        )
+    }
+
+    /// How long it is.
+    pub(crate) fn length(&self) -> i64 {
+        let across = self.from.x.abs_diff(self.to.x);
+        let down = self.from.y.abs_diff(self.to.y);
+        let squared = across
+            .saturating_mul(across)
+            .saturating_add(down.saturating_mul(down));
+        i64::try_from(squared.isqrt()).unwrap_or(i64::MAX)
     }
 
     /// How high it reaches.

@@ -21,17 +21,17 @@ const STEP: i64 = 420;
 fn push_north(text: &mut Vec<u8>) -> Result<(), Memory> {
     let mut letter = "<path class=\"bar\" d=\"M";
     for spot in [
-        Spot::at(40_300, 1_100),
-        Spot::at(40_600, 2_300),
-        Spot::at(40_300, 2_000),
-        Spot::at(40_000, 2_300),
+        Spot::at(40_300, 2_900),
+        Spot::at(40_600, 4_100),
+        Spot::at(40_300, 3_800),
+        Spot::at(40_000, 4_100),
     ] {
         push(text, letter)?;
         push_spot(text, &spot)?;
         letter = "L";
     }
     push(text, "Z\"/>\n")?;
-    push_centred(text, &Spot::at(40_300, 2_800), 420, "N")
+    push_centred(text, &Spot::at(40_300, 4_600), SIZE, "N")
 }
 
 /// A text of some words and a number. `Err` where memory runs out.
@@ -113,7 +113,12 @@ fn push_counted(
 }
 
 // The signs of a map's rows.
-fn push_row_key(alloc: Global, text: &mut Vec<u8>, map: &PlainMap) -> Result<(), Memory> {
+fn push_row_key(
+    alloc: Global,
+    text: &mut Vec<u8>,
+    map: &PlainMap,
+    free: usize,
+) -> Result<(), Memory> {
     let counts = map.counts();
     let corner = Spot::at(COLUMN, height(0).saturating_sub(130));
     push_box(text, "p", &corner, 1_100, 260)?;
@@ -123,36 +128,41 @@ fn push_row_key(alloc: Global, text: &mut Vec<u8>, map: &PlainMap) -> Result<(),
     push_circle(text, "o", &sign(2), 55)?;
     push_counted(alloc, text, 2, "point (", counts.points)?;
     push_circle(text, "f", &sign(3), 110)?;
-    push_entry(text, 3, "free point")?;
+    push_counted(alloc, text, 3, "free point (", free)?;
     let below = Spot::at(COLUMN, height(4).saturating_add(90));
     push_text(text, "k", &below, 240, "number, label, area in m²")
 }
 
-// The signs of what has come, gone or changed.
+// The signs of what was added, changed or removed: a parcel, a string and a point.
 fn push_mark_key(text: &mut Vec<u8>) -> Result<(), Memory> {
-    for (line, class, words) in [
-        (6, "s came", "came since"),
-        (7, "s changed", "changed since"),
-        (8, "s went", "went since"),
+    for (line, parcel, string, point, words) in [
+        (6, "p added", "s added", "o added", "added"),
+        (7, "p changed", "s changed", "o changed", "changed"),
+        (8, "", "s removed", "o removed", "removed, or where it was"),
     ] {
-        push_line_sign(text, line, class)?;
+        if !parcel.is_empty() {
+            let corner = Spot::at(COLUMN, height(line).saturating_sub(170));
+            push_box(text, parcel, &corner, 1_100, 340)?;
+        }
+        push_line_sign(text, line, string)?;
+        push_circle(text, point, &sign(line), 100)?;
         push_entry(text, line, words)?;
     }
     Ok(())
 }
 
-/// Draws the column of a map: north, scale, key and counts. `Err` where memory runs out.
+/// Draws the column of a map with so many free points: north, scale, key and counts. `Err` where memory runs out.
 pub(crate) fn push_key(
     alloc: Global,
     text: &mut Vec<u8>,
     page: &Page,
     map: &PlainMap,
+    free: usize,
     has_marks: bool,
 ) -> Result<(), Memory> {
     push_north(text)?;
-    push_text(text, "k", &Spot::at(COLUMN, 1_500), 480, "Cadastral map")?;
     push_scale(alloc, text, page.scale)?;
-    push_row_key(alloc, text, map)?;
+    push_row_key(alloc, text, map, free)?;
     if has_marks {
         push_mark_key(text)?;
     }

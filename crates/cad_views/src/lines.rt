@@ -1,7 +1,7 @@
 //! The strings of a drawing.
 
 use crate::edges::{Edge, push_lines};
-use crate::marks::{Mark, string_mark};
+use crate::marks::{Mark, has_left, string_mark};
 use crate::page::Page;
 use cad_map::{MapView, PlainMap};
 use cad_rows::Memory;
@@ -45,9 +45,9 @@ fn lines_with(
 fn class_of(mark: Mark) -> &'static str {
     match mark {
         Mark::Same => "s",
-        Mark::Came => "s came",
+        Mark::Added => "s added",
         Mark::Changed => "s changed",
-        Mark::Went => "s went",
+        Mark::Removed => "s removed",
     }
 }
 
@@ -60,24 +60,28 @@ pub(crate) fn push_strings(
     since: Option<&PlainMap>,
 ) -> Result<(), Memory> {
     let marks = string_marks(alloc, map, since)?;
-    for mark in [Mark::Same, Mark::Changed, Mark::Came] {
+    for mark in [Mark::Same, Mark::Changed, Mark::Added] {
         let lines = lines_with(alloc, page, map, marks.as_slice(), mark)?;
         push_lines(text, class_of(mark), lines.as_slice())?;
     }
     Ok(())
 }
 
-/// The strings that an older map has and this one hasn't, where they were. `Err` where memory runs out.
+/// The strings of an older map, if there is one, that this one hasn't, or has elsewhere, where they were. `Err` where memory
+/// runs out.
 pub(crate) fn gone_lines(
     alloc: Global,
     page: &Page,
-    old: &PlainMap,
     map: &PlainMap,
+    since: Option<&PlainMap>,
 ) -> Result<Vec<Edge>, Memory> {
     let mut lines = Vec::new(alloc);
+    let Some(old) = since else {
+        return Ok(lines);
+    };
     for place in 0..old.counts().strings {
         if let Some(row) = old.string_at(place) {
-            if map.string(row.number).is_none() {
+            if has_left(old, map, row) {
                 lines.push(Edge::between(page, old, row.from, row.to))?;
             }
         }
@@ -85,7 +89,7 @@ pub(crate) fn gone_lines(
     Ok(lines)
 }
 
-/// Draws strings that went. `Err` where memory runs out.
+/// Draws strings that aren't where they were. `Err` where memory runs out.
 pub(crate) fn push_gone_lines(text: &mut Vec<u8>, lines: &[Edge]) -> Result<(), Memory> {
-    push_lines(text, class_of(Mark::Went), lines)
+    push_lines(text, class_of(Mark::Removed), lines)
 }

@@ -1,16 +1,20 @@
 //! What became of a row since an older map.
+ghost use Rattle.std.specs.Option.{ForSome};
+ghost use Rattle.cad_map.specs.Valid.{IsValid};
 
+use crate::differences::is_alike;
 use crate::telling::is_told;
-use cad_map::{Boundary, MapView, PlainMap, position};
-use cad_rows::{Face, Name, ParcelNo, PointNo, SourceNo, StringNo, StringRow};
+use cad_map::{MapView, PlainMap, position};
+use cad_rows::{Memory, Name, PointNo, SourceNo, StringNo, StringRow};
+use std::alloc::Global;
 
 /// What became of a row.
 #[derive(Clone, Copy, Debug, PartialEq, Eq)]
 pub(crate) enum Mark {
     Same,
-    Came,
+    Added,
     Changed,
-    Went,
+    Removed,
 }
 
 impl Mark {
@@ -18,9 +22,9 @@ impl Mark {
     pub(crate) fn word(&self) -> &'static str {
         match self {
             Mark::Same => "same",
-            Mark::Came => "came",
+            Mark::Added => "added",
             Mark::Changed => "changed",
-            Mark::Went => "went",
+            Mark::Removed => "removed",
         }
     }
 }
@@ -55,69 +59,78 @@ fn is_string_alike(old: &PlainMap, map: &PlainMap, no: StringNo) -> bool {
     }
 }
 
-// Whether two maps have the same rings of a parcel.
-fn are_rings_alike(was: &[Boundary], is: &[Boundary]) -> bool {
-    if was.len() != is.len() {
-        return false;
-    }
-    for place in 0..was.len() {
-        if was[place].ring.points() != is[place].ring.points() {
-            return false;
-        }
-    }
-    true
-}
-
-// Whether two maps have the same of a parcel. One of a row and a number that a merger retired aren't.
-fn is_parcel_alike(old: &PlainMap, map: &PlainMap, no: ParcelNo) -> bool {
-    match (old.parcel(no), map.parcel(no)) {
-        (Some(was), Some(is)) => {
-            was.label.as_str() == is.label.as_str()
-                && was.sources.as_slice() == is.sources.as_slice()
-                && are_rings_alike(old.run_of(Face::Parcel(no)), map.run_of(Face::Parcel(no)))
-        }
-        (None, None) => true,
-        _ => false,
-    }
-}
-
-// Whether two maps that both tell something of a name tell the same.
-fn is_alike(old: &PlainMap, map: &PlainMap, name: &Name) -> bool {
+// Whether two valid maps have the same of a name, as `is_alike` finds it, but without words of what isn't a parcel.
+fn is_same(alloc: Global, old: &PlainMap, map: &PlainMap, name: &Name) -> Result<bool, Memory>
+    requires old_valid { IsValid old.now }
+    requires valid { IsValid map.now }
+{
     match name {
-        Name::Source(no) => is_source_alike(old, map, *no),
-        Name::Point(no) => is_point_alike(old, map, *no),
-        Name::String(no) => is_string_alike(old, map, *no),
-        Name::Parcel(no) => is_parcel_alike(old, map, *no),
+        Name::Source(no) => Ok(is_source_alike(old, map, *no)),
+        Name::Point(no) => Ok(is_point_alike(old, map, *no)),
+        Name::String(no) => Ok(is_string_alike(old, map, *no)),
+        Name::Parcel(_) => is_alike(alloc, old, map, name),
     }
 }
 
-/// What became of a name since an older map, if there is one.
-pub(crate) fn mark_of(since: Option<&PlainMap>, map: &PlainMap, name: &Name) -> Mark {
-    let Some(old) = since else {
-        return Mark::Same;
-    };
+// What became of a name that two maps have the same of, or don't.
+fn became(old: &PlainMap, map: &PlainMap, name: &Name, alike: bool) -> Mark {
     match (is_told(old, name), is_told(map, name)) {
-        (false, true) => Mark::Came,
-        (true, false) => Mark::Went,
-        (true, true) if !is_alike(old, map, name) => Mark::Changed,
+        (false, true) => Mark::Added,
+        (true, false) => Mark::Removed,
+        (true, true) if !alike => Mark::Changed,
         _ => Mark::Same,
     }
 }
 
-// Whether a point is at another position than before.
-fn has_moved(old: &PlainMap, map: &PlainMap, point: PointNo) -> bool {
-    position(old, point) != position(map, point)
+/// What became of a name since an older map, if there is one; both maps are valid. `Err` where memory runs out.
+pub(crate) fn mark_of(
+    alloc: Global,
+    since: Option<&PlainMap>,
+    map: &PlainMap,
+    name: &Name,
+) -> Result<Mark, Memory>
+    requires old_valid { ForSome since (λ old. IsValid old.now) }
+    requires valid { IsValid map.now }
+{
+    let Some(old) = since else {
+        return Ok(Mark::Same);
+    };
+    let alike = is_same(alloc, old, map, name)?;
+    Ok(became(old, map, name, alike))
 }
 
-/// What became of a string, which changes with its ends.
-pub(crate) fn string_mark(since: Option<&PlainMap>, map: &PlainMap, row: &StringRow) -> Mark {
-    let mark = mark_of(since, map, &Name::String(row.number));
+/// What became of a point since an older map, if there is one.
+pub(crate) fn point_mark(since: Option<&PlainMap>, map: &PlainMap, no: PointNo) -> Mark {
     match since {
-        Some(old)
-            if mark == Mark::Same
-                && (has_moved(old, map, row.from) || has_moved(old, map, row.to)) => {
-            Mark::Changed
-        }
-        _ => mark,
+        Some(old) => became(old, map, &Name::Point(no), is_point_alike(old, map, no)),
+        None => Mark::Same,
+    }
+}
+
+// Whether a string that both maps have runs elsewhere than before.
+fn runs_elsewhere(old: &PlainMap, map: &PlainMap, was: &StringRow, is: &StringRow) -> bool {
+    position(old, was.from) != position(map, is.from)
+        || position(old, was.to) != position(map, is.to)
+}
+
+/// What became of a string since an older map, if there is one: it changes with its ends.
+pub(crate) fn string_mark(since: Option<&PlainMap>, map: &PlainMap, row: &StringRow) -> Mark {
+    let Some(old) = since else {
+        return Mark::Same;
+    };
+    let Some(was) = old.string(row.number) else {
+        return Mark::Added;
+    };
+    if runs_elsewhere(old, map, was, row) || !is_string_alike(old, map, row.number) {
+        return Mark::Changed;
+    }
+    Mark::Same
+}
+
+/// Whether a string of an older map isn't where it was.
+pub(crate) fn has_left(old: &PlainMap, map: &PlainMap, was: &StringRow) -> bool {
+    match map.string(was.number) {
+        Some(is) => runs_elsewhere(old, map, was, is),
+        None => true,
     }
 }

@@ -95,7 +95,7 @@ impl Extent {
 
 // The least of the usual scales between a power of ten and the next that isn't below this one.
 fn scale_among(tens: i64, least: i64) -> Option<i64> {
-    for step in [10, 12, 15, 20, 25, 30, 40, 50, 60, 75] {
+    for step in [10, 20, 25, 50] {
         let scale = times_over(step, tens, 10);
         if scale >= least {
             return Some(scale);

@@ -1,6 +1,6 @@
 //! Room for words inside a parcel.
 
-use crate::edges::{Area, Edge, at_height};
+use crate::edges::{Area, Edge, at_height, middle_of};
 use crate::page::times_over;
 use cad_rows::Memory;
 use std::alloc::Global;
@@ -65,11 +65,6 @@ fn is_inside(crossings: &[i64], place: i64) -> bool {
     match crossings.binary_search(&place) {
         Ok(before) | Err(before) => before % 2 == 1,
     }
-}
-
-// The middle between two places.
-fn middle_of(left: i64, right: i64) -> i64 {
-    (left / 2).saturating_add(right / 2)
 }
 
 // The widest part of a row that is inside and free of these parts, which come in order of their left ends.

@@ -29,8 +29,9 @@ pub(crate) fn push_coordinates(
     Ok(())
 }
 
-// Appends what stands before the part at a place of several: nothing before the first, else a comma.
-fn push_separator(text: &mut Vec<u8>, place: usize) -> Result<(), Memory>
+/// Appends what stands before the part at a place of several: nothing before the first, else a comma. `Err` where memory
+/// runs out.
+pub(crate) fn push_separator(text: &mut Vec<u8>, place: usize) -> Result<(), Memory>
     ensures { OnOk result (text.new.items ≡ text.old.items ++ separator place) }
 {
     if place == 0 {

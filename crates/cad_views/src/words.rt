@@ -1,5 +1,4 @@
-//! The words in a parcel: its number, its label and its area, as many as there is room for.
-ghost use Rattle.std.specs.Prelude.{◌≤◌, ◌^◌, unsigned_abs};
+//! The words in parcels: number, label and area, as many as there is room for, in letters of one size.
 ghost use Rattle.cad_map.specs.Valid.{IsValid};
 
 use crate::areas::face_area;
@@ -8,19 +7,42 @@ use crate::page::{Page, Spot, whole};
 use crate::pen::push_centred;
 use crate::room::{Around, Room, first_room};
 use cad_files::{area_text_of, hundredths};
-use cad_map::PlainMap;
+use cad_map::{MapView, PlainMap};
 use cad_rows::{Face, Memory, ParcelRow};
 use std::alloc::Global;
 use unicode_width::UnicodeWidthStr;
 
-// How many of the words are told, and the least and the greatest size of their letters.
-const CHOICES: [(usize, i64, i64); 3] = [(3, 140, 380), (2, 120, 300), (1, LEAST, 260)];
+/// The sizes that letters may have on a sheet, the greatest first.
+const SIZES: [i64; 7] = [380, 300, 240, 190, 150, 120, LEAST];
 
 /// The least size of letters.
 const LEAST: i64 = 100;
 
-// How wide so many columns of letters of a size are, with half a column to spare, and how high so many lines.
-fn width_of(columns: i64, size: i64) -> i64 {
+/// Of how many parcels the size of a sheet's letters is found, at most.
+const SAMPLE: usize = 1_000;
+
+/// Where the words of parcels are written, and what they stay clear of.
+#[derive(Clone, Copy)]
+pub(crate) struct Lettering<'a> {
+    pub(crate) page: &'a Page,
+    pub(crate) map: &'a PlainMap,
+    /// Lines beside the parcels' sides.
+    pub(crate) others: &'a [Edge],
+    /// How far words stay away from lines.
+    pub(crate) gap: i64,
+}
+
+// A parcel with its words: number, label and area.
+#[derive(Drop)]
+struct Place {
+    sides: Vec<Edge>,
+    others: Vec<Edge>,
+    area: Area,
+    words: Vec<String>,
+}
+
+/// How wide so many columns of letters of a size are, with half a column to spare.
+pub(crate) fn width_of(columns: i64, size: i64) -> i64 {
     columns
         .saturating_mul(2)
         .saturating_add(1)
@@ -29,6 +51,7 @@ fn width_of(columns: i64, size: i64) -> i64 {
         / 200
 }
 
+// How high so many lines of letters of a size are.
 fn height_of(lines: i64, size: i64) -> i64 {
     lines.saturating_mul(size).saturating_mul(13) / 10
 }
@@ -42,53 +65,13 @@ fn columns_of(words: &[String]) -> i64 {
     most
 }
 
-// The greatest size between two at which there is room for words, with the room.
-fn best_room(
-    alloc: Global,
-    around: &Around<'_>,
-    area: &Area,
-    words: &[String],
-    least: i64,
-    greatest: i64,
-) -> Result<Option<(i64, Room)>, Memory> {
-    let columns = columns_of(words);
-    let mut size = greatest;
-    for _ in 0..16 {
-        let width = width_of(columns, size);
-        let height = height_of(whole(words.len()), size);
-        if area.has_room(width, height) {
-            let room = first_room(alloc, around, area, height, width)?;
-            if let Some(room) = room {
-                return Ok(Some((size, room)));
-            }
-        }
-        size = size.saturating_mul(7) / 8;
-        if size < least {
-            return Ok(None);
-        }
-    }
-    Ok(None)
-}
-
-// Writes words into their room, one below the other.
-fn push_words(text: &mut Vec<u8>, words: &[String], size: i64, room: &Room) -> Result<(), Memory> {
-    let mut base = room.top.saturating_add(size);
-    for word in words {
-        push_centred(text, &Spot::at(room.middle, base), size, word.as_str())?;
-        base = base.saturating_add(height_of(1, size));
-    }
-    Ok(())
-}
-
-// An area in square metres, with its unit.
-fn area_words(alloc: Global, doubled: i128) -> Result<String, Memory>
-    requires { unsigned_abs doubled ≤ 10 ^ 26 }
-{
+/// So many hundredths of a unit, with its name. `Err` where memory runs out.
+pub(crate) fn measured(alloc: Global, hundredths: i128, unit: &str) -> Result<String, Memory> {
     let mut words = String::new(alloc);
-    for byte in area_text_of(alloc, hundredths(doubled))? {
+    for byte in area_text_of(alloc, hundredths)? {
         words.push(char::from(byte))?;
     }
-    words.push_str(" m²")?;
+    words.push_str(unit)?;
     Ok(words)
 }
 
@@ -101,10 +84,10 @@ fn drawable(c: char) -> char {
     }
 }
 
-// A label as a drawing can have it.
-fn label_words(alloc: Global, label: &str) -> Result<String, Memory> {
+/// A text as a drawing can have it. `Err` where memory runs out.
+pub(crate) fn drawable_text(alloc: Global, text: &str) -> Result<String, Memory> {
     let mut words = String::new(alloc);
-    for c in label.chars() {
+    for c in text.chars() {
         words.push(drawable(c))?;
     }
     Ok(words)
@@ -117,52 +100,177 @@ fn words_of(alloc: Global, map: &PlainMap, row: &ParcelRow) -> Result<Vec<String
     let area = face_area(map, Face::Parcel(row.number));
     let mut words = Vec::new(alloc);
     words.push(row.number.get().to_string(alloc)?)?;
-    words.push(label_words(alloc, row.label.as_str())?)?;
-    words.push(area_words(alloc, area)?)?;
+    words.push(drawable_text(alloc, row.label.as_str())?)?;
+    words.push(measured(alloc, hundredths(area), " m²")?)?;
     Ok(words)
 }
 
-// Writes as many of these words as there is room for.
-fn push_fitting(
-    alloc: Global,
-    text: &mut Vec<u8>,
-    around: &Around<'_>,
-    area: &Area,
-    words: &[String],
-) -> Result<(), Memory> {
-    for (count, least, greatest) in CHOICES {
-        let told = &words[..count.min(words.len())];
-        if let Some((size, room)) = best_room(alloc, around, area, told, least, greatest)? {
-            return push_words(text, told, size, &room);
+impl Lettering<'_> {
+    // The parcel of a row, with its words.
+    fn place_of(&self, alloc: Global, row: &ParcelRow) -> Result<Place, Memory>
+        requires { IsValid self.now.map.now }
+    {
+        let sides = sides_of_parcel(alloc, self.page, self.map, row.number)?;
+        let area = area_round(sides.as_slice());
+        Ok(Place {
+            others: near(alloc, self.others, &area)?,
+            words: words_of(alloc, self.map, row)?,
+            sides,
+            area,
+        })
+    }
+
+    // The room in a parcel for the first so many of its words, in letters of this size.
+    fn room_for(
+        &self,
+        alloc: Global,
+        place: &Place,
+        count: usize,
+        size: i64,
+    ) -> Result<Option<Room>, Memory> {
+        let words = &place.words.as_slice()[..count.min(place.words.len())];
+        let width = width_of(columns_of(words), size);
+        let height = height_of(whole(words.len()), size);
+        if !place.area.has_room(width, height) {
+            return Ok(None);
         }
+        let around = Around {
+            sides: place.sides.as_slice(),
+            others: place.others.as_slice(),
+            gap: self.gap,
+        };
+        first_room(alloc, &around, &place.area, height, width)
+    }
+
+    // Some of the parcels that have room for their number in the least letters, spread over all of them.
+    fn sample(&self, alloc: Global) -> Result<Vec<Place>, Memory>
+        requires { IsValid self.now.map.now }
+    {
+        let count = self.map.counts().parcels;
+        let step = (count / SAMPLE).saturating_add(1);
+        let mut places = Vec::new(alloc);
+        for place in 0..count {
+            if place % step == 0 {
+                if let Some(row) = self.map.parcel_at(place) {
+                    let place = self.place_of(alloc, row)?;
+                    if self.room_for(alloc, &place, 1, LEAST)?.is_some() {
+                        places.push(place)?;
+                    }
+                }
+            }
+        }
+        Ok(places)
+    }
+
+    // Whether so many tenths of these parcels have room for the first so many of their words, in letters of this size.
+    fn suits(
+        &self,
+        alloc: Global,
+        places: &[Place],
+        tenths: usize,
+        count: usize,
+        size: i64,
+    ) -> Result<bool, Memory> {
+        let mut suited: usize = 0;
+        for place in places {
+            if self.room_for(alloc, place, count, size)?.is_some() {
+                suited = suited.saturating_add(1);
+            }
+        }
+        Ok(suited.saturating_mul(10) >= places.len().saturating_mul(tenths))
+    }
+
+    // The greatest size up to a limit that suits so many tenths of these parcels.
+    fn greatest(
+        &self,
+        alloc: Global,
+        places: &[Place],
+        tenths: usize,
+        count: usize,
+        limit: i64,
+    ) -> Result<i64, Memory> {
+        for size in SIZES {
+            if size <= limit && self.suits(alloc, places, tenths, count, size)? {
+                return Ok(size);
+            }
+        }
+        Ok(0)
+    }
+
+    // The size of the sheet's letters: the greatest at which nine tenths of the parcels have room for their numbers, and half
+    // of them for all their words, or else for number and label, or else for the number alone.
+    fn size(&self, alloc: Global) -> Result<i64, Memory>
+        requires { IsValid self.now.map.now }
+    {
+        let places = self.sample(alloc)?;
+        let limit = self.greatest(alloc, places.as_slice(), 9, 1, SIZES[0])?;
+        for (count, least) in [(3, 150), (2, 120)] {
+            let size = self.greatest(alloc, places.as_slice(), 5, count, limit)?;
+            if size >= least {
+                return Ok(size);
+            }
+        }
+        Ok(limit.max(LEAST))
+    }
+
+    // Writes as many words of a parcel as there is room for in letters of this size; where there is none for its number, the
+    // number alone in the least letters, if there is room for these.
+    fn push_place(
+        &self,
+        alloc: Global,
+        text: &mut Vec<u8>,
+        place: &Place,
+        size: i64,
+    ) -> Result<(), Memory> {
+        for (count, size) in [(3, size), (2, size), (1, size), (1, LEAST)] {
+            if let Some(room) = self.room_for(alloc, place, count, size)? {
+                let words = &place.words.as_slice()[..count.min(place.words.len())];
+                return push_words(text, words, size, &room);
+            }
+        }
+        Ok(())
+    }
+
+    /// Writes the words of each parcel inside it, so far as they are as far from its sides and from the other lines as `gap`
+    /// says: number, label and area, or fewer where there is less room, or none. `Err` where memory runs out.
+    pub(crate) fn push(&self, alloc: Global, text: &mut Vec<u8>) -> Result<(), Memory>
+        requires { IsValid self.now.map.now }
+    {
+        let size = self.size(alloc)?;
+        for place in 0..self.map.counts().parcels {
+            if let Some(row) = self.map.parcel_at(place) {
+                let place = self.place_of(alloc, row)?;
+                self.push_place(alloc, text, &place, size)?;
+            }
+        }
+        Ok(())
+    }
+}
+
+// Writes words into their room, one below the other.
+fn push_words(text: &mut Vec<u8>, words: &[String], size: i64, room: &Room) -> Result<(), Memory> {
+    let mut base = room.top.saturating_add(size);
+    for word in words {
+        push_centred(text, &Spot::at(room.middle, base), size, word.as_str())?;
+        base = base.saturating_add(height_of(1, size));
     }
     Ok(())
 }
 
-/// Writes the words of a parcel of a valid map inside it, so far as they are as far from its sides and from these other
-/// lines as `gap` says: number, label and area, or fewer where there is less room, or none. `Err` where memory runs out.
-pub(crate) fn push_parcel_words(
-    alloc: Global,
-    text: &mut Vec<u8>,
-    page: &Page,
-    map: &PlainMap,
-    row: &ParcelRow,
-    others: &[Edge],
-    gap: i64,
-) -> Result<(), Memory>
-    requires { IsValid map.now }
-{
-    let sides = sides_of_parcel(alloc, page, map, row.number)?;
-    let area = area_round(sides.as_slice());
-    if !area.has_room(width_of(1, LEAST), height_of(1, LEAST)) {
-        return Ok(());
+/// Those letters of a text that stand in so many columns, with three dots behind where it has more. `Err` where memory runs
+/// out.
+pub(crate) fn cut_to(alloc: Global, text: &str, columns: usize) -> Result<String, Memory> {
+    let words = drawable_text(alloc, text)?;
+    if words.as_str().width() <= columns {
+        return Ok(words);
     }
-    let others = near(alloc, others, &area)?;
-    let around = Around {
-        sides: sides.as_slice(),
-        others: others.as_slice(),
-        gap,
-    };
-    let words = words_of(alloc, map, row)?;
-    push_fitting(alloc, text, &around, &area, words.as_slice())
+    let mut cut = String::new(alloc);
+    for c in words.as_str().chars() {
+        cut.push(c)?;
+        if cut.as_str().width().saturating_add(1) >= columns {
+            break;
+        }
+    }
+    cut.push('…')?;
+    Ok(cut)
 }

@@ -8,7 +8,7 @@ use Rattle.clap.specs.declared.error.kind.ErrorKind.{ErrorKind}
 use Rattle.clap.specs.declared.error.kind.ErrorKind.TheVariants as kinds
 use Rattle.clap.specs.declared.builder.value_parser.ValueParser.TheVariants as parsers
 use Rattle.cadview.specs.declared.args.Layer.{Layer}
-use Rattle.cadview.specs.declared.args.Layer.TheVariants.{Parcels, Strings, Points}
+use Rattle.cadview.specs.declared.args.Layer.TheVariants.{Parcels, Strings, Points, Sources, Retired}
 use Rattle.cadview.specs.declared.args.View.{View}
 use Rattle.cadview.specs.declared.args.View.TheVariants.{Svg, Table, Diff}
 
@@ -17,6 +17,8 @@ abbrev pub layer_name : Layer → Text
 layer_name Parcels = codes "parcels"
 layer_name Strings = codes "strings"
 layer_name Points = codes "points"
+layer_name Sources = codes "sources"
+layer_name Retired = codes "retired"
 
 -- no layer has this name
 abbrev pub NamesNoLayer : Text → Type 0
@@ -29,7 +31,7 @@ Texts = Bor (List (Bor Text))
 -- the list has the names of the layers
 abbrev pub NamesLayers : Texts → Type 0
 NamesLayers names = map (λ name. name.now) names.now
-    ≡ map layer_name (Parcels ∷ Strings ∷ Points ∷ [])
+    ≡ map layer_name (Parcels ∷ Strings ∷ Points ∷ Sources ∷ Retired ∷ [])
 
 -- a plan that has to be named, as `PLAN`
 abbrev pub plan_rule : Text → Rule
@@ -38,6 +40,10 @@ plan_rule id = record (new_rule id) { value_names = 1; required = true }
 -- `--since OLD`
 abbrev pub since_rule : Rule
 since_rule = record (new_rule (codes "since")) { long = Some (codes "since"); value_names = 1 }
+
+-- `--title TITLE`
+abbrev pub title_rule : Rule
+title_rule = record (new_rule (codes "title")) { long = Some (codes "title"); value_names = 1 }
 
 -- `--layer LAYER`, one of these names, and `parcels` where it is left out
 abbrev pub layer_rule : Texts → Rule
@@ -48,9 +54,10 @@ layer_rule names = record (new_rule (codes "layer")) {
   defaults = codes "parcels" ∷ [];
 }
 
--- `svg PLAN [--since OLD]`
+-- `svg PLAN [--since OLD] [--title TITLE]`
 abbrev pub svg : App
-svg = with_rule (with_rule (new_app (codes "svg")) (plan_rule (codes "plan"))) since_rule
+svg = with_rule (with_rule (with_rule (new_app (codes "svg")) (plan_rule (codes "plan"))) since_rule)
+    title_rule
 
 -- `table PLAN [--layer LAYER]`, where the layer is one of these names
 abbrev pub table : Texts → App
@@ -93,9 +100,10 @@ pub record IsCadview (app : App) : Type 0 where
 
 -- a subcommand of this name, with these matches, asks for the view
 abbrev pub MatchesAskFor : Text → List Row → View → Type 0
-MatchesAskFor name rows (Svg plan since) = (name ≡ codes "svg")
+MatchesAskFor name rows (Svg plan since title) = (name ≡ codes "svg")
     × (first_of (codes "plan") rows ≡ Some plan.now)
     × (first_of (codes "since") rows ≡ option_map (λ older. older.now) since)
+    × (first_of (codes "title") rows ≡ option_map (λ words. words.now) title)
 MatchesAskFor name rows (Table plan layer) = (name ≡ codes "table")
     × (first_of (codes "plan") rows ≡ Some plan.now)
     × (first_of (codes "layer") rows ≡ Some (layer_name layer))

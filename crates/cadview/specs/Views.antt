@@ -6,10 +6,10 @@ use Rattle.cad_map.specs.Map.{Map}
 use Rattle.cad_files.specs.Rows.{Rows}
 use Rattle.cad_files.specs.Building.{IsBuilt}
 use Rattle.cad_files.specs.Texts.{Record, text_of}
-use Rattle.cad_views.specs.Tables.{IsParcelTable, point_table, string_table}
+use Rattle.cad_views.specs.Tables.{IsParcelTable, point_table, retired_table, source_table, string_table}
 use Rattle.cad_views.specs.Differences.{differences}
 use Rattle.cadview.specs.declared.args.Layer.{Layer}
-use Rattle.cadview.specs.declared.args.Layer.TheVariants.{Parcels, Strings, Points}
+use Rattle.cadview.specs.declared.args.Layer.TheVariants.{Parcels, Strings, Points, Sources, Retired}
 use Rattle.cadview.specs.declared.args.View.{View}
 use Rattle.cadview.specs.declared.args.View.TheVariants.{Svg, Table, Diff}
 use Rattle.cadview.specs.declared.faults.ViewFault.{ViewFault}
@@ -22,6 +22,8 @@ abbrev pub IsTable : Layer → Map → List ℕ → Type 0
 IsTable Parcels m text = (told : List Record) × IsParcelTable m told × (text ≡ text_of told)
 IsTable Strings m text = text ≡ text_of (string_table m)
 IsTable Points m text = text ≡ text_of (point_table m)
+IsTable Sources m text = text ≡ text_of (source_table m)
+IsTable Retired m text = text ≡ text_of (retired_table m)
 
 -- a plan was built, and its map is so
 abbrev pub OfPlan : (Map → Type 0) → Type 0
@@ -33,7 +35,7 @@ IsDifference old new text = text ≡ text_of (differences old new)
 
 -- the text is what a view shows of the plans that were built for it; of a drawing nothing is said
 abbrev pub IsTextOf : View → List ℕ → Type 0
-IsTextOf (Svg plan since) text = ⊤
+IsTextOf (Svg plan since title) text = ⊤
 IsTextOf (Table plan layer) text = OfPlan (λ m. IsTable layer m text)
 IsTextOf (Diff old new) text = OfPlan (λ m. OfPlan (λ m'. IsDifference m m' text))
 

@@ -12,20 +12,21 @@ use clap::{Arg, ArgMatches, Command, Error};
 use std::alloc::{AllocError, Global};
 
 /// The program's version, as `--version` tells it.
-const VERSION: &str = "0.1.1";
+const VERSION: &str = "0.2.0";
 
 const ABOUT: &str = "\
 Shows a cadastral map: as a drawing, as tables with geometry, and what differs between two.";
 
 /// What stands below the commands in the text of `--help`.
 const AFTER_HELP: &str = "\
-A PLAN is what `cadedit` reads and prints: its records up to `open`. What is made goes to standard output.
+A PLAN is a file that `cadedit` reads, up to `open`, or answers that end with a plan; `-` is standard input. The result
+goes to standard output.
 
-Status: 0 done, 2 a plan is at fault, 3 a plan can't be read or the output not written, 5 memory ran out, 64 the
+Status: 0 done, 2 a plan is invalid, 3 a plan can't be read or the output can't be written, 5 out of memory, 64 the
 arguments aren't as above. Standard error says more.
 
 Example:
-  cadview svg plan.csv > plan.svg
+  cadview svg new.csv --since old.csv > new.svg
   cadview table plan.csv --layer parcels > parcels.csv
   cadview diff old.csv new.csv
 
@@ -37,15 +38,18 @@ pub enum Layer {
     Parcels,
     Strings,
     Points,
+    Sources,
+    Retired,
 }
 
 /// What the arguments ask for.
 #[derive(Clone, Copy)]
 pub enum View<'a> {
-    /// The drawing of a plan, with what changed since an older one, if one is named.
+    /// The drawing of a plan, with what changed since an older one, if one is named, under a title, if one is given.
     Svg {
         plan: &'a str,
         since: Option<&'a str>,
+        title: Option<&'a str>,
     },
     /// The table of a plan's rows of one kind.
     Table {
@@ -70,18 +74,25 @@ fn plan_arg<'a>(alloc: Global, id: &'a str, name: &'a str, help: &'a str) -> Arg
         .help(help)
 }
 
-/// `svg PLAN [--since OLD]`
+/// `svg PLAN [--since OLD] [--title TITLE]`
 fn svg_command<'a>(alloc: Global) -> Result<Command<'a>, AllocError>
     ensures { IfOk result (λ c. app_of c ≡ svg) }
 {
     let since = Arg::new(alloc, "since")
         .long("since")
         .value_name("OLD")
-        .help("An older plan: what came, went or changed since then stands out and is listed");
+        .help("An older plan: what was added, changed or removed since then is marked and listed");
+    let title = Arg::new(alloc, "title")
+        .long("title")
+        .value_name("TITLE")
+        .help(
+            "What the sheet is called; it then also tells the days on which the files were last changed",
+        );
     Command::new(alloc, "svg")
         .about("Draws a plan as SVG, on an A3 sheet")
         .arg(plan_arg(alloc, "plan", "PLAN", "The plan"))?
-        .arg(since)
+        .arg(since)?
+        .arg(title)
 }
 
 /// `table PLAN [--layer LAYER]`
@@ -91,7 +102,7 @@ fn table_command<'a>(alloc: Global) -> Result<Command<'a>, AllocError>
     let layer = Arg::new(alloc, "layer")
         .long("layer")
         .value_name("LAYER")
-        .value_parser(["parcels", "strings", "points"].as_slice())
+        .value_parser(["parcels", "strings", "points", "sources", "retired"].as_slice())
         .default_value("parcels")
         .help("Which rows");
     Command::new(alloc, "table")
@@ -140,6 +151,8 @@ fn layer_of(name: &str) -> Option<Layer>
         "parcels" => Some(Layer::Parcels),
         "strings" => Some(Layer::Strings),
         "points" => Some(Layer::Points),
+        "sources" => Some(Layer::Sources),
+        "retired" => Some(Layer::Retired),
         _ => None,
     }
 }
@@ -153,6 +166,7 @@ fn view_of<'a>(name: &str, matches: &ArgMatches<'a>) -> Option<View<'a>>
         "svg" => Some(View::Svg {
             plan: matches.get_str("plan")?,
             since: matches.get_str("since"),
+            title: matches.get_str("title"),
         }),
         "table" => Some(View::Table {
             plan: matches.get_str("plan")?,

@@ -3,6 +3,7 @@ ghost use Rattle.std.specs.Prelude.{◌≡◌};
 ghost use Rattle.cadview.specs.Told.{status_of};
 
 use cad_files::PlanFault;
+use std::alloc::AllocError;
 use std::fmt;
 
 /// Why the program ended early.
@@ -16,6 +17,12 @@ pub enum ViewFault {
     Write,
     /// Memory ran out.
     Memory,
+}
+
+impl From<AllocError> for ViewFault {
+    fn from(_: AllocError) -> ViewFault {
+        ViewFault::Memory
+    }
 }
 
 /// The line that the program writes on standard error.

@@ -2,8 +2,10 @@
 //! with geometry, or what differs, to standard output.
 #![tactic(auto)]
 
+mod answers;
 mod args;
 mod faults;
+mod names;
 mod program;
 
 use command_line::run_named;

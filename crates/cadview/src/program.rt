@@ -6,21 +6,26 @@ ghost use Rattle.cadview.specs.Views.{IsDifference, IsTable, IsTextOf, OfPlan};
 ghost use Rattle.cadview.specs.Views.{IsStatusOfView, IsStatusOfWords};
 ghost use Rattle.cadview.specs.declared.faults.ViewFault.TheVariants as faults;
 
+use crate::answers::last_plan;
 use crate::args::{Layer, View, read_args};
 use crate::faults::{ViewFault, status};
+use crate::names::sheet_of;
 use cad_files::{OutSink, PlanFault, Sink, write_all};
 use cad_rows::Memory;
-use cad_views::{Plan, difference_text, draw, parcel_table, point_table, read_map, string_table};
+use cad_views::{
+    Plan, Sheet, difference_text, draw, parcel_table, point_table, read_map, retired_table,
+    source_table, string_table,
+};
 use command_line::tell_refused;
 use number_hash::NumberHash;
 use std::alloc::Global;
 use std::fs::{self, Files};
-use std::io::{self, BufWriter};
+use std::io::{self, BufWriter, Read};
 use std::random::RandomSource;
 
 /// Reads the words of the command line, the program's name first, and writes the view that they name to standard output. A
 /// fault is told on standard error. Gives the status with which the program ends.
-pub fn run_words<R: Files + RandomSource + Print + Eprint + AllocGlobal>(
+pub fn run_words<R: Files + RandomSource + Input + Print + Eprint + AllocGlobal>(
     rt: &R,
     words: &[&str],
 ) -> u8
@@ -35,7 +40,10 @@ where
 }
 
 /// Writes a view, and gives the status.
-fn run_view<R: Files + RandomSource + Print + Eprint + AllocGlobal>(rt: &R, view: &View<'_>) -> u8
+fn run_view<R: Files + RandomSource + Input + Print + Eprint + AllocGlobal>(
+    rt: &R,
+    view: &View<'_>,
+) -> u8
 where
     R::File: Drop,
     ensures { IsStatusOfView result }
@@ -50,16 +58,42 @@ where
     }
 }
 
-/// The plan in a file.
-fn plan_in<R: Files + RandomSource + AllocGlobal>(rt: &R, path: &str) -> Result<Plan, ViewFault>
+/// What a file holds, or standard input where the path is `-`.
+fn text_in<R: Files + Input + AllocGlobal>(rt: &R, path: &str) -> Result<Vec<u8>, ViewFault>
+where
+    R::File: Drop,
+{
+    if path == "-" {
+        return all_of(rt.alloc(), rt.reader());
+    }
+    match fs::open(rt, path) {
+        Ok(file) => all_of(rt.alloc(), file),
+        Err(_) => Err(ViewFault::Read),
+    }
+}
+
+/// All that a reader gives.
+fn all_of<R: Read + Drop>(alloc: Global, mut reader: R) -> Result<Vec<u8>, ViewFault> {
+    let mut text = Vec::new(alloc);
+    match reader.read_to_end(&mut text) {
+        Ok(_) => Ok(text),
+        Err(error) if error.kind() == io::ErrorKind::OutOfMemory => Err(ViewFault::Memory),
+        Err(_) => Err(ViewFault::Read),
+    }
+}
+
+/// The plan in a file, or the one that answers in it end with.
+fn plan_in<R: Files + RandomSource + Input + AllocGlobal>(
+    rt: &R,
+    path: &str,
+) -> Result<Plan, ViewFault>
 where
     R::File: Drop,
     ensures { IfOk result (λ plan. IsBuilt plan.rows plan.map) }
 {
-    let Ok(file) = fs::open(rt, path) else {
-        return Err(ViewFault::Read);
-    };
-    match read_map(rt.alloc(), NumberHash::drawn(rt), file) {
+    let text = text_in(rt, path)?;
+    let plan = last_plan(text.as_slice());
+    match read_map(rt.alloc(), NumberHash::drawn(rt), plan) {
         Ok(plan) => Ok(plan),
         Err(PlanFault::Read) => Err(ViewFault::Read),
         Err(PlanFault::Memory) => Err(ViewFault::Memory),
@@ -68,7 +102,7 @@ where
 }
 
 /// The text of a view.
-fn text_of<R: Files + RandomSource + AllocGlobal>(
+fn text_of<R: Files + RandomSource + Input + AllocGlobal>(
     rt: &R,
     view: &View<'_>,
 ) -> Result<Vec<u8>, ViewFault>
@@ -77,33 +111,47 @@ where
     ensures { IfOk result (λ text. IsTextOf view.now text.items) }
 {
     match view {
-        View::Svg { plan, since } => svg_text(rt, plan, *since),
+        View::Svg { plan, since, title } => svg_text(rt, plan, *since, *title),
         View::Table { plan, layer } => table_of(rt, plan, *layer),
         View::Diff { old, new } => diff_text(rt, old, new),
     }
 }
 
 /// The drawing of the plan in a file, with what changed since an older one.
-fn svg_text<R: Files + RandomSource + AllocGlobal>(
+fn svg_text<R: Files + RandomSource + Input + AllocGlobal>(
     rt: &R,
     path: &str,
     since: Option<&str>,
+    title: Option<&str>,
 ) -> Result<Vec<u8>, ViewFault>
 where
     R::File: Drop,
 {
+    let sheet = sheet_of(rt, path, since, title)?;
     let plan = plan_in(rt, path)?;
     match since {
-        Some(older) => {
-            let old = plan_in(rt, older)?;
-            or_memory(draw(rt.alloc(), &plan.map, Some(&old.map)))
-        }
-        None => or_memory(draw(rt.alloc(), &plan.map, None)),
+        Some(older) => svg_since(rt, &sheet, &plan, older),
+        None => or_memory(draw(rt.alloc(), &sheet, &plan.map, None)),
     }
 }
 
+/// The drawing of a plan, with what changed since the older one in a file.
+fn svg_since<R: Files + RandomSource + Input + AllocGlobal>(
+    rt: &R,
+    sheet: &Sheet,
+    plan: &Plan,
+    older: &str,
+) -> Result<Vec<u8>, ViewFault>
+where
+    R::File: Drop,
+    requires { IsBuilt plan.now.rows plan.now.map }
+{
+    let old = plan_in(rt, older)?;
+    or_memory(draw(rt.alloc(), sheet, &plan.map, Some(&old.map)))
+}
+
 /// The table of the plan in a file.
-fn table_of<R: Files + RandomSource + AllocGlobal>(
+fn table_of<R: Files + RandomSource + Input + AllocGlobal>(
     rt: &R,
     path: &str,
     layer: Layer,
@@ -117,7 +165,7 @@ where
 }
 
 /// What differs between the plans in two files.
-fn diff_text<R: Files + RandomSource + AllocGlobal>(
+fn diff_text<R: Files + RandomSource + Input + AllocGlobal>(
     rt: &R,
     old: &str,
     new: &str,
@@ -131,13 +179,14 @@ where
 }
 
 /// What differs between a plan and the newer one in a file.
-fn diff_from<R: Files + RandomSource + AllocGlobal>(
+fn diff_from<R: Files + RandomSource + Input + AllocGlobal>(
     rt: &R,
     old: &Plan,
     new: &str,
 ) -> Result<Vec<u8>, ViewFault>
 where
     R::File: Drop,
+    requires { IsBuilt old.now.rows old.now.map }
     ensures { IfOk result (λ text. OfPlan (λ m. IsDifference old.now.map m text.items)) }
 {
     let new = plan_in(rt, new)?;
@@ -146,6 +195,8 @@ where
 
 /// What differs between two plans.
 fn differences(alloc: Global, old: &Plan, new: &Plan) -> Result<Vec<u8>, Memory>
+    requires old_built { IsBuilt old.now.rows old.now.map }
+    requires new_built { IsBuilt new.now.rows new.now.map }
     ensures { IfOk result (λ text. IsDifference old.now.map new.now.map text.items) }
 {
     difference_text(alloc, &old.map, &new.map)
@@ -161,6 +212,8 @@ fn table_text<R: AllocGlobal>(rt: &R, plan: &Plan, layer: Layer) -> Result<Vec<u
         Layer::Parcels => parcel_table(alloc, &plan.map),
         Layer::Strings => string_table(alloc, &plan.rows, &plan.map),
         Layer::Points => point_table(alloc, &plan.map),
+        Layer::Sources => source_table(alloc, &plan.map),
+        Layer::Retired => retired_table(alloc, &plan.map),
     }
 }
 

@@ -1,3 +1,6 @@
+-- Sums of blocks, of marks and of such sums, stated of any numbers. A change of one number is
+-- three cases of arithmetic at each level: the blocks before, the block itself, the blocks
+-- behind.
 use Rattle.std.proofs.Common.{◌≡◌, ◌≢◌, ℕ, zero, suc, ◌+◌, ◌*◌, ◌/◌, ◌-◌, ◌<◌, ◌≤◌, List, [], ◌∷◌, ◌++◌, length, get_or, set, take, min, refl, sym, ap, subst, arith, add-one, add-zero, length-append, ◌⊎◌, inl, inr, get_or-set_other}
 use Rattle.std.proofs.lemmas.List.{get_or_past, get_or_read, length-set, length-take-le}
 use Rattle.std.proofs.lemmas.Grind.{get_or-set_at}

@@ -1,4 +1,6 @@
 -- Successors written one after another.
+-- Pairs written over the values that a function had give the function back (`redirect-restores`).
+-- So that one call undoes another is shown by comparing two lists of pairs.
 use Rattle.std.proofs.Common.{◌≡◌, Bool, true, false, List, [], ◌∷◌, ◌++◌, ◌||◌, if◌then◌else◌, refl, sym, ap, ◌∙◌, ◌⊎◌, inl, inr, true≢false}
 use Rattle.half_table.specs.declared.half.Half.{Half}
 use Rattle.half_table.specs.Half.{is_half}

@@ -1,4 +1,7 @@
 -- The points along a half's cycle are the ring that has its side.
+-- A half and its next make a corner, so the next half has the next side of the ring. After as
+-- many halves as the ring has sides the half comes again, and not before, since no two halves
+-- have one side.
 use Rattle.std.proofs.Common.{◌≡◌, ℕ, zero, suc, ◌<◌, Bool, true, false, List, [], ◌∷◌, length, map, refl, sym, ap, ◌∙◌, subst, arith, Some}
 use Rattle.std.proofs.lemmas.List.{take_all}
 use Rattle.std.specs.List.{Contains}

@@ -1,4 +1,7 @@
 -- What is noted, and that numbers are found by it.
+-- A note of one number says nothing of another, since numbers differ, so what was found stays
+-- found. Notes may be out of date: a place, guessed or noted, counts only where its row has the
+-- number.
 use Rattle.std.proofs.Common.{◌≡◌, ◌≢◌, ◌∙◌, sym, ap, subst, arith, ℕ, suc, ◌+◌, ◌<◌, List, [], ◌∷◌, length, get_or, slice_get, nat_eq, Option, Some, None, false, inl, inr, refl}
 use Rattle.std.specs.List.{IsDistinct, AllPairs}
 use Rattle.std.specs.Map.{lookup, values_of}

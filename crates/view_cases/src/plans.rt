@@ -32,6 +32,68 @@ pub(crate) const FENCED: Parts = &[
     string,24,6,4,7,0; string,14,4,1,7,0; string,31,5,6,7,8; open",
 ];
 
+/// A map without parcels, two of which mergers ended.
+pub(crate) const ENDED: Parts = &[
+    "plan,2; source,4,Plan 7; source,1,Plan 9; retired,8; retired,3; open",
+];
+
+/// The fenced field, whose fence begins 10 m farther to the east now.
+pub(crate) const SHIFTED: Parts = &[
+    CORNERS,
+    "point,5,70000,0; point,6,60000,100000; parcel,7,Field & <pond>,1; parcel,8,East,1; \
+    string,21,1,5,7,0,1; string,22,5,2,8,0,1; string,12,2,3,8,0; string,23,3,6,8,0; \
+    string,24,6,4,7,0; string,14,4,1,7,0; string,31,5,6,7,8; open",
+];
+
+/// The fenced field, whose east went back to it.
+pub(crate) const UNFENCED: Parts = &[
+    CORNERS,
+    "point,5,60000,0; point,6,60000,100000; parcel,7,Field & <pond>,1; string,21,1,5,7,0,1; \
+    string,22,5,2,7,0,1; string,12,2,3,7,0; string,23,3,6,7,0; string,24,6,4,7,0; \
+    string,14,4,1,7,0; retired,8; open",
+];
+
+/// The field with a point put on its lower side.
+pub(crate) const STUDDED: Parts = &[
+    CORNERS,
+    "point,9,50000,80000; point,5,60000,0; parcel,7,Field & <pond>,1; string,21,1,5,7,0,1; \
+    string,22,5,2,7,0,1; string,12,2,3,7,0; string,13,3,4,7,0; string,14,4,1,7,0; open",
+];
+
+/// The field under another label.
+pub(crate) const MEADOW: Parts = &[
+    CORNERS,
+    "point,9,50000,80000; parcel,7,Meadow,1; string,11,1,2,7,0,1; string,12,2,3,7,0; \
+    string,13,3,4,7,0; string,14,4,1,7,0; open",
+];
+
+/// The field, whose upper side lies 10 m farther to the east now: it is as large as before.
+pub(crate) const SLANTED: Parts = &[
+    "plan,2; source,1,Plan 7; point,1,0,0,1; point,2,100000,0; point,3,110000,100000; \
+    point,4,10000,100000; point,9,50000,80000; parcel,7,Field & <pond>,1; string,11,1,2,7,0,1; \
+    string,12,2,3,7,0; string,13,3,4,7,0; string,14,4,1,7,0; open",
+];
+
+/// The parcels and the strings of a field round a pond.
+const ROUND_POND: &str =
+    "parcel,7,Field,1; parcel,8,Pond; string,11,1,2,7,0; string,12,2,3,7,0; string,13,3,4,7,0; \
+    string,14,4,1,7,0; string,31,5,6,8,7; string,32,6,10,8,7; string,33,10,11,8,7; \
+    string,34,11,5,8,7; open";
+
+/// A pond of 20 m by 20 m in the field.
+pub(crate) const POND: Parts = &[
+    CORNERS,
+    "point,5,40000,40000; point,6,60000,40000; point,10,60000,60000; point,11,40000,60000",
+    ROUND_POND,
+];
+
+/// The same 10 m farther to the east.
+pub(crate) const POND_EAST: Parts = &[
+    CORNERS,
+    "point,5,50000,40000; point,6,70000,40000; point,10,70000,60000; point,11,50000,60000",
+    ROUND_POND,
+];
+
 /// Four strips of 100 m: of 2 m, 1 m, 400 mm and 96.6 m.
 pub(crate) const STRIPS: Parts = &[
     "plan,2; point,1,0,0; point,2,100000,0; point,3,0,2000; point,4,100000,2000; point,5,0,3000; \

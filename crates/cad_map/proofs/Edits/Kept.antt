@@ -1,4 +1,8 @@
 -- What an edit of a valid map keeps: of the map made it can be asked what rule it breaks first.
+-- V1 and V2 are kept row by row (`KeptRows`, `KeptChanges`). V5 is one theorem, `complete` of
+-- `TwoFaces`: rings are complete where they have the strings' sides, each as often, and no side
+-- has one face on its two hands. A join's rings are whole only where V3 and V4 hold, as in a
+-- triangle.
 use Rattle.std.proofs.Common.{◌≡◌, ℕ, Option, Some, None, is_some, refl, ap, sym, subst, ◌∙◌, true≢false, length, [], arith}
 use Rattle.std.specs.Prelude.{ℤ}
 use Rattle.cad_rows.specs.Limits.{row_limit}

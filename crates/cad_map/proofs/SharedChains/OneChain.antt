@@ -1,4 +1,6 @@
 -- The shared chain of two faces of a valid map is the only one.
+-- Two shared chains both have the shared sides, so they are one chain; its first side then tells
+-- from which place on each of the two rings is written.
 use Rattle.std.proofs.Common.{◌≡◌, ◌≢◌, ℕ, zero, suc, add-one, ◌+◌, ◌<◌, ◌≤◌, ◌⊎◌, inl, inr, refl, sym, ap, subst, ◌∙◌, List, [], ◌∷◌, ◌++◌, length, take, drop, reverse, true, true≢false, not, arith, Some}
 use Rattle.std.proofs.lemmas.Bool.{and_parts, eqb-true}
 use Rattle.std.proofs.lemmas.Cmp.{nat_eq_equiv}

@@ -1,4 +1,6 @@
 -- Where two corners at a point are each other's reverse, no other string has the point.
+-- The two sectors are all directions but two (`in_one_sector`), and by V6 neither has a string;
+-- by V4 no two strings lead into one direction.
 use Rattle.std.proofs.Common.{◌≡◌, ◌≢◌, ℕ, ◌⊎◌, inl, inr, refl, sym, ap, subst, ◌∙◌, List, Bool, true, false}
 use Rattle.std.proofs.lemmas.Bool.{or_cases, eqb-true, eqb-false}
 use Rattle.std.specs.Prelude.{◌==◌}

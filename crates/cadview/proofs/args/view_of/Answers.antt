@@ -17,21 +17,21 @@ if_none None P p = p
 if_none (Some x) P p = tt
 
 no_svg : (name : Text) (rows : List Row) → name ≡ codes "svg" → first_of (codes "plan") rows ≡ None → MatchesAskForNone name rows
-no_svg name rows named none (Svg plan since) asks = let bad : None ≡ Some plan.now = sym none ∙ asks.1 in cc
+no_svg name rows named none (Svg plan since title) asks = let bad : None ≡ Some plan.now = sym none ∙ asks.1 in cc
 no_svg name rows named none (Table plan layer) asks = let bad : codes "svg" ≡ codes "table" = sym named ∙ asks.0 in cc
 no_svg name rows named none (Diff old new) asks = let bad : codes "svg" ≡ codes "diff" = sym named ∙ asks.0 in cc
 
 no_table : (name : Text) (rows : List Row) → name ≡ codes "table"
     → ((plan : Text) (layer : Layer) → first_of (codes "plan") rows ≡ Some plan → first_of (codes "layer") rows ≡ Some (layer_name layer) → ⊥)
     → MatchesAskForNone name rows
-no_table name rows named none (Svg plan since) asks = let bad : codes "table" ≡ codes "svg" = sym named ∙ asks.0 in cc
+no_table name rows named none (Svg plan since title) asks = let bad : codes "table" ≡ codes "svg" = sym named ∙ asks.0 in cc
 no_table name rows named none (Table plan layer) asks = none plan.now layer asks.1 asks.2
 no_table name rows named none (Diff old new) asks = let bad : codes "table" ≡ codes "diff" = sym named ∙ asks.0 in cc
 
 no_diff : (name : Text) (rows : List Row) → name ≡ codes "diff"
     → ((old new : Text) → first_of (codes "old") rows ≡ Some old → first_of (codes "new") rows ≡ Some new → ⊥)
     → MatchesAskForNone name rows
-no_diff name rows named none (Svg plan since) asks = let bad : codes "diff" ≡ codes "svg" = sym named ∙ asks.0 in cc
+no_diff name rows named none (Svg plan since title) asks = let bad : codes "diff" ≡ codes "svg" = sym named ∙ asks.0 in cc
 no_diff name rows named none (Table plan layer) asks = let bad : codes "diff" ≡ codes "table" = sym named ∙ asks.0 in cc
 no_diff name rows named none (Diff old new) asks = none old.now new.now asks.1 asks.2
 
@@ -43,6 +43,7 @@ returns-in_ok-get_str-in-svg-clause-some c =
       named,
       read f (codes "plan") c.get_str.result c.get_str.ensures ∙ ap (option_map (λ s. s.now)) got,
       read f (codes "since") c.get_str-in-svg.result c.get_str-in-svg.ensures,
+      read f (codes "title") c.get_str-in-svg-2.result c.get_str-in-svg-2.ensures,
     )
 
 pub returns-in_err-get_str-in-svg-clause-none : goal.returns-in_err-get_str-in-svg-clause-none

@@ -1,0 +1,8 @@
+use Rattle.std.proofs.Common.{take, map}
+use Rattle.cad_files.specs.Texts.{HasAppended, text_of}
+use Rattle.cad_views.specs.Tables.{retired_row}
+use Rattle.cad_views.proofs.numbers.write_all_retired.Given as goal
+
+-- the rows up to the place are written
+abbrev pub invariant-loop-place : goal.invariant-loop-place
+invariant-loop-place l = HasAppended (text_of (map retired_row (take l.place l.map.retired))) l.fn.out l.out
