@@ -6,6 +6,7 @@ from __future__ import annotations
 
 import os
 import shutil
+import signal
 import stat
 import subprocess
 import tempfile
@@ -93,8 +94,10 @@ class MadeUp(unittest.TestCase):
                     'XDG_CACHE_HOME': f'{self.folder}/cache'}
 
     def start(self, *words: str, **env: str) -> subprocess.Popen[str]:
+        """Starts a command that ^C ends, also where whoever started the tests lets it be ignored."""
         return subprocess.Popen(words, env={**self.env, **env}, stdin=subprocess.DEVNULL, stdout=subprocess.PIPE,
-                                stderr=subprocess.PIPE, text=True, start_new_session=True)
+                                stderr=subprocess.PIPE, text=True, start_new_session=True,
+                                preexec_fn=lambda: signal.signal(signal.SIGINT, signal.SIG_DFL))
 
     def run_to_end(self, *words: str, **env: str) -> tuple[int, str, str]:
         """The status, what is written, and what is said on standard error."""
