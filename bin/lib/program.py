@@ -25,12 +25,14 @@ class NoProgram(Exception):
     """There is no program, or it can't be run; the text says why."""
 
 
-def found_program() -> str:
-    """The path of the program that bin/cadedit runs, which is made where there is none. Raises NoProgram."""
-    done = subprocess.run([os.path.join(BIN, 'program'), 'cadedit'], capture_output=True, text=True,
-                          env={**os.environ, 'UNPROVED_OK': '1'})
+def found_program(name: str = 'cadedit', is_told: bool = False) -> str:
+    """The path of the program that bin/cadedit or bin/cadview runs, which is made where there is none. Where `is_told`
+    standard error has what bin/program says of it, that it isn't proved. Raises NoProgram."""
+    env = os.environ if is_told else {**os.environ, 'UNPROVED_OK': '1'}
+    done = subprocess.run([os.path.join(BIN, 'program'), name], stdout=subprocess.PIPE,
+                          stderr=None if is_told else subprocess.PIPE, text=True, env=env)
     if done.returncode:
-        raise NoProgram(done.stderr.strip() or f'bin/program ended with status {done.returncode}')
+        raise NoProgram((done.stderr or '').strip() or f'bin/program ended with status {done.returncode}')
     return done.stdout.strip()
 
 

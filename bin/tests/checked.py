@@ -63,20 +63,20 @@ def command() -> Any:
 
 
 @functools.cache
-def why_no_program() -> str:
+def why_no_program(name: str = 'cadedit') -> str:
     """Why there is no program that is built already, or nothing. No build is started."""
-    built = [os.path.join(TOP, it) for it in ('crates/cadedit/out/cadedit', 'out/unproved/cadedit')]
+    built = [os.path.join(TOP, it) for it in (f'crates/{name}/out/{name}', f'out/unproved/{name}')]
     if not any(os.access(it, os.X_OK) for it in built):
         return 'the program is not built'
     if shutil.which('rt', path=PATH):
         return 'a kit on the path would build a program where a source has changed'
-    return '' if found_program() else 'a source is newer than the program'
+    return '' if found_program(name) else 'a source is newer than the program'
 
 
 @functools.cache
-def found_program() -> str:
+def found_program(name: str = 'cadedit') -> str:
     """The path of the program, or nothing where it would have to be built: there is no kit on this path."""
-    done = subprocess.run([os.path.join(TOP, 'bin', 'program'), 'cadedit'], capture_output=True, text=True,
+    done = subprocess.run([os.path.join(TOP, 'bin', 'program'), name], capture_output=True, text=True,
                           env={**os.environ, 'PATH': PATH, 'UNPROVED_OK': '1'})
     return done.stdout.strip() if done.returncode == 0 else ''
 
@@ -91,6 +91,7 @@ def why_no_package(name: str) -> str:
 needs_shapely = unittest.skipIf(why_no_package('shapely'), why_no_package('shapely'))
 needs_gdal = unittest.skipIf(why_no_package('osgeo'), why_no_package('osgeo'))
 needs_program = unittest.skipIf(why_no_program(), why_no_program())
+needs_viewer = unittest.skipIf(why_no_program('cadview'), why_no_program('cadview'))
 
 
 class Checked(unittest.TestCase):

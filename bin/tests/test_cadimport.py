@@ -23,7 +23,6 @@ from lib.importing.report import report_text, worst_first  # noqa: E402
 from lib.importing.rows import Finding, Layer, Note, Part, Ring, Row  # noqa: E402
 from lib.importing.tables import Tables  # noqa: E402
 from lib.importing.weld import reach_of, rounded, weld  # noqa: E402
-from lib.records import plan_of, records_of  # noqa: E402
 
 
 def box(west: float, south: float, east: float, north: float) -> Ring:
@@ -372,10 +371,10 @@ class Files(unittest.TestCase):
             check_writable('/dev/null')
 
     def test_the_system_that_sources_name(self) -> None:
-        plan = plan_of(records_of(b'source,1,"a.gpkg, layer lots, EPSG:25832",,,,\nsource,2,Deed 7,,,,\n'))
-        self.assertEqual(Tables({}, plan).system(), 'EPSG:25832')
-        plan = plan_of(records_of(b'source,1,"a, EPSG:1",,,,\nsource,2,"b, EPSG:2",,,,\n'))
-        self.assertIsNone(Tables({}, plan).system())
+        one = Tables({'sources': [['1', 'a.gpkg, layer lots, EPSG:25832'], ['2', 'Deed 7']]})
+        self.assertEqual(one.system(), 'EPSG:25832')
+        two = Tables({'sources': [['1', 'a, EPSG:1'], ['2', 'b, EPSG:2']]})
+        self.assertIsNone(two.system())
 
 
 if __name__ == '__main__':

@@ -14,7 +14,8 @@ from lib.importing.checking import program
 from lib.importing.command import Parser
 from lib.importing.common import Refused, check_writable, modules, one_line
 from lib.importing.styles import STYLES
-from lib.importing.tables import Row, Tables, tables_of
+from lib.importing.tables import Tables, tables_of
+from lib.views import Row
 
 DONE, NOT_DONE, STOPPED = 0, 2, 130
 NO_SYSTEM = 'Undefined Cartesian SRS'  # The GeoPackage standard's own name for coordinates on a plane alone.

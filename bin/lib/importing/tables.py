@@ -1,39 +1,29 @@
-"""The tables of a plan, by the program `cadview`, and its sources, by the plan's records."""
+"""The tables of a plan, by the program `cadview`."""
 from __future__ import annotations
 
-import csv
-import io
 import re
-import subprocess
 from dataclasses import dataclass
 
 from lib.importing.common import Refused
-from lib.records import Plan, plan_of, records_of
+from lib.views import COLUMNS, NotShown, Row, table
 
 SYSTEM = re.compile(r', (EPSG:[0-9]+)$')
-Row = list[str]  # The fields of a table's record, in the order of COLUMNS.
-COLUMNS = {'parcels': ['number', 'label', 'area', 'doubled', 'sources', 'WKT'],
-           'strings': ['number', 'from', 'to', 'left', 'right', 'sources', 'WKT'],
-           'points': ['number', 'sources', 'WKT']}
+ITEMS = {'points': 'point', 'parcels': 'parcel', 'strings': 'string'}  # The layers with sources, and what a row is.
 
 
 @dataclass
 class Tables:
-    """What a plan has: a table for each layer, with the columns of docs/FORMATS.md, and its rows."""
+    """What a plan has: a table for each layer, with the columns of docs/FORMATS.md."""
     layers: dict[str, list[Row]]
-    plan: Plan
 
     def source_texts(self) -> dict[int, str]:
         """The text of each source by its number."""
-        return {number: row.text.decode() for number, row in self.plan.sources.items()}
+        return {int(number): text for number, text in self.layers['sources']}
 
     def source_items(self) -> list[tuple[str, int, int]]:
         """Which source stands at which item: the item's kind and number, and the source's number."""
-        plan = self.plan
-        points = [('point', it.number, it.sources) for it in plan.points.values()]
-        parcels = [('parcel', it.number, it.sources) for it in plan.parcels.values()]
-        strings = [('string', it.number, it.sources) for it in plan.strings.values()]
-        return [(kind, number, source) for kind, number, found in points + parcels + strings for source in found]
+        return [(kind, int(row[0]), int(source)) for layer, kind in ITEMS.items() for row in self.layers[layer]
+                for source in row[COLUMNS[layer].index('sources')].split()]
 
     def system(self) -> str | None:
         """The reference system that the sources' texts name at their ends, where they name one and no other."""
@@ -44,20 +34,12 @@ class Tables:
 def table_of(cadview: str, path: str, layer: str) -> list[Row]:
     """The records of a table by `cadview table`. Raises Refused with the program's line where it refuses the
     plan."""
-    done = subprocess.run([cadview, 'table', path, '--layer', layer], capture_output=True)
-    if done.returncode:
-        said = done.stderr.decode(errors='replace').strip() or f'cadview ended with status {done.returncode}'
-        raise Refused(f'{path}: {said}')
-    header, *rows = csv.reader(io.StringIO(done.stdout.decode(), newline=''))
-    if header != COLUMNS[layer]:
-        raise Refused(f'cadview tells other columns of {layer} than docs/FORMATS.md has: a fault of cadgpkg')
-    return rows
+    try:
+        return table(cadview, path, layer)
+    except NotShown as error:
+        raise Refused(f'{path}: {error}') from error
 
 
 def tables_of(cadview: str, path: str) -> Tables:
     """All tables of a plan. Raises Refused where the program refuses it."""
-    layers = {layer: table_of(cadview, path, layer) for layer in COLUMNS}
-    with open(path, 'rb') as file:
-        records = list(records_of(file.read()))
-    end = next(place for place, record in enumerate(records) if record.kind == b'open')
-    return Tables(layers, plan_of(records[1:end]))
+    return Tables({layer: table_of(cadview, path, layer) for layer in (*ITEMS, 'sources')})

@@ -1,0 +1,2 @@
+// Leaflet, of whose types Debian has no package.
+declare const L: any;
