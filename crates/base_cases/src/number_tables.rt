@@ -242,3 +242,68 @@ fn many_in_any_order(rt: HostRuntime) -> Result<(), Fail> {
     is_absent(&rt, &table, MANY);
     Ok(())
 }
+
+// A number from anywhere in the range for each place; no two places have the same.
+fn wild(place: u64) -> u64 {
+    place.wrapping_mul(11_400_714_819_323_198_485)
+}
+
+// Rows with wild numbers.
+fn filled_wildly(rt: &impl Abort, alloc: Global) -> Result<NumberTable<u64>, AllocError> {
+    let mut table = NumberTable::new(alloc, NumberHash::fixed());
+    for place in 0..MANY {
+        put(rt, &mut table, wild(place))?;
+    }
+    Ok(table)
+}
+
+// The number of the row that comes out where the first row is taken out again and again: the last
+// ones, backwards, once the first is out, since each takes its place.
+fn number_out(count: u64) -> u64 {
+    wild((MANY - count % MANY) % MANY)
+}
+
+// Takes out the first row so many times.
+fn take_first(rt: &impl Abort, table: &mut NumberTable<u64>, count: u64) {
+    for out in 0..count {
+        take(rt, table, 0, number_out(out));
+    }
+}
+
+// Puts the rows that were so taken out behind the others, in the order in which they came out.
+fn put_back(rt: &impl Abort, table: &mut NumberTable<u64>, count: u64) -> Result<(), AllocError> {
+    for out in 0..count {
+        is_absent(rt, table, number_out(out));
+        put(rt, table, number_out(out))?;
+    }
+    Ok(())
+}
+
+// The rows before a place are those that were put there, but for the first.
+fn has_stayed(rt: &impl Abort, table: &NumberTable<u64>, end: u64) {
+    for place in 1..end {
+        let number = wild(place);
+        stands(rt, table, place as usize, number, value_of(number));
+    }
+}
+
+// From a place on the rows are those that were put back.
+fn has_put_back(rt: &impl Abort, table: &NumberTable<u64>, first: u64, count: u64) {
+    for out in 0..count {
+        let number = number_out(out);
+        let place = first.saturating_add(out) as usize;
+        stands(rt, table, place, number, value_of(number));
+    }
+}
+
+#[test]
+fn wild_numbers_come_back(rt: HostRuntime) -> Result<(), Fail> {
+    let mut table = filled_wildly(&rt, rt.alloc())?;
+    take_first(&rt, &mut table, 300);
+    put_back(&rt, &mut table, 300)?;
+    assert_eq!(rt; table.len(), 1_000);
+    stands(&rt, &table, 0, wild(700), value_of(wild(700)));
+    has_stayed(&rt, &table, 700);
+    has_put_back(&rt, &table, 700, 300);
+    Ok(())
+}

@@ -1,6 +1,6 @@
--- Rows under numbers, and how the place of a number is found.
-use Rattle.std.specs.Prelude.{◌≡◌, ◌+◌, ◌<◌, ◌⊎◌, ℕ, List, length, slice_get, slice_index, nat_eq}
-use Rattle.std.specs.Prelude.{Bool, IsTrue, if◌then◌else◌, Option, Some, option_map}
+-- Rows under numbers.
+use Rattle.std.specs.Prelude.{◌≡◌, ℕ, List, slice_get, nat_eq}
+use Rattle.std.specs.Prelude.{if◌then◌else◌, Option, Some}
 use Rattle.std.specs.List.{IsDistinct}
 use Rattle.std.specs.Map.{lookup, keys_of}
 
@@ -30,34 +30,3 @@ module _ {V : Type 0} where
   Updates old new number value =
       (other : ℕ) → lookup (nat_eq other) new
       ≡ (if nat_eq number other then value else lookup (nat_eq other) old)
-
--- there is a second run, and counted up from its base the place has the number
-abbrev pub FollowsSecond : Option ℕ → ℕ → ℕ → Type 0
-FollowsSecond second number place = option_map (λ base. base + place) second ≡ Some number
-
--- counted up from the first, or from the base of the second run, the place has the number
-abbrev pub Follows : ℕ → Option ℕ → ℕ → ℕ → Type 0
-Follows first second number place =
-    (number ≡ first + place) ⊎ FollowsSecond second number place
-
--- the place is the number's in one of the two runs, or it is noted for it
-abbrev pub IsNoted : ℕ → Option ℕ → List (ℕ × ℕ) → ℕ → ℕ → Type 0
-IsNoted first second others number place =
-    Follows first second number place ⊎ (lookup (nat_eq number) others ≡ Some place)
-
--- the number at the place, if there is one, is found there by the two runs or by what is noted
-abbrev pub IsFoundAt : ℕ → Option ℕ → List (ℕ × ℕ) → List ℕ → ℕ → Type 0
-IsFoundAt first second others numbers place =
-    place < length numbers → IsNoted first second others (slice_index numbers place) place
-
--- each number is found at its place by the two runs or by what is noted
-abbrev pub AreFound : ℕ → Option ℕ → List (ℕ × ℕ) → List ℕ → Type 0
-AreFound first second others numbers =
-    (place : ℕ) → IsFoundAt first second others numbers place
-
--- no number has two rows, and in a table that is whole each is found by the two runs or a note
-pub record IsTable
-    (numbers : List ℕ) (first : ℕ) (second : Option ℕ) (others : List (ℕ × ℕ)) (is_whole : Bool)
-    : Type 0 where
-  pub distinct : IsDistinct nat_eq numbers
-  pub found : IsTrue is_whole → AreFound first second others numbers

@@ -2,7 +2,6 @@
 #![tactic(auto)]
 
 mod changes;
-mod notes;
 mod table;
 
 pub use table::NumberTable;

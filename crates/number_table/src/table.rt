@@ -1,76 +1,39 @@
 //! The table, and what is read of it.
-ghost use Rattle.std.specs.Prelude.{◌≡◌, ◌^◌, ◌<◌, ◌+◌, ◌↔◌, ℕ, [], length, None, slice_get, nat_eq};
-ghost use Rattle.std.specs.Prelude.{option_map, option_copied, Some, IsSome, IfSome, IfNone};
+ghost use Rattle.std.specs.Prelude.{◌≡◌, ◌^◌, ◌<◌, ◌↔◌, [], length, None, slice_get, nat_eq};
+ghost use Rattle.std.specs.Prelude.{option_map, option_copied, IsSome, IfSome, IfNone};
 ghost use Rattle.std.specs.Prelude.{IfOk, IsOk, IsTrue};
 ghost use Rattle.std.specs.Map.{lookup, values_of};
-ghost use Rattle.number_table.specs.Rows.{AreDistinct, FollowsSecond, HasNumberAt};
+ghost use Rattle.number_table.specs.Rows.{AreDistinct, HasNumberAt};
 
-use crate::notes::{Others, noted_place, place_among};
 use indexmap::IndexMap;
 use number_hash::NumberHash;
 use std::alloc::{AllocError, Global};
 use std::marker::Model;
 
-/// Values under numbers, in order of entry. Numbers mostly follow one another without a gap, in a
-/// run from the first on or in a second one that comes later and stands apart. The place of each is
-/// then known from the number that its run begins with; only a number that stands elsewhere has an
-/// entry in an index.
+/// Values under numbers, in order of entry.
 ///
-/// Only `push` fails where memory runs out. If a place can't be noted, the numbers that stand
-/// elsewhere are sought among all rows from then on.
+/// Numbers mostly follow one another without a gap, so the row of one is looked for first where it
+/// would then be, counted from the second row, since the first may stand apart, and from the last.
+/// Only where another number stands there is it hashed.
+///
+/// Only `push` fails where memory runs out.
 pub struct NumberTable<V> {
-    pub(crate) rows: Vec<(u64, V)>,
-    // Where numbers stand that follow in neither run. What it has of others is out of date, so a
-    // place counts only if the row there has the number.
-    pub(crate) others: Others,
-    // The number that the first row would have if it was followed without a gap.
-    pub(crate) first: u64,
-    // The number that the first row would have if the numbers of the second run, which came later
-    // and stand apart, went back to it without a gap. None until a number stands apart.
-    pub(crate) second: Option<u64>,
-    // Whether each number is found by the three above.
-    pub(crate) is_whole: bool,
+    pub(crate) rows: IndexMap<u64, V, NumberHash>,
 }
 
 // Written out, so that the end of one is a single call in a caller's proof.
 impl<V: Drop> Drop for NumberTable<V> {
     fn drop(self) {
-        let NumberTable {
-            rows: _rows,
-            others: _others,
-            first: _first,
-            second: _second,
-            is_whole: _is_whole,
-        } = self;
+        let NumberTable { rows: _rows } = self;
     }
 }
 
 impl<V> Model for NumberTable<V> {
-    ghost use Rattle.number_table.specs.Rows.{Rows, IsTable, numbers_of};
+    ghost use Rattle.number_table.specs.Rows.{Rows};
 
     ghost Value = { Rows V };
 
-    ghost view = { λ a. a.rows.items };
-
-    ghost invariant = { λ a.
-        IsTable (numbers_of a.rows.items) a.first a.second a.others.entries a.is_whole };
-}
-
-// Where a number stands if all from the first followed one another, as they mostly do.
-fn place_after(first: u64, number: u64) -> usize
-    ensures { (place : ℕ) → number ≡ first + place → result ≡ place }
-{
-    number.wrapping_sub(first) as usize
-}
-
-// Where a number stands if it is of the second run.
-fn place_in_second(second: Option<u64>, number: u64) -> usize
-    ensures { (place : ℕ) → FollowsSecond second number place → result ≡ place }
-{
-    match second {
-        Some(base) => place_after(base, number),
-        None => 0,
-    }
+    ghost view = { λ a. a.rows.entries };
 }
 
 impl<V> NumberTable<V> {
@@ -79,36 +42,28 @@ impl<V> NumberTable<V> {
         ensures { result ≡ [] }
     {
         NumberTable {
-            rows: Vec::new(alloc),
-            others: IndexMap::with_hasher(alloc, hash),
-            first: 0,
-            second: None,
-            is_whole: true,
+            rows: IndexMap::with_hasher(alloc, hash),
         }
     }
 
-    /// No rows, and room for so many whose numbers follow one another.
+    /// No rows, and room for so many.
     pub fn with_room(alloc: Global, hash: NumberHash, rows: usize) -> Result<Self, AllocError>
         ensures none { IfOk result (λ table. table ≡ []) }
         ensures succeeds { rows ≡ 0 → IsOk result }
     {
         Ok(NumberTable {
-            rows: Vec::with_capacity(alloc, rows)?,
-            others: IndexMap::with_hasher(alloc, hash),
-            first: 0,
-            second: None,
-            is_whole: true,
+            rows: IndexMap::with_capacity_and_hasher(alloc, rows, hash)?,
         })
     }
 
     /// What the table takes its memory from.
     pub fn allocator(&self) -> Global {
-        *self.others.allocator()
+        *self.rows.allocator()
     }
 
     /// How the table finds numbers that don't follow one another.
     pub fn hash(&self) -> NumberHash {
-        *self.others.hasher()
+        *self.rows.hasher()
     }
 
     /// The number of rows. No number has two.
@@ -126,14 +81,22 @@ impl<V> NumberTable<V> {
         ensures found { IsSome result ↔ (place < length self.now) }
         ensures value { IfSome result (λ r. lookup (nat_eq r.0) self.now ≡ Some r.1.now) }
     {
-        let (number, value) = self.rows.get(place)?;
+        let (number, value) = self.rows.get_index(place)?;
         Some((*number, value))
     }
 
-    // Where a number stands if all up to the last followed one another, as the newest mostly do.
+    // Where a number stands if all from the second row's on follow one another, as they mostly do.
+    fn place_from_second(&self, number: u64) -> usize {
+        match self.rows.get_index(1) {
+            Some((second, _)) => number.wrapping_sub(*second).wrapping_add(1) as usize,
+            None => 0,
+        }
+    }
+
+    // Where a number stands if all up to the last row's follow one another, as the newest mostly do.
     fn place_from_last(&self, number: u64) -> usize {
         let last = self.rows.len().wrapping_sub(1);
-        match self.rows.get(last) {
+        match self.rows.get_index(last) {
             Some((other, _)) => last.wrapping_sub(other.wrapping_sub(number) as usize),
             None => 0,
         }
@@ -144,7 +107,7 @@ impl<V> NumberTable<V> {
     fn is_at(&self, place: usize, number: u64) -> bool
         ensures { IsTrue result ↔ HasNumberAt self.now place number }
     {
-        match self.rows.get(place) {
+        match self.rows.get_index(place) {
             Some((other, _)) => *other == number,
             None => false,
         }
@@ -159,59 +122,41 @@ impl<V> NumberTable<V> {
         ensures none { IfNone result (lookup (nat_eq number) self.now ≡ None) }
         ensures distinct { AreDistinct self.now }
     {
-        let _rows = self.len();
-        let guess = place_after(self.first, number);
-        if self.is_at(guess, number) {
-            return Some(guess);
+        let _rows = self.rows.len();
+        let likely = self.place_from_second(number);
+        if self.is_at(likely, number) {
+            return Some(likely);
         }
         self.find_place(number)
     }
 
-    // The place of the row with a number. It is looked for first where it mostly is, in either run
-    // and from the last. Who calls has mostly looked from the first, in place, and comes here where
-    // it isn't there.
+    // The place of the row with a number that isn't where it would be, counted from the second row.
     #[cold]
     #[inline(never)]
     fn find_place(&self, number: u64) -> Option<usize>
         ensures there { IfSome result (λ place. HasNumberAt self.now place number) }
         ensures none { IfNone result (lookup (nat_eq number) self.now ≡ None) }
     {
-        let guess = place_after(self.first, number);
-        if self.is_at(guess, number) {
-            return Some(guess);
-        }
-        let second = place_in_second(self.second, number);
-        if self.is_at(second, number) {
-            return Some(second);
-        }
-        let guess = self.place_from_last(number);
-        if self.is_at(guess, number) {
-            return Some(guess);
-        }
-        if !self.is_whole {
-            return place_among(&self.rows, number);
-        }
-        let place = noted_place(&self.others, number)?;
+        let place = self.place_from_last(number);
         if self.is_at(place, number) {
-            Some(place)
-        } else {
-            None
+            return Some(place);
         }
+        self.rows.get_index_of(&number)
     }
 
-    /// The value under the number. What reads mostly finds it at the first guess.
+    /// The value under the number. What reads mostly finds it at the first place.
     #[inline(always)]
     pub fn get(&self, number: u64) -> Option<&V>
         ensures { option_copied result ≡ lookup (nat_eq number) self.now }
     {
-        let guess = place_after(self.first, number);
-        if let Some((other, value)) = self.rows.get(guess) {
+        let likely = self.place_from_second(number);
+        if let Some((other, value)) = self.rows.get_index(likely) {
             if *other == number {
                 return Some(value);
             }
         }
         let place = self.find_place(number)?;
-        let (_, value) = self.rows.get(place)?;
+        let (_, value) = self.rows.get_index(place)?;
         Some(value)
     }
 }
