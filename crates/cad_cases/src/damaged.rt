@@ -47,7 +47,7 @@ fn jobs_cut_in_a_record(rt: HostRuntime) -> Result<(), Fail> {
         (
             b"divide,1,1 3".as_slice(),
             b"".as_slice(),
-            Err(JobFault::Read),
+            Err(JobFault::Length),
         ),
     ] {
         let mut job = lines(rt.alloc(), &[PLAN, SQUARE, OPEN])?;

@@ -195,7 +195,7 @@ fn a_short_record_and_a_flush_that_fails(rt: HostRuntime) -> Result<(), Fail> {
     let mut job = lines(rt.alloc(), JOB)?;
     job.extend_from_slice(b"undo,,,,\nundo,,,,,,\n")?;
     let answers = answers_to(rt.alloc(), 5)?;
-    for (fails_from, fault) in [(u64::MAX, JobFault::Read), (6, JobFault::Write)] {
+    for (fails_from, fault) in [(u64::MAX, JobFault::Length), (6, JobFault::Write)] {
         let mut sink = MemSink::new(rt.alloc(), fails_from);
         let end = run_deep(&rt, job.as_slice(), &mut sink);
         assert_eq!(rt; end, Err(fault));
@@ -239,6 +239,7 @@ fn statuses_and_lines(rt: HostRuntime) -> Result<(), Fail> {
             "cadedit: plan fault 12 no-open",
         ),
         (JobFault::Read, 3, "cadedit: read fault"),
+        (JobFault::Length, 3, "cadedit: read fault"),
         (JobFault::Write, 3, "cadedit: write fault"),
         (JobFault::Long, 4, "cadedit: too many records"),
         (JobFault::Memory, 5, "cadedit: out of memory"),

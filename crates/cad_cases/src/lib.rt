@@ -18,6 +18,8 @@ mod dividing;
 #[cfg(test)]
 mod enclosing;
 #[cfg(test)]
+mod face_rings;
+#[cfg(test)]
 mod faults;
 #[cfg(test)]
 mod files;

@@ -128,12 +128,12 @@ fn lines_of_all_kinds(rt: HostRuntime) -> Result<(), Fail> {
         (
             b"plan,1,,,,,\nopen,,,,,,\nx\n".as_slice(),
             b"".as_slice(),
-            Err(JobFault::Read),
+            Err(JobFault::Length),
         ),
         (
             b"plan,1,,,,,\nopen,,,,,,\nundo,,,,,,\nundo,,,,,\nundo,,,,,,\n".as_slice(),
             b"nothing,,,,,,\n".as_slice(),
-            Err(JobFault::Read),
+            Err(JobFault::Length),
         ),
         (
             b"plan,1,,,,,\nsource,1,\xff,,,,\nopen,,,,,,\n".as_slice(),

@@ -1,7 +1,7 @@
 -- One record more.
-use Rattle.std.proofs.Common.{◌≡◌, ◌∙◌, sym, ap, refl, ℕ, List, [], ◌∷◌, ◌++◌, Option, Some, None, true, false, inl, inr, length, option_map, IfSome}
+use Rattle.std.proofs.Common.{◌≡◌, ◌∙◌, sym, ap, refl, ℕ, List, [], ◌∷◌, ◌++◌, Option, Some, None, true, false, inl, inr, length, option_map, ◌≢◌, IfSome}
 use Rattle.std.proofs.lemmas.List.Elements.{All-push, All-nil}
-use Rattle.csv.specs.Reading.{Reached, ReadRecord, default_config, source_of, strip_bom, reader_trim, reader_config, reader_state, is_flexible, names_headers, reader_headers, expected_len, took_first}
+use Rattle.csv.specs.Reading.{Reached, ReadRecord, ReadsNext, NextIs, TookRecord, pending_of, default_config, source_of, strip_bom, reader_trim, reader_config, reader_state, is_flexible, names_headers, reader_headers, expected_len, took_first}
 use Rattle.csv.specs.declared.reader.Reader.{Reader}
 use Rattle.csv.specs.declared.reader.Trim.TheVariants as trim
 use Rattle.std.proofs.Common.{ap₂}
@@ -9,8 +9,8 @@ use Rattle.csv.specs.Machine.{Read, next_record}
 use Rattle.csv.specs.declared.parser.Config.{Config}
 use Rattle.csv.specs.declared.parser.State.{State}
 use Rattle.csv.specs.declared.parser.State.TheVariants as st
-use Rattle.csv.proofs.ReadFacts.{rows-more, rows-end}
-use Rattle.cad_files.specs.Input.{HasRead, IsWhole, BeginsWith}
+use Rattle.csv.proofs.ReadFacts.{reached-more, rows-more, rows-end}
+use Rattle.cad_files.specs.Input.{HasRead, IsWhole, BeginsWith, IsOfOtherLength}
 
 pub has_read-more : {R : Type 0} (rem : R → Option (List ℕ)) (a b : Reader R) (fields : List (List ℕ)) (text : List ℕ) (rows : List (List (List ℕ)))
     → HasRead rem text rows a → ReadRecord rem a b true fields → took_first b ≡ true → is_flexible b ≡ is_flexible a
@@ -29,6 +29,29 @@ has_read-more rem a b fields text rows h r first same =
 pub has_read-end : {R : Type 0} (rem : R → Option (List ℕ)) (a b : Reader R) (fields : List (List ℕ)) (text : List ℕ) (rows : List (List (List ℕ)))
     → HasRead rem text rows a → ReadRecord rem a b false fields → IsWhole text rows
 has_read-end rem a b fields text rows h r = (reader_state a, h.reached.0, h.reached.2, rows-end rem a b fields default_config h.reached.0 h.config h.reached.1 r)
+
+-- what a read found begins behind what was read
+begins-found : (text rest after : List ℕ) (rows : List (List (List ℕ))) (s s2 : State) (fields : List (List ℕ)) (o : Option Read)
+    → Reached default_config st.StartRecord text rows s rest → next_record default_config s [] [] rest ≡ o → NextIs o true fields s2 after → BeginsWith text (rows ++ (fields ∷ []))
+begins-found text rest after rows s s2 fields None reached next found = cc found
+begins-found text rest after rows s s2 fields (Some p) reached next found =
+    (p.1, p.2, rw found.1 (reached-more default_config st.StartRecord s text rest rows p reached next))
+
+begins-next : (text rest : List ℕ) (rows : List (List (List ℕ))) (s s2 : State) (fields : List (List ℕ)) (after : Option (List ℕ))
+    → Reached default_config st.StartRecord text rows s rest → ReadsNext default_config s (Some rest) after true fields s2 → BeginsWith text (rows ++ (fields ∷ []))
+begins-next text rest rows s s2 fields None reached reads = absurd reads
+begins-next text rest rows s s2 fields (Some after) reached reads = begins-found text rest after rows s s2 fields _ reached refl reads
+
+-- a record of another length begins behind those that were read
+pub has_read-other : {R : Type 0} (rem : R → Option (List ℕ)) (a b : Reader R) (fields : List (List ℕ)) (expected : ℕ) (text : List ℕ) (rows : List (List (List ℕ)))
+    → HasRead rem text rows a → TookRecord rem a b fields → expected_len a ≡ Some expected → expected ≢ length fields → IsOfOtherLength text rows
+has_read-other rem a b fields expected text rows h took is_expected other =
+    let config = h.config in
+    let source = h.reached.1 in (
+      fields,
+      begins-next text h.reached.0 rows (reader_state a) (reader_state b) fields (pending_of (rem b.rdr) b) h.reached.2 (rw (config, source) at took),
+      λ k d lt. λ same. other (let expects : Some expected ≡ Some (length fields) = sym is_expected ∙ h.lengths k d lt ∙ ap (λ n. Some n) same in cc),
+    )
 
 pub begins : {R : Type 0} (rem : R → Option (List ℕ)) (text : List ℕ) (rows : List (List (List ℕ))) (a : Reader R) → HasRead rem text rows a → BeginsWith text rows
 begins rem text rows a h = (reader_state a, h.reached.0, h.reached.2)

@@ -1,9 +1,9 @@
 //! Reading an input record by record.
 
-ghost use Rattle.std.specs.Prelude.{◌≡◌, ◌++◌, ◌∷◌, [], ℕ, List, IfOk, IfSome, true, false};
+ghost use Rattle.std.specs.Prelude.{◌≡◌, ◌++◌, ◌∷◌, [], ℕ, List, IfOk, IfErr, IfSome, true, false};
 ghost use Rattle.csv.specs.Reading.{strip_bom};
 ghost use Rattle.csv.specs.Records.{fields_of};
-ghost use Rattle.cad_files.specs.Input.{HasRead, IsWhole, BeginsWith};
+ghost use Rattle.cad_files.specs.Input.{HasRead, IsWhole, BeginsWith, IsOfOtherLength};
 
 use csv::{ByteRecord, ErrorKind, Reader, ReaderBuilder};
 use std::alloc::Global;
@@ -12,8 +12,10 @@ use std::io::Read;
 /// Why an input could not be read on.
 #[derive(Clone, Copy, Debug, PartialEq, Eq)]
 pub enum InputFault {
-    /// The reader failed, or a record has another number of fields than the first.
+    /// The reader failed.
     Read,
+    /// A record has another number of fields than the first.
+    Length,
     /// A growth was refused.
     Memory,
 }
@@ -37,11 +39,15 @@ pub fn next_row<R: Read>(reader: &mut Reader<R>, row: &mut ByteRecord) -> Result
     ensures ends { IfOk result (λ found. found ≡ false
         → (text : List ℕ) (rows : List (List (List ℕ))) →
         HasRead R.remaining text rows reader.old → IsWhole text rows) }
+    ensures length { IfErr result (λ fault. fault ≡ InputFault.Length
+        → (text : List ℕ) (rows : List (List (List ℕ))) →
+        HasRead R.remaining text rows reader.old → IsOfOtherLength text rows) }
 {
     match reader.read_byte_record(row) {
         Ok(found) => Ok(found),
         Err(e) => match e.kind() {
             ErrorKind::OutOfMemory => Err(InputFault::Memory),
+            ErrorKind::UnequalLengths { .. } => Err(InputFault::Length),
             _ => Err(InputFault::Read),
         },
     }

@@ -9,7 +9,7 @@ use crate::list_texts::list_text;
 use crate::plan_texts::face_number;
 use crate::writing::{finished, write_record, writer as new_writer};
 use cad_history::Answer;
-use cad_map::{MapView, outline};
+use cad_map::MapView;
 use cad_rings::Ring;
 use cad_rows::{Face, Memory, Name, Refusal};
 use csv::Writer;
@@ -91,7 +91,7 @@ pub fn outline_text<M: MapView>(alloc: Global, view: &M, face: Face) -> Result<V
     requires { IsValid (M.map view.now) }
     ensures { IfOk result (λ text. text.items ≡ text_of (outline_answer (M.map view.now) face)) }
 {
-    match outline(alloc, view, face)? {
+    match view.outline(alloc, face)? {
         Some(rings) => {
             let around = outlines(face);
             rings_text(alloc, &face, rings.as_slice(), around)

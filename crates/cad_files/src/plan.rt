@@ -198,6 +198,7 @@ pub fn read_plan<R: Read>(alloc: Global, reader: &mut Reader<R>) -> Result<PlanR
         Ok(true) => {}
         Ok(false) => return Err(PlanFault::NoOpen),
         Err(InputFault::Read) => return Err(PlanFault::Read),
+        Err(InputFault::Length) => return Err(PlanFault::Read),
         Err(InputFault::Memory) => return Err(PlanFault::Memory),
     }
     let version = match take_first(&row) {
@@ -211,6 +212,7 @@ pub fn read_plan<R: Read>(alloc: Global, reader: &mut Reader<R>) -> Result<PlanR
             Ok(true) => {}
             Ok(false) => return Err(PlanFault::NoOpen),
             Err(InputFault::Read) => return Err(PlanFault::Read),
+            Err(InputFault::Length) => return Err(PlanFault::Read),
             Err(InputFault::Memory) => return Err(PlanFault::Memory),
         }
         match take_row(alloc, version, count, &mut rows, &row) {

@@ -1,5 +1,5 @@
 -- From the parts of a job to the whole.
-use Rattle.std.proofs.Common.{◌≡◌, ◌≢◌, ◌≤◌, sym, refl, ℕ, List, [], ◌∷◌, ◌++◌, append-nil, append_assoc, subst, Bool, true, false, Option, Some, None, Result, Ok, Err, inl, inr, ◌⊎◌, IfOk, length}
+use Rattle.std.proofs.Common.{◌≡◌, ◌≢◌, ◌≤◌, sym, refl, ℕ, List, [], ◌∷◌, ◌++◌, append-nil, append_assoc, subst, Bool, true, false, Option, Some, None, Result, Ok, Err, inl, inr, ◌⊎◌, IfOk, length, ◌∙◌, arith, All}
 use Rattle.csv.specs.declared.reader.Reader.{Reader}
 use Rattle.cad_map.specs.Map.{Map}
 use Rattle.cad_files.specs.Input.{HasRead, AreTaken}
@@ -27,6 +27,7 @@ pub script_job : (stop : Bool) (result : Result (Option ℕ) JobFault) (text : L
 script_job stop (Ok x) text plan rows m depth written p b h = (plan, rows, m, p, few-opened plan rows p, b, h)
 script_job stop (Err (faults.Plan fault)) text plan rows m depth written p b h = absurd h
 script_job stop (Err faults.Read) text plan rows m depth written p b h = inr (plan, rows, m, p, few-opened plan rows p, b, h)
+script_job stop (Err faults.Length) text plan rows m depth written p b h = (plan, rows, m, p, few-opened plan rows p, b, h)
 script_job stop (Err faults.Long) text plan rows m depth written p b h = (plan, rows, m, p, few-opened plan rows p, b, h)
 script_job stop (Err faults.Write) text plan rows m depth written p b h = (plan, rows, m, p, few-opened plan rows p, b, h)
 script_job stop (Err faults.Memory) text plan rows m depth written p b h = inr (plan, rows, m, p, few-opened plan rows p, b, h)
@@ -57,6 +58,8 @@ pub ended_as_well : (X : Type 0) (f : JobFault) (text : List ℕ) (plan : List (
     → DoesUntil false text plan m depth written (Err f) → DoesScript {X = X} text plan m depth written (Err f)
 ended_as_well X (faults.Plan fault) text plan m depth written h = absurd h
 ended_as_well X faults.Read text plan m depth written (script, all, few, (end, told)) = (script, all, few, (end, through-answered false _ script written end told))
+ended_as_well X faults.Length text plan m depth written (script, next, all, begins, other, few, (end, told)) =
+    (script, next, all, begins, other, few, (end, through-answered false _ script written end told))
 ended_as_well X faults.Long text plan m depth written (script, next, all, most, (end, told)) = (script, next, all, most, (end, through-answered false _ script written end told))
 ended_as_well X faults.Write text plan m depth written h = h
 ended_as_well X faults.Memory text plan m depth written h = h
@@ -70,6 +73,7 @@ planned_ended f text depth written (plan, rows, m, opens, few, built, does) = (p
 
 pub job_ended : (f : JobFault) (text : List ℕ) (depth : ℕ) (written : List ℕ) → DoesJobUntil false text depth written (Err f) → DoesJob {X = Unit {0}} text depth written (Err f)
 job_ended (faults.Plan fault) text depth written h = h
+job_ended faults.Length text depth written h = planned_ended faults.Length text depth written h
 job_ended faults.Long text depth written h = planned_ended faults.Long text depth written h
 job_ended faults.Write text depth written h = planned_ended faults.Write text depth written h
 job_ended faults.Read text depth written (inl none) = inl none
@@ -92,6 +96,12 @@ not_write (plan_faults.Dangling n) h = cc
 not_write (plan_faults.Corner n) h = cc
 not_write (plan_faults.Labels n) h = cc
 not_write (plan_faults.Breaks r) h = cc
+
+-- behind an open plan, a record whose number of fields is none of those before it hasn't seven
+pub other_than_seven : (plan script : List (List (List ℕ))) (rows : Rows) (next : List (List ℕ)) → plan_of plan ≡ opened rows
+    → All (λ fields. length fields ≡ 7) (plan ++ script) → All (λ fields. length fields ≢ length next) (plan ++ script) → length next ≢ 7
+other_than_seven [] script rows next opens seven other = λ e. let bad = opens in cc
+other_than_seven (first ∷ rest) script rows next opens seven other = λ e. other 0 first (omega arith) (seven 0 first (omega arith) ∙ sym e)
 
 -- all of a job text begins it
 pub front-whole : (m : Map) (depth : ℕ) (script : List (List (List ℕ))) (written : List ℕ) → IsJobText m depth script written → BeginsJobText m depth script written

@@ -8,7 +8,7 @@ use Rattle.cad_history.specs.Steps.{Step}
 use Rattle.cad_history.specs.declared.commands.Command.{Command}
 use Rattle.cad_history.specs.declared.commands.Answer.{Answer}
 use Rattle.cad_history.specs.declared.commands.Answer.TheVariants as answer
-use Rattle.cad_files.specs.Input.{IsWhole, AreTaken}
+use Rattle.cad_files.specs.Input.{BeginsWith, IsWhole, AreTaken}
 use Rattle.cad_files.specs.Sinks.{IsFront}
 use Rattle.cad_files.specs.Rows.{Rows, plan_limit}
 use Rattle.cad_files.specs.Plan.{plan_of, opened, HasPlanFault}
@@ -62,13 +62,15 @@ script_limit = 1000000
 
 -- What was written for a text whose records begin with a plan of this map, and which records of its script were taken: each of all these has seven fields.
 -- Done: the answers to all the records of the script, at most 1,000,000.
--- Read: the answers to the records before.
+-- Read: the answers to the records that were read before.
+-- Length: the answers to the records before one that hasn't seven fields.
 -- Long: the answers to the first 1,000,000 records, and there is one more.
 -- Write and Memory: a front of the answers to some first records.
 abbrev pub DoesScript : {X : Type 0} → List ℕ → List (List (List ℕ)) → Map → ℕ → List ℕ → Result X JobFault → Type 0
 DoesScript text plan m depth written (Ok _) = (script : List (List (List ℕ))) × IsWhole text (plan ++ script) × AreTaken text (plan ++ script) × (length script ≤ script_limit) × IsJobText m depth script written
 DoesScript text plan m depth written (Err (fault.Plan f)) = ⊥
 DoesScript text plan m depth written (Err fault.Read) = (script : List (List (List ℕ))) × AreTaken text (plan ++ script) × (length script ≤ script_limit) × IsJobText m depth script written
+DoesScript text plan m depth written (Err fault.Length) = (script : List (List (List ℕ))) × (next : List (List ℕ)) × AreTaken text (plan ++ script) × BeginsWith text (plan ++ script ++ next ∷ []) × (length next ≢ 7) × (length script ≤ script_limit) × IsJobText m depth script written
 DoesScript text plan m depth written (Err fault.Long) = (script : List (List (List ℕ))) × (next : List (List ℕ)) × AreTaken text (plan ++ script ++ next ∷ []) × (length script ≡ script_limit) × IsJobText m depth script written
 DoesScript text plan m depth written (Err fault.Write) = (script : List (List (List ℕ))) × AreTaken text (plan ++ script) × (length script ≤ script_limit) × BeginsJobText m depth script written
 DoesScript text plan m depth written (Err fault.Memory) = (script : List (List (List ℕ))) × AreTaken text (plan ++ script) × (length script ≤ script_limit) × BeginsJobText m depth script written
@@ -88,6 +90,7 @@ IsFaultyPlan text f =
 abbrev pub DoesJob : {X : Type 0} → List ℕ → ℕ → List ℕ → Result X JobFault → Type 0
 DoesJob text depth written (Ok x) = DoesPlanned text depth written (Ok x)
 DoesJob text depth written (Err (fault.Plan f)) = (written ≡ []) × (f ≢ plan_fault.Read) × (f ≢ plan_fault.Memory) × IsFaultyPlan text f
+DoesJob text depth written (Err fault.Length) = DoesPlanned {X = Unit {0}} text depth written (Err fault.Length)
 DoesJob text depth written (Err fault.Long) = DoesPlanned {X = Unit {0}} text depth written (Err fault.Long)
 DoesJob text depth written (Err fault.Write) = DoesPlanned {X = Unit {0}} text depth written (Err fault.Write)
 DoesJob text depth written (Err fault.Read) = (written ≡ []) ⊎ DoesPlanned {X = Unit {0}} text depth written (Err fault.Read)

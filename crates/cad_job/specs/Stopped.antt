@@ -3,7 +3,7 @@ use Rattle.std.specs.Prelude.{◌≡◌, ◌≢◌, ◌⊎◌, ◌≤◌, ◌||�
 use Rattle.std.specs.List.{starts_with}
 use Rattle.cad_map.specs.Map.{Map}
 use Rattle.cad_history.specs.History.{History, beginning}
-use Rattle.cad_files.specs.Input.{IsWhole, AreTaken}
+use Rattle.cad_files.specs.Input.{BeginsWith, IsWhole, AreTaken}
 use Rattle.cad_files.specs.Rows.{Rows, plan_limit}
 use Rattle.cad_files.specs.Plan.{plan_of, opened}
 use Rattle.cad_files.specs.Building.{IsBuilt}
@@ -40,7 +40,7 @@ IsStoppedText m depth script last text =
 
 -- What was written for a text whose records begin with a plan of this map, and which records of its script were taken.
 -- Done: the answers to all the records of the script, at most 1,000,000. Stopped: the answers to the first n of them.
--- Read, Long, Write and Memory: as of a script that doesn't stop; before Read and Long no answer was one that stops it.
+-- Read, Length, Long, Write and Memory: as of a script that doesn't stop; before the first three no answer was one that stops it.
 abbrev pub DoesUntil : Bool → List ℕ → List (List (List ℕ)) → Map → ℕ → List ℕ → Result (Option ℕ) JobFault → Type 0
 DoesUntil stop text plan m depth written (Ok None) =
     (script : List (List (List ℕ))) × IsWhole text (plan ++ script) × AreTaken text (plan ++ script) × (length script ≤ script_limit) × IsThrough stop m depth script written
@@ -50,6 +50,9 @@ DoesUntil stop text plan m depth written (Ok (Some n)) =
 DoesUntil stop text plan m depth written (Err (fault.Plan f)) = ⊥
 DoesUntil stop text plan m depth written (Err fault.Read) =
     (script : List (List (List ℕ))) × AreTaken text (plan ++ script) × (length script ≤ script_limit) × IsThrough stop m depth script written
+DoesUntil stop text plan m depth written (Err fault.Length) =
+    (script : List (List (List ℕ))) × (next : List (List ℕ)) × AreTaken text (plan ++ script) × BeginsWith text (plan ++ script ++ next ∷ [])
+    × (length next ≢ 7) × (length script ≤ script_limit) × IsThrough stop m depth script written
 DoesUntil stop text plan m depth written (Err fault.Long) =
     (script : List (List (List ℕ))) × (next : List (List ℕ)) × AreTaken text (plan ++ script ++ next ∷ []) × (length script ≡ script_limit) × IsThrough stop m depth script written
 DoesUntil stop text plan m depth written (Err fault.Write) =
@@ -68,6 +71,7 @@ DoesPlannedUntil stop text depth written result =
 abbrev pub DoesJobUntil : Bool → List ℕ → ℕ → List ℕ → Result (Option ℕ) JobFault → Type 0
 DoesJobUntil stop text depth written (Ok n) = DoesPlannedUntil stop text depth written (Ok n)
 DoesJobUntil stop text depth written (Err (fault.Plan f)) = (written ≡ []) × (f ≢ plan_fault.Read) × (f ≢ plan_fault.Memory) × IsFaultyPlan text f
+DoesJobUntil stop text depth written (Err fault.Length) = DoesPlannedUntil stop text depth written (Err fault.Length)
 DoesJobUntil stop text depth written (Err fault.Long) = DoesPlannedUntil stop text depth written (Err fault.Long)
 DoesJobUntil stop text depth written (Err fault.Write) = DoesPlannedUntil stop text depth written (Err fault.Write)
 DoesJobUntil stop text depth written (Err fault.Read) = (written ≡ []) ⊎ DoesPlannedUntil stop text depth written (Err fault.Read)

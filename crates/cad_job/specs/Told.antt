@@ -8,6 +8,7 @@ use Rattle.cad_job.specs.declared.faults.JobFault.TheVariants as fault
 abbrev pub job_fault_text : JobFault → List ℕ
 job_fault_text (fault.Plan f) = codes "cadedit: plan fault " ++ fault_text f
 job_fault_text fault.Read = codes "cadedit: read fault"
+job_fault_text fault.Length = codes "cadedit: read fault"
 job_fault_text fault.Write = codes "cadedit: write fault"
 job_fault_text fault.Long = codes "cadedit: too many records"
 job_fault_text fault.Memory = codes "cadedit: out of memory"
@@ -16,6 +17,7 @@ job_fault_text fault.Memory = codes "cadedit: out of memory"
 abbrev pub status_of : JobFault → ℕ
 status_of (fault.Plan f) = 2
 status_of fault.Read = 3
+status_of fault.Length = 3
 status_of fault.Write = 3
 status_of fault.Long = 4
 status_of fault.Memory = 5

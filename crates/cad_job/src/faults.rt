@@ -10,8 +10,10 @@ use std::fmt;
 pub enum JobFault {
     /// The plan is at fault.
     Plan(PlanFault),
-    /// The reader failed, or a record has another number of fields than the first.
+    /// The reader failed, or a record of the plan has another number of fields than the first.
     Read,
+    /// A record of the script has another number of fields than the first of all; told as `Read` is.
+    Length,
     /// The sink failed.
     Write,
     /// The script has more than 1,000,000 records.
@@ -31,6 +33,7 @@ impl fmt::Display for JobFault {
         match self {
             JobFault::Plan(fault) => write!(f, "cadedit: plan fault {fault}"),
             JobFault::Read => write!(f, "cadedit: read fault"),
+            JobFault::Length => write!(f, "cadedit: read fault"),
             JobFault::Write => write!(f, "cadedit: write fault"),
             JobFault::Long => write!(f, "cadedit: too many records"),
             JobFault::Memory => write!(f, "cadedit: out of memory"),
@@ -64,7 +67,7 @@ pub fn status(fault: &JobFault) -> u8
 {
     match fault {
         JobFault::Plan(_) => 2,
-        JobFault::Read | JobFault::Write => 3,
+        JobFault::Read | JobFault::Length | JobFault::Write => 3,
         JobFault::Long => 4,
         JobFault::Memory => 5,
     }

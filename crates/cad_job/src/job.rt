@@ -200,6 +200,7 @@ fn do_script<R: Read, S: Sink, M: MapStore + Drop>(
             Ok(true) => {}
             Ok(false) => return flushed(sink, Ok(None)),
             Err(InputFault::Read) => return flushed(sink, Err(JobFault::Read)),
+            Err(InputFault::Length) => return flushed(sink, Err(JobFault::Length)),
             Err(InputFault::Memory) => return Err(JobFault::Memory),
         }
         if turn == 1_000_000 {

@@ -1,5 +1,5 @@
 -- The rings of a map's faces, and their canonical order.
-use Rattle.std.specs.Prelude.{◌≡◌, ◌⊎◌, ◌<◌, ◌≤◌, ◌-◌, ℕ, suc, nat_lt, length, slice_index_or, Bool, true, false, ◌==◌, List, [], ◌∷◌, if◌then◌else◌}
+use Rattle.std.specs.Prelude.{◌≡◌, ◌⊎◌, ◌<◌, ◌≤◌, ◌-◌, ℕ, suc, nat_lt, length, slice_index_or, Bool, true, false, not, ◌==◌, List, [], ◌∷◌, filter, if◌then◌else◌}
 use Rattle.std.specs.List.{flat_map}
 use Rattle.std.specs.List.Sorted.{IsPartitionPoint}
 use Rattle.cad_rows.specs.declared.names.Face.{Face}
@@ -50,6 +50,10 @@ put_in_canonical_order a (b ∷ bs) = if boundary_comes_first a b then a ∷ b �
 abbrev pub canonical_order : List Boundary → List Boundary
 canonical_order [] = []
 canonical_order (b ∷ bs) = put_in_canonical_order (canonical_form b) (canonical_order bs)
+
+-- the rings of all faces but this one
+abbrev pub without_face : Face → List Boundary → List Boundary
+without_face face bs = filter (λ b. not (is_face b.face face)) bs
 
 -- ---- Where those of a face stand
 

@@ -6,21 +6,6 @@ use Rattle.cad_map.specs.declared.boundary.Boundary.{Boundary}
 use Rattle.cad_map.specs.Boundaries.{is_face}
 use Rattle.cad_map.specs.Map.{Map, has_point, has_string, has_parcel, has_source}
 
--- ---- What a record holds
-
--- how many points, strings, parcels, sources, rings and places the fields of a record hold, each item of a list counted
-pub record Holdings : Type 0 where
-  pub points : ℕ
-  pub strings : ℕ
-  pub parcels : ℕ
-  pub sources : ℕ
-  pub rings : ℕ
-  pub places : ℕ
-
--- the weight of a record: one more than all that it holds
-abbrev pub weight : Holdings → ℕ
-weight h = 1 + h.points + h.strings + h.parcels + h.sources + h.rings + h.places
-
 -- ---- Rows that one of two maps has and the other has not
 
 abbrev pub rows_missing : Map → Map → ℕ

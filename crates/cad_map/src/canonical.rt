@@ -58,12 +58,20 @@ fn make_canonical(boundaries: &mut [Boundary])
     boundaries.sort_unstable_by(canonical_cmp);
 }
 
+/// Puts boundaries in canonical order. Takes no memory.
+pub(crate) fn arrange(boundaries: &mut Vec<Boundary>)
+    ensures canonical_order { boundaries.new.items ≡ canonical_order boundaries.old.items }
+    ensures two { AllByRecursion (λ b. 2 ≤ length b.ring) boundaries.new.items }
+{
+    make_canonical(boundaries.as_mut_slice());
+}
+
 /// These boundaries in canonical order. Takes no memory.
 pub(crate) fn in_canonical_order(boundaries: Vec<Boundary>) -> Vec<Boundary>
     ensures canonical_order { result.items ≡ canonical_order boundaries.items }
     ensures two { AllByRecursion (λ b. 2 ≤ length b.ring) result.items }
 {
     let mut boundaries = boundaries;
-    make_canonical(boundaries.as_mut_slice());
+    arrange(&mut boundaries);
     boundaries
 }

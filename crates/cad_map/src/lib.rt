@@ -26,7 +26,6 @@ pub use canonical::face_place;
 pub use corner::{Corner, are_in_one_ring, chosen_corner};
 pub use laws::{faces_balance, one_list, one_outcome, one_shared_chain, parcels_add_up};
 pub use look::{far_end, is_end, is_face};
-pub use outlines::outline;
 pub use plain::PlainMap;
 pub use rings::{has_face, position, ring_sum, sum_round};
 pub use row_tables::RowTables;

@@ -19,7 +19,11 @@ use std::alloc::Global;
 /// holes, in canonical order. Each is written from the point on from which it comes before its other rotations. `None`
 /// for an unknown parcel. An error where memory runs out.
 #[tactic(auto, using(crate::proofs::Boundaries::RingsOfMap::whole_valid))]
-pub fn outline<M: MapView>(alloc: Global, map: &M, face: Face) -> Result<Option<Vec<Ring>>, Memory>
+pub(crate) fn outline<M: MapView>(
+    alloc: Global,
+    map: &M,
+    face: Face,
+) -> Result<Option<Vec<Ring>>, Memory>
     requires { IsValid (M.map map.now) }
     ensures some { IfOk result
         (λ told. IfSome told (λ rings. rings.items ≡ outline_of (M.map map.now) face)) }

@@ -1,20 +1,22 @@
 //! A map kept as rows in order of entry, and its rings in canonical order.
 ghost use Rattle.std.specs.Prelude.{◌≡◌, ◌≤◌, ◌++◌, ◌∷◌, [], None, length, map, IsSome, IfOk, OnOk, OnErr};
 ghost use Rattle.std.specs.List.{AllByRecursion};
-ghost use Rattle.cad_map.specs.Boundaries.{canonical_order};
+ghost use Rattle.cad_map.specs.Boundaries.{bounding, canonical_order, without_face};
+ghost use Rattle.cad_rows.specs.declared.names.Face.TheVariants.{Parcel};
 ghost use Rattle.cad_map.specs.Map.{empty_map, rings_at, source_of, point_of, parcel_of, string_of};
 ghost use Rattle.cad_map.specs.RowTables.{rows_of_tables};
 ghost use Rattle.cad_map.specs.Table.{without_row, with_row};
 ghost use Rattle.cad_map.specs.Valid.{IsValid};
 
 use crate::boundary::Boundary;
-use crate::canonical::in_canonical_order;
-use crate::look;
+use crate::canonical::{arrange, in_canonical_order};
+use crate::look::{self, is_face};
 use crate::retired::Retired;
 use crate::row_tables::RowTables;
 use crate::span::{Span, span_of};
 use crate::store::{Counts, MapView};
 use crate::table::{Numbered, Table};
+use cad_rings::Ring;
 use cad_rows::{
     Face, Memory, ParcelNo, ParcelRow, PointNo, PointRow, SourceNo, SourceRow, StringNo, StringRow,
 };
@@ -292,12 +294,16 @@ impl PlainMap {
         self.points.take(no.get());
     }
 
-    /// Takes the parcel with a number away, if there is one. Its rings stay.
+    /// Takes the parcel with a number away, if there is one, and its rings with it.
     pub fn take_parcel(&mut self, no: ParcelNo)
         ensures { self.new
-            ≡ record self.old { parcels = without_row (λ r. r.number) no self.old.parcels } }
+            ≡ record self.old {
+              parcels = without_row (λ r. r.number) no self.old.parcels;
+              boundaries = without_face (Parcel no) self.old.boundaries;
+            } }
     {
         self.parcels.take(no.get());
+        drop_rings(&mut self.boundaries, &Face::Parcel(no));
     }
 
     /// Takes the string with a number away, if there is one.
@@ -308,12 +314,49 @@ impl PlainMap {
         self.strings.take(no.get());
     }
 
+    /// Puts these rings in the place of those of a face, in whatever order and rotation they are given. Where memory runs out
+    /// the map stays.
+    pub fn set_rings(&mut self, face: Face, rings: Vec<Ring>) -> Result<(), Memory>
+        ensures ok { OnOk result (self.new ≡ record self.old {
+          boundaries = canonical_order
+              (without_face face self.old.boundaries ++ map (bounding face) rings.items);
+        }) }
+        ensures err { OnErr result (self.new ≡ self.old) }
+    {
+        let mut given = boundaries_of(&face, rings)?;
+        self.boundaries.reserve(given.len())?;
+        drop_rings(&mut self.boundaries, &face);
+        self.boundaries.append(&mut given).unwrap();
+        arrange(&mut self.boundaries);
+        Ok(())
+    }
+
     /// Puts these rings in the place of all rings, in whatever order and rotation they are given. Takes no memory.
     pub fn set_boundaries(&mut self, boundaries: Vec<Boundary>)
         ensures { self.new ≡ record self.old { boundaries = canonical_order boundaries.items } }
     {
         self.boundaries = in_canonical_order(boundaries);
     }
+}
+
+// Takes the rings of a face out. Takes no memory.
+fn drop_rings(boundaries: &mut Vec<Boundary>, face: &Face)
+    ensures rings { boundaries.new.items ≡ without_face face.now boundaries.old.items }
+    ensures len { boundaries.new.len ≤ boundaries.old.len }
+    ensures capacity { boundaries.new.cap ≡ boundaries.old.cap }
+{
+    boundaries.retain(|boundary| !is_face(&boundary.face, face));
+}
+
+// These rings, with the face to their left.
+fn boundaries_of(face: &Face, rings: Vec<Ring>) -> Result<Vec<Boundary>, Memory>
+    ensures { IfOk result (λ made. made.items ≡ map (bounding face.now) rings.items) }
+{
+    let mut made = Vec::new(*rings.allocator());
+    for ring in rings {
+        made.push(Boundary { face: *face, ring })?;
+    }
+    Ok(made)
 }
 
 impl MapView for PlainMap {

@@ -1,5 +1,5 @@
 //! Maps that can be looked at, and maps that can be edited.
-ghost use Rattle.std.specs.Prelude.{◌≡◌, ℕ, ◌<◌, ◌≤◌, ◌⊎◌, List, Option, Some, length, slice_get, option_and_then, option_map, IfSome, IfNone, IfOk, IfErr, OnOk, OnErr};
+ghost use Rattle.std.specs.Prelude.{◌≡◌, ℕ, ◌<◌, ◌≤◌, ◌⊎◌, List, Option, Some, length, slice_get, option_and_then, option_map, is_some, IfSome, IfNone, IfOk, IfErr, OnOk, OnErr};
 ghost use Rattle.std.specs.Option.{option_copied};
 ghost use Rattle.std.specs.List.{AllByRecursion};
 ghost use Rattle.std.specs.List.Sorted.{IsPermutation};
@@ -9,7 +9,8 @@ ghost use Rattle.cad_rows.specs.declared.rows.StringRow.{StringRow as StringOf};
 ghost use Rattle.cad_rings.specs.Cycle.{Side};
 ghost use Rattle.cad_map.specs.declared.boundary.Boundary.{Boundary};
 ghost use Rattle.cad_map.specs.Boundaries.{canonical_order};
-ghost use Rattle.cad_map.specs.Map.{Map, source_of, point_of, parcel_of, string_of, is_retired as is_retired_in, strings_at, degree as degree_of, far_end, rings_at, sum_of_ring};
+ghost use Rattle.cad_map.specs.Map.{Map, source_of, point_of, parcel_of, string_of, is_retired as is_retired_in, strings_at, degree as degree_of, far_end, rings_at, sum_of_ring, has_face};
+ghost use Rattle.cad_map.specs.Outline.{outline_of};
 ghost use Rattle.cad_map.specs.Rings.{HasWholeRings, ring_at};
 ghost use Rattle.cad_map.specs.Spans.{span_of};
 ghost use Rattle.cad_map.specs.Valid.{IsValid};
@@ -17,11 +18,14 @@ ghost use Rattle.cad_map.specs.Views.{HasSide, IsNoSide, ComesAfter, AreBeyond, 
 ghost use Rattle.cad_map.specs.Walk.{first_side};
 ghost use Rattle.cad_map.specs.Outcome.{LeadsTo, MayRefuse};
 
+use crate::outlines::outline;
 use crate::span::Span;
+use cad_rings::Ring;
 use cad_rows::{
     Edit, Face, Memory, ParcelNo, ParcelRow, PointNo, PointRow, Refusal, SourceNo, SourceRow,
     StringNo, StringRow,
 };
+use std::alloc::Global;
 
 /// How many rows of each kind a map has.
 #[derive(Clone, Copy, Debug, PartialEq, Eq)]
@@ -33,7 +37,7 @@ pub struct Counts {
     pub retired: usize,
 }
 
-/// A map that can be looked at, however it is kept. No call takes memory.
+/// A map that can be looked at, however it is kept. No call but `outline` takes memory.
 ///
 /// Where a map breaks the rules, several faces may have one side. Then `face_of`, `after` and `left_right` answer for
 /// one of them, and always for the same one.
@@ -193,6 +197,20 @@ pub trait MapView {
         requires there { place < length (rings_at face (rings self.now)) }
         ensures { result
             ≡ sum_of_ring doubled_area (map self.now) (ring_at (rings self.now) face place) };
+
+    /// The rings of a face: that of positive doubled area first, which runs around it, and then the others, around its
+    /// holes, in canonical order. Each is written from the point on from which it comes before its other rotations.
+    /// `None` for an unknown parcel. An error where memory runs out.
+    final fn outline(&self, alloc: Global, face: Face) -> Result<Option<Vec<Ring>>, Memory>
+    where
+        Self: Sized,
+        requires valid { IsValid (map self.now) }
+        ensures some { IfOk result
+            (λ told. IfSome told (λ rings. rings.items ≡ outline_of (map self.now) face)) }
+        ensures known { IfOk result (λ told. is_some told ≡ has_face (map self.now) face) }
+    {
+        outline(alloc, self, face)
+    }
 }
 
 /// A map that can be edited, with a record of each edit by which it is taken back and made again.

@@ -1,4 +1,5 @@
-//! Edits of a map on half-edges, taken back and made again by their records.
+//! A map on half-edges as a store: edits, taken back and made again by their records. Each call tells beside what a store
+//! owes how small the record is and how much work was done on the half-edges.
 ghost use Rattle.std.specs.Prelude.{◌≡◌, ◌≤◌, IsSome, IfOk, IfErr, OnOk, OnErr};
 ghost use Rattle.cad_map.specs.Costs.{weight_bound, work_bound};
 ghost use Rattle.cad_map.specs.Effects.{after};
@@ -14,13 +15,18 @@ use crate::ahead::read_ahead;
 use crate::half_map::HalfMap;
 use crate::play::{play, play_again, play_back};
 use cad_edit::{admit, are_in_range};
+use cad_map::MapStore;
 use cad_rows::{Edit, Memory, Refusal};
 use edit_records::{SmallRecord, are_in_range as gives_in_range};
 use half_table::Tally;
 
-impl<T: Tally> HalfMap<T> {
+impl<T: Tally> MapStore for HalfMap<T> {
+    type Record = SmallRecord;
+
+    ghost belongs = { λ r b a. Belongs r b a };
+
     /// Makes an edit, and gives its record. A refused one leaves the map as it was.
-    pub fn apply(&mut self, edit: &Edit) -> Result<SmallRecord, Refusal>
+    fn apply(&mut self, edit: &Edit) -> Result<SmallRecord, Refusal>
         requires valid { IsValid (map_of self.old) }
         // The outcome is that of the edit, both ways.
         ensures made { OnOk result (LeadsTo (map_of self.old) edit.now (map_of self.new)) }
@@ -42,7 +48,7 @@ impl<T: Tally> HalfMap<T> {
     }
 
     /// Goes from the map after an edit to the map before it. Where memory runs out the map stays.
-    pub fn back(&mut self, change: &SmallRecord) -> Result<(), Memory>
+    fn back(&mut self, change: &SmallRecord) -> Result<(), Memory>
         requires made { (before : Map) × Belongs change.now before (map_of self.old) }
         ensures before { OnOk result ((before : Map) → Belongs change.now before (map_of self.old)
             → map_of self.new ≡ before) }
@@ -55,7 +61,7 @@ impl<T: Tally> HalfMap<T> {
     }
 
     /// Goes from the map before an edit to the map after it. Where memory runs out the map stays.
-    pub fn forward(&mut self, change: &SmallRecord) -> Result<(), Memory>
+    fn forward(&mut self, change: &SmallRecord) -> Result<(), Memory>
         requires made { (after : Map) × Belongs change.now (map_of self.old) after }
         ensures after { OnOk result ((after : Map) → Belongs change.now (map_of self.old) after
             → map_of self.new ≡ after) }

@@ -12,7 +12,6 @@ mod half_map;
 mod half_map_edits;
 mod laws;
 mod play;
-mod store;
 
 pub use edit_records::{ChainString, SmallRecord, touched_by, weight};
 pub use half_map::HalfMap;

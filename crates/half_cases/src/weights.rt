@@ -8,7 +8,7 @@ use crate::far::{far_plan, long_lot};
 use crate::plans::{ISLAND, Plan, SQUARE, edit_of, map_of, text_of};
 use crate::plans_after::DIVIDED;
 use crate::plans_enclosed::WITH_FRAME;
-use cad_map::PlainMap;
+use cad_map::{MapStore, PlainMap};
 use cad_rows::Edit;
 use cad_surgery::{HalfMap, weight};
 use half_table::Ticks;

@@ -1,9 +1,9 @@
-use Rattle.std.proofs.Common.{◌++◌, ◌∷◌, [], ◌∙◌, ◌≤◌, sym, refl, ap, List, ℕ, length, append-nil, append_assoc, ◌+◌, ◌≡◌, Bool, true, false, subst, arith}
+use Rattle.std.proofs.Common.{rules, ◌++◌, ◌∷◌, [], ◌∙◌, ◌≤◌, sym, refl, ap, List, ℕ, length, append-nil, append_assoc, ◌+◌, ◌≡◌, Bool, true, false, subst, arith}
 use Rattle.std.proofs.KnownBytes.{Appends-trans, Appends-nil, Appends-kept}
 use Rattle.std.proofs.lemmas.List.{length_push}
 use Rattle.csv.specs.Records.{fields_of}
 use Rattle.cad_history.specs.History.{beginning}
-use Rattle.cad_job.proofs.JobFacts.{front-whole, flushed_does, job_taken, job_taken_more, job_taken_next}
+use Rattle.cad_job.proofs.JobFacts.{front-whole, flushed_does, other_than_seven, job_taken, job_taken_more, job_taken_next}
 use Rattle.cad_job.proofs.ScriptFacts.{AreAnswered-more, AreGoneThrough-more, through-answered}
 use Rattle.cad_job.specs.Stopped.{AreGoneThrough, stops}
 use Rattle.cad_job.proofs.job.do_script.Goals as goal
@@ -43,6 +43,18 @@ returns-in-Err-Read-clause-does g c = λ text plan rows h opens.
       so_far.written,
       Appends-kept _ _ _ _ so_far.wrote c.flushed-in-Err-Read.ensures.kept,
       flushed_does c.args.stop _ c.flushed-in-Err-Read.result text plan so_far.script (g.M.MapView.map c.args.store) c.args.depth so_far.written _ _ all few (so_far.now, through-answered c.args.stop _ so_far.script so_far.written so_far.now so_far.told) (so_far.script, all, few, (so_far.now, so_far.told)) c.flushed-in-Err-Read.ensures.ended,
+    )
+
+pub returns-in-Err-Length-clause-does : goal.returns-in-Err-Length-clause-does
+returns-in-Err-Length-clause-does g c = λ text plan rows h opens.
+    let so_far = c.loop-turn.invariant.done text plan h in
+    let all = job_taken g.R.Read.remaining text plan so_far.script c.loop-turn.reader rows opens so_far.read in
+    let few : length so_far.script ≤ 1000000 = omega (arith, so_far.count, c.loop-turn.invariant.few) in
+    let (next, begins, other) = c.in-Err-Length.ensures.length (search rules) text (plan ++ so_far.script) so_far.read in (
+      so_far.written,
+      Appends-kept _ _ _ _ so_far.wrote c.flushed-in-Err-Length.ensures.kept,
+      flushed_does c.args.stop _ c.flushed-in-Err-Length.result text plan so_far.script (g.M.MapView.map c.args.store) c.args.depth so_far.written _ _ all few (so_far.now, through-answered c.args.stop _ so_far.script so_far.written so_far.now so_far.told)
+          (so_far.script, next, all, begins, other_than_seven plan so_far.script rows next opens all.seven other, few, (so_far.now, so_far.told)) c.flushed-in-Err-Length.ensures.ended,
     )
 
 pub returns-in-Err-Memory-clause-does : goal.returns-in-Err-Memory-clause-does

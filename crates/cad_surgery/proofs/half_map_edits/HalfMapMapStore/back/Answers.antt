@@ -5,7 +5,7 @@ use Rattle.cad_map.specs.Map.{Map}
 use Rattle.map_parts.specs.Parts.{map_of}
 use Rattle.edit_records.specs.Record.{Belongs}
 use Rattle.cad_surgery.specs.Work.{TakesWork}
-use Rattle.cad_surgery.proofs.half_map.HalfMap.back.Goals as goal
+use Rattle.cad_surgery.proofs.half_map_edits.HalfMapMapStore.back.Goals as goal
 
 pub returns-clause-before : goal.returns-clause-before
 returns-clause-before g c =

@@ -4,7 +4,7 @@ use Rattle.cad_map.specs.Effects.{after}
 use Rattle.map_parts.specs.Parts.{map_of}
 use Rattle.edit_records.specs.Record.{edit_of}
 use Rattle.cad_surgery.specs.Work.{TakesWork}
-use Rattle.cad_surgery.proofs.half_map.HalfMap.forward.Goals as goal
+use Rattle.cad_surgery.proofs.half_map_edits.HalfMapMapStore.forward.Goals as goal
 
 pub returns-clause-work : goal.returns-clause-work
 returns-clause-work g c n belongs =

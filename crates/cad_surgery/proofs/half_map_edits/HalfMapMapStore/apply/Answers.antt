@@ -14,7 +14,7 @@ use Rattle.edit_records.specs.Record.{weight}
 use Rattle.edit_records.specs.declared.record.SmallRecord.{SmallRecord}
 use Rattle.cad_surgery.specs.Work.{TakesWork}
 use Rattle.cad_surgery.proofs.Weights.{weight-ok}
-use Rattle.cad_surgery.proofs.half_map.HalfMap.apply.Goals as goal
+use Rattle.cad_surgery.proofs.half_map_edits.HalfMapMapStore.apply.Goals as goal
 
 -- a refusal that is passed on may be one
 passes-on : {m : Map} {e : Edit} {why : Refusal} (r : Result SmallRecord Refusal) → IsErr r × IsErrAnd r (λ f. f ≡ why)
