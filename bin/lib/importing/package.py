@@ -14,7 +14,7 @@ from lib.importing.checking import program
 from lib.importing.command import Parser
 from lib.importing.common import Refused, check_writable, modules, one_line
 from lib.importing.styles import STYLES
-from lib.importing.tables import Tables, tables_of
+from lib.importing.tables import ITEMS, Tables, tables_of
 from lib.views import Row
 
 DONE, NOT_DONE, STOPPED = 0, 2, 130
@@ -168,7 +168,7 @@ def run(given: argparse.Namespace) -> None:
         except (RuntimeError, OSError) as error:
             raise Refused(f'{given.out} can\'t be written: {one_line(error)}') from error
     by = f'the reference system is {system}' if system else 'no reference system is named (--srs EPSG:..)'
-    print('; '.join([', '.join(f'{len(rows)} {name}' for name, rows in tables.layers.items()), by]), file=sys.stderr)
+    print('; '.join([', '.join(f'{len(tables.layers[name])} {name}' for name in ITEMS), by]), file=sys.stderr)
 
 
 def main() -> int:

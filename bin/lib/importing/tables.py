@@ -8,7 +8,7 @@ from lib.importing.common import Refused
 from lib.views import COLUMNS, NotShown, Row, table
 
 SYSTEM = re.compile(r', (EPSG:[0-9]+)$')
-ITEMS = {'points': 'point', 'parcels': 'parcel', 'strings': 'string'}  # The layers with sources, and what a row is.
+ITEMS = {'parcels': 'parcel', 'strings': 'string', 'points': 'point'}  # The layers with sources, and what a row is.
 
 
 @dataclass
@@ -21,9 +21,9 @@ class Tables:
         return {int(number): text for number, text in self.layers['sources']}
 
     def source_items(self) -> list[tuple[str, int, int]]:
-        """Which source stands at which item: the item's kind and number, and the source's number."""
-        return [(kind, int(row[0]), int(source)) for layer, kind in ITEMS.items() for row in self.layers[layer]
-                for source in row[COLUMNS[layer].index('sources')].split()]
+        """Which source stands at which item: the item's kind and number, and the source's number; points come first."""
+        return [(ITEMS[layer], int(row[0]), int(source)) for layer in ('points', 'parcels', 'strings')
+                for row in self.layers[layer] for source in row[COLUMNS[layer].index('sources')].split()]
 
     def system(self) -> str | None:
         """The reference system that the sources' texts name at their ends, where they name one and no other."""
