@@ -123,7 +123,7 @@ fn lines_of_all_kinds(rt: HostRuntime) -> Result<(), Fail> {
         (
             b"plan,1,,,,,\nx\npoint,05,5,5,,,\n".as_slice(),
             b"".as_slice(),
-            Err(JobFault::Read),
+            Err(JobFault::Length),
         ),
         (
             b"plan,1,,,,,\nopen,,,,,,\nx\n".as_slice(),

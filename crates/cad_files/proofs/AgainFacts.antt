@@ -20,7 +20,7 @@ use Rattle.cad_rows.specs.declared.rows.SourceRow.{SourceRow}
 use Rattle.cad_rings.specs.Cycle.{Side, has_side, opposite, sides_of}
 use Rattle.cad_map.specs.declared.boundary.Boundary.{Boundary}
 use Rattle.cad_map.specs.Map.{Map, has_point, has_face, face_at, side_of}
-use Rattle.cad_map.specs.Table.{row_with}
+use Rattle.numbered_rows.specs.Rows.{row_with}
 use Rattle.cad_map.specs.Valid.{EachPair, AreSources, HasSoundRows, IsValid}
 use Rattle.cad_files.specs.Fields.{repeated, distinct_of, face_of, magnitude_of, number_of, number_and_text_of}
 use Rattle.cad_files.specs.Rows.{Rows, no_rows, IsFace}

@@ -1,5 +1,5 @@
 -- One record more.
-use Rattle.std.proofs.Common.{◌≡◌, ◌∙◌, sym, ap, refl, ℕ, List, [], ◌∷◌, ◌++◌, Option, Some, None, true, false, inl, inr, length, option_map, ◌≢◌, IfSome}
+use Rattle.std.proofs.Common.{◌≡◌, ◌∙◌, sym, ap, refl, ℕ, ◌<◌, arith, List, [], ◌∷◌, ◌++◌, Option, Some, None, true, false, inl, inr, length, option_map, ◌≢◌, IfSome}
 use Rattle.std.proofs.lemmas.List.Elements.{All-push, All-nil}
 use Rattle.csv.specs.Reading.{Reached, ReadRecord, ReadsNext, NextIs, TookRecord, pending_of, default_config, source_of, strip_bom, reader_trim, reader_config, reader_state, is_flexible, names_headers, reader_headers, expected_len, took_first}
 use Rattle.csv.specs.declared.reader.Reader.{Reader}
@@ -11,6 +11,16 @@ use Rattle.csv.specs.declared.parser.State.{State}
 use Rattle.csv.specs.declared.parser.State.TheVariants as st
 use Rattle.csv.proofs.ReadFacts.{reached-more, rows-more, rows-end}
 use Rattle.cad_files.specs.Input.{HasRead, IsWhole, BeginsWith, IsOfOtherLength}
+
+some-pushed : {X : Type 0} (xs : List X) (x : X) → xs ++ x ∷ [] ≡ [] → ⊥
+some-pushed [] x none = cc none
+some-pushed (y ∷ xs) x none = cc none
+
+-- no length is expected of a first record, so where one is, there was a record before
+not-first : {R : Type 0} (rem : R → Option (List ℕ)) (a : Reader R) (expected : ℕ) (text : List ℕ) (rows : List (List (List ℕ)))
+    → HasRead rem text rows a → expected_len a ≡ Some expected → 0 < length rows
+not-first rem a expected text [] h is = let none = h.fresh refl in let bad : Some expected ≡ None = sym is ∙ none in cc
+not-first rem a expected text (r ∷ rows) h is = omega arith
 
 pub has_read-more : {R : Type 0} (rem : R → Option (List ℕ)) (a b : Reader R) (fields : List (List ℕ)) (text : List ℕ) (rows : List (List (List ℕ)))
     → HasRead rem text rows a → ReadRecord rem a b true fields → took_first b ≡ true → is_flexible b ≡ is_flexible a
@@ -24,6 +34,7 @@ has_read-more rem a b fields text rows h r first same =
       strict = same ∙ h.strict;
       reached = rows-more rem a b fields default_config st.StartRecord text h.reached.0 rows h.config h.reached.1 h.reached.2 r;
       lengths = All-push (λ row. expected_len b ≡ Some (length row)) rows fields (λ k d lt. rw (h.lengths k d lt) at lengths.0) lengths.1;
+      fresh = λ none. absurd (some-pushed rows fields none);
     }
 
 pub has_read-end : {R : Type 0} (rem : R → Option (List ℕ)) (a b : Reader R) (fields : List (List ℕ)) (text : List ℕ) (rows : List (List (List ℕ)))
@@ -50,7 +61,8 @@ has_read-other rem a b fields expected text rows h took is_expected other =
     let source = h.reached.1 in (
       fields,
       begins-next text h.reached.0 rows (reader_state a) (reader_state b) fields (pending_of (rem b.rdr) b) h.reached.2 (rw (config, source) at took),
-      λ k d lt. λ same. other (let expects : Some expected ≡ Some (length fields) = sym is_expected ∙ h.lengths k d lt ∙ ap (λ n. Some n) same in cc),
+      (λ k d lt. λ same. other (let expects : Some expected ≡ Some (length fields) = sym is_expected ∙ h.lengths k d lt ∙ ap (λ n. Some n) same in cc)),
+      not-first rem a expected text rows h is_expected,
     )
 
 pub begins : {R : Type 0} (rem : R → Option (List ℕ)) (text : List ℕ) (rows : List (List (List ℕ))) (a : Reader R) → HasRead rem text rows a → BeginsWith text rows
@@ -77,15 +89,16 @@ whole_front text front whole h k = reached_front default_config st.StartRecord h
 -- a new reader has read nothing
 pub has_read-start : {R : Type 0} (rem : R → Option (List ℕ)) (reader : Reader R) (input : Option (List ℕ)) (text : List ℕ)
     → reader_trim reader ≡ trim.None → names_headers reader ≡ false → reader_headers reader ≡ None → reader_config reader ≡ default_config → is_flexible reader ≡ false
-    → reader_state reader ≡ st.StartRecord → source_of rem reader ≡ option_map strip_bom input → input ≡ Some text → HasRead rem (strip_bom text) [] reader
+    → expected_len reader ≡ None → reader_state reader ≡ st.StartRecord → source_of rem reader ≡ option_map strip_bom input → input ≡ Some text → HasRead rem (strip_bom text) [] reader
 unfolding Reached
-has_read-start rem reader input text t n h c f s source e = record {
+has_read-start rem reader input text t n h c f x s source e = record {
   trim = t;
   ready = inr (inr (n, h));
   config = c;
   strict = f;
   reached = (strip_bom text, source ∙ ap (λ o. option_map strip_bom o) e, (sym s, refl));
   lengths = All-nil (λ row. expected_len reader ≡ Some (length row));
+  fresh = λ _. x;
 }
 
 -- what follows of a value that is there

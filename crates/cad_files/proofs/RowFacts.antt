@@ -7,7 +7,7 @@ use Rattle.std.proofs.lemmas.Bool.{cases_Bool}
 use Rattle.std.proofs.lemmas.List.{take-map}
 use Rattle.std.proofs.Math.Bool.{or-false}
 use Rattle.cad_rows.specs.declared.rows.ParcelRow.{ParcelRow}
-use Rattle.cad_map.specs.Table.{row_with}
+use Rattle.numbered_rows.specs.Rows.{row_with}
 use Rattle.cad_files.specs.Kinds.{numbers_of, taken_before, name_of, is_taken, filled}
 use Rattle.cad_files.specs.Rows.{Rows}
 use Rattle.cad_files.specs.declared.kinds.Kind.{Kind}

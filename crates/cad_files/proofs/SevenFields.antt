@@ -1,5 +1,5 @@
 -- The records of a job have seven fields.
-use Rattle.std.proofs.Common.{◌≡◌, ◌≢◌, ◌⊎◌, ◌∙◌, append-nil, subst, sym, refl, ℕ, List, [], ◌∷◌, ◌++◌, length, Option, Some, None, All, inl, inr, arith, nat_eq}
+use Rattle.std.proofs.Common.{◌≡◌, ◌≢◌, ◌⊎◌, ◌∙◌, append-nil, subst, sym, refl, ℕ, List, [], ◌∷◌, ◌++◌, length, ◌<◌, Option, Some, None, All, inl, inr, arith, nat_eq}
 use Rattle.std.proofs.lemmas.Bool.{cases_Bool, eqb-false, eqb-true}
 use Rattle.std.proofs.lemmas.List.Folds.{fold_stays}
 use Rattle.csv.specs.Reading.{expected_len}
@@ -68,3 +68,9 @@ module _ {R : Type 0} (rem : R → Option (List ℕ)) (text : List ℕ) where
   taken-plan plan reader p is begun sound read =
       subst (λ (l : List (List (List ℕ))). AreTaken text l) (append-nil plan)
       (taken plan [] reader p is begun sound (subst (λ (l : List (List (List ℕ))). HasRead rem text l reader) (sym (append-nil plan)) read))
+
+-- a record whose number of fields is none of those of records with seven hasn't seven
+pub other-seven : (rows : List (List (List ℕ))) (next : List (List ℕ)) → 0 < length rows → All (λ fields. length fields ≡ 7) rows
+    → All (λ fields. length fields ≢ length next) rows → length next ≢ 7
+other-seven [] next some seven other = λ e. omega (arith, some)
+other-seven (first ∷ rest) next some seven other = λ e. other 0 first (omega arith) (seven 0 first (omega arith) ∙ sym e)

@@ -18,7 +18,7 @@ use Rattle.cad_map.specs.Boundaries.{is_face, canonical_order}
 use Rattle.cad_map.specs.Map.{Map, has_source, has_point, has_face}
 use Rattle.cad_map.specs.Refusals.{is_there}
 use Rattle.cad_map.specs.Valid.{EachPair, AreNumbers, AreSources, HasSoundRows, HasTwoEnds}
-use Rattle.cad_map.specs.Table.{row_with}
+use Rattle.numbered_rows.specs.Rows.{row_with}
 use Rattle.cad_map.proofs.CallerLemmas.{All-follows, All-map, All-append, All-flat_map}
 use Rattle.cad_files.specs.Fields.{repeated}
 use Rattle.cad_files.specs.Rows.{Rows, AreInRange, IsSourceList, IsSourceRow, IsPointRow, IsParcelRow, IsPlanString}

@@ -16,6 +16,7 @@ about said (name.Source n) = said ++ codes " source " ++ decimal n
 -- the number of the fault, its name, and what it is about
 abbrev pub fault_text : PlanFault → List ℕ
 fault_text faults.Read = codes "1 read"
+fault_text faults.Length = codes "1 read"
 fault_text faults.Version = codes "2 version"
 fault_text (faults.Syntax n) = codes "3 syntax record " ++ decimal n
 fault_text (faults.Range n) = codes "4 range record " ++ decimal n

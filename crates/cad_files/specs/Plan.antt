@@ -1,5 +1,5 @@
 -- What a list of records is as a plan.
-use Rattle.std.specs.Prelude.{◌≡◌, ◌≢◌, ◌≤◌, ℕ, ◌+◌, ◌&&◌, nat_le, Bool, true, false, List, [], ◌∷◌, ◌++◌, length, fold, Option, Some, None, option_map, option_and_then, if◌then◌else◌, ℤ, pos, neg_ℤ, int_le, Result, OnOk, IfErr}
+use Rattle.std.specs.Prelude.{◌≡◌, ◌≢◌, ◌⊎◌, ◌<◌, ◌≤◌, ℕ, ◌+◌, ◌&&◌, nat_le, Bool, true, false, List, [], ◌∷◌, ◌++◌, length, fold, Option, Some, None, option_map, option_and_then, if◌then◌else◌, ℤ, pos, neg_ℤ, int_le, Result, OnOk, IfErr}
 use Rattle.geo_exact.specs.Position.{coordinate_limit}
 use Rattle.cad_rows.specs.Limits.{source_limit}
 use Rattle.cad_files.specs.Record.{seven_of}
@@ -118,10 +118,18 @@ pub data HasPlanFault (text : List ℕ) : PlanFault → Type 0 where
   -- the first record, which hasn't seven fields
   of_first : (fields : List (List ℕ)) → BeginsWith text (fields ∷ []) → length fields ≢ 7
       → HasPlanFault text (faults.Syntax 1)
+  -- a record behind those of an unfinished plan, which hasn't seven fields
+  of_length : (before : List (List (List ℕ))) (next : List (List ℕ)) → AreTaken text before → BeginsWith text (before ++ next ∷ [])
+      → length next ≢ 7 → 0 < length before → length before ≤ plan_limit + 1 → is_unfinished (plan_of before) ≡ true
+      → HasPlanFault text faults.Length
   -- the text ends before `open`
   of_end : (rows : List (List (List ℕ))) → AreTaken text rows → IsWhole text rows
       → length rows ≤ plan_limit + 1 → is_unfinished (plan_of rows) ≡ true
       → HasPlanFault text faults.NoOpen
+
+-- no fault of the plan, but one of the reader or of memory
+abbrev pub IsOfReading : PlanFault → Type 0
+IsOfReading fault = (fault ≡ faults.Read) ⊎ (fault ≡ faults.Memory)
 
 -- a row was taken, as the definition has it, or it has none
 pub record IsTaken (result : Result Unit PlanFault) (old new : Rows) (taken : Option Rows) : Type 0 where

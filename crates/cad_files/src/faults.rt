@@ -13,8 +13,10 @@ use std::fmt;
 /// Why a plan is refused. Records are counted from 1.
 #[derive(Clone, Copy, Debug, PartialEq, Eq)]
 pub enum PlanFault {
-    /// The reader failed, or a record has another number of fields than the first.
+    /// The reader failed.
     Read,
+    /// A record has another number of fields than the first; told as `Read` is.
+    Length,
     /// The first record has seven fields and begins no plan.
     Version,
     /// A record is none of a plan.
@@ -94,6 +96,7 @@ impl fmt::Display for PlanFault {
     fn fmt<W: fmt::Write>(&self, f: &mut fmt::Formatter<W>) -> fmt::Result {
         match self {
             PlanFault::Read => write!(f, "1 read"),
+            PlanFault::Length => write!(f, "1 read"),
             PlanFault::Version => write!(f, "2 version"),
             PlanFault::Syntax(record) => write!(f, "3 syntax record {record}"),
             PlanFault::Range(record) => write!(f, "4 range record {record}"),

@@ -1,7 +1,7 @@
 //! Reading an input record by record.
 
-ghost use Rattle.std.specs.Prelude.{◌≡◌, ◌++◌, ◌∷◌, [], ℕ, List, IfOk, IfErr, IfSome, true, false};
-ghost use Rattle.csv.specs.Reading.{strip_bom};
+ghost use Rattle.std.specs.Prelude.{◌≡◌, ◌≢◌, ◌++◌, ◌∷◌, [], ℕ, List, IfOk, IfErr, IfSome, true, false};
+ghost use Rattle.csv.specs.Reading.{strip_bom, has_failed};
 ghost use Rattle.csv.specs.Records.{fields_of};
 ghost use Rattle.cad_files.specs.Input.{HasRead, IsWhole, BeginsWith, IsOfOtherLength};
 
@@ -42,6 +42,9 @@ pub fn next_row<R: Read>(reader: &mut Reader<R>, row: &mut ByteRecord) -> Result
     ensures length { IfErr result (λ fault. fault ≡ InputFault.Length
         → (text : List ℕ) (rows : List (List (List ℕ))) →
         HasRead R.remaining text rows reader.old → IsOfOtherLength text rows) }
+    ensures failed { IfErr result (λ fault. fault ≢ InputFault.Length
+        → (text : List ℕ) (rows : List (List (List ℕ))) →
+        HasRead R.remaining text rows reader.old → has_failed reader.new ≡ true) }
 {
     match reader.read_byte_record(row) {
         Ok(found) => Ok(found),

@@ -1,10 +1,10 @@
 //! Reading a plan.
 ghost use Rattle.std.specs.Prelude.{◌≡◌, ◌≢◌, ◌+◌, ◌<◌, ◌^◌, [], ℕ, List, true, false, Some, None, IfOk, IfErr, IfSome, OnOk, if◌then◌else◌};
 ghost use Rattle.csv.specs.Records.{fields_of};
-ghost use Rattle.cad_files.specs.Input.{HasRead};
+ghost use Rattle.cad_files.specs.Input.{HasRead, HasStopped};
 ghost use Rattle.cad_files.specs.Fields.{repeated};
-ghost use Rattle.cad_files.specs.Rows.{no_rows, sources_of, HasOneMore};
-ghost use Rattle.cad_files.specs.Plan.{beginning, reading, opened, faulty, is_within as is_within_of, row_of, is_placed, with_one_more, record_step, plan_step, plan_of, IsPlanFault, IsTaken};
+ghost use Rattle.cad_files.specs.Rows.{no_rows, sources_of, plan_limit, HasOneMore};
+ghost use Rattle.cad_files.specs.Plan.{beginning, reading, opened, faulty, is_within as is_within_of, row_of, is_placed, with_one_more, record_step, plan_step, plan_of, IsPlanFault, IsOfReading, IsTaken};
 ghost use Rattle.cad_files.specs.declared.faults.PlanFault.TheVariants as faults;
 ghost use Rattle.cad_files.specs.declared.plan_records.PlanRecord.TheVariants as records;
 ghost use Rattle.cad_files.specs.declared.rows.PlanRow.TheVariants as rows;
@@ -192,13 +192,17 @@ pub fn read_plan<R: Read>(alloc: Global, reader: &mut Reader<R>) -> Result<PlanR
         × (plan_of rows ≡ opened plan)) }
     ensures err { IfErr result (λ fault. (text : List ℕ) → HasRead R.remaining text [] reader.old
         → IsPlanFault text fault) }
+    // After a read fault or want of memory no more than the records of a plan were read.
+    ensures few { IfErr result (λ fault. IsOfReading fault → (text : List ℕ)
+        → HasRead R.remaining text [] reader.old
+        → HasStopped R.remaining text (plan_limit + 2) reader.new) }
 {
     let mut row = ByteRecord::new(alloc);
     match next_row(reader, &mut row) {
         Ok(true) => {}
         Ok(false) => return Err(PlanFault::NoOpen),
         Err(InputFault::Read) => return Err(PlanFault::Read),
-        Err(InputFault::Length) => return Err(PlanFault::Read),
+        Err(InputFault::Length) => return Err(PlanFault::Length),
         Err(InputFault::Memory) => return Err(PlanFault::Memory),
     }
     let version = match take_first(&row) {
@@ -212,7 +216,7 @@ pub fn read_plan<R: Read>(alloc: Global, reader: &mut Reader<R>) -> Result<PlanR
             Ok(true) => {}
             Ok(false) => return Err(PlanFault::NoOpen),
             Err(InputFault::Read) => return Err(PlanFault::Read),
-            Err(InputFault::Length) => return Err(PlanFault::Read),
+            Err(InputFault::Length) => return Err(PlanFault::Length),
             Err(InputFault::Memory) => return Err(PlanFault::Memory),
         }
         match take_row(alloc, version, count, &mut rows, &row) {

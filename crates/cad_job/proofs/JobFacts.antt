@@ -1,5 +1,5 @@
 -- From the parts of a job to the whole.
-use Rattle.std.proofs.Common.{◌≡◌, ◌≢◌, ◌≤◌, sym, refl, ℕ, List, [], ◌∷◌, ◌++◌, append-nil, append_assoc, subst, Bool, true, false, Option, Some, None, Result, Ok, Err, inl, inr, ◌⊎◌, IfOk, length, ◌∙◌, arith, All}
+use Rattle.std.proofs.Common.{◌≡◌, ◌≢◌, ◌≤◌, sym, refl, ℕ, List, [], ◌∷◌, ◌++◌, append-nil, append_assoc, subst, Bool, true, false, Option, Some, None, Result, Ok, Err, inl, inr, ◌⊎◌, IfOk, length}
 use Rattle.csv.specs.declared.reader.Reader.{Reader}
 use Rattle.cad_map.specs.Map.{Map}
 use Rattle.cad_files.specs.Input.{HasRead, AreTaken}
@@ -10,16 +10,12 @@ use Rattle.cad_files.specs.declared.faults.PlanFault.{PlanFault}
 use Rattle.cad_files.specs.declared.faults.PlanFault.TheVariants as plan_faults
 use Rattle.cad_files.proofs.FewRecords.{few-opened}
 use Rattle.cad_files.proofs.SevenFields.{taken, taken-plan}
-use Rattle.cad_job.specs.Jobs.{DoesPlanned, DoesScript, DoesJob, IsFaultyPlan, IsJobText, BeginsJobText, job_fault, script_limit}
+use Rattle.cad_session.specs.Opening.{IsFaultyPlan}
+use Rattle.cad_job.specs.Jobs.{DoesPlanned, DoesScript, DoesJob, IsJobText, BeginsJobText, job_fault, script_limit}
 use Rattle.cad_job.specs.Stopped.{DoesJobUntil, DoesPlannedUntil, DoesUntil}
 use Rattle.cad_job.proofs.ScriptFacts.{through-answered}
 use Rattle.cad_job.specs.declared.faults.JobFault.{JobFault}
 use Rattle.cad_job.specs.declared.faults.JobFault.TheVariants as faults
-
--- what follows from a fact of the value
-pub if_ok_follows : {X E : Type 0} (P Q : X → Type 0) (r : Result X E) → ((x : X) → P x → Q x) → IfOk r P → IfOk r Q
-if_ok_follows P Q (Ok x) follows holds = follows x holds
-if_ok_follows P Q (Err e) follows holds = tt
 
 -- what was done of a script was done of the job
 pub script_job : (stop : Bool) (result : Result (Option ℕ) JobFault) (text : List ℕ) (plan : List (List (List ℕ))) (rows : Rows) (m : Map) (depth : ℕ) (written : List ℕ)
@@ -27,7 +23,7 @@ pub script_job : (stop : Bool) (result : Result (Option ℕ) JobFault) (text : L
 script_job stop (Ok x) text plan rows m depth written p b h = (plan, rows, m, p, few-opened plan rows p, b, h)
 script_job stop (Err (faults.Plan fault)) text plan rows m depth written p b h = absurd h
 script_job stop (Err faults.Read) text plan rows m depth written p b h = inr (plan, rows, m, p, few-opened plan rows p, b, h)
-script_job stop (Err faults.Length) text plan rows m depth written p b h = (plan, rows, m, p, few-opened plan rows p, b, h)
+script_job stop (Err faults.Length) text plan rows m depth written p b h = inr (plan, rows, m, p, few-opened plan rows p, b, h)
 script_job stop (Err faults.Long) text plan rows m depth written p b h = (plan, rows, m, p, few-opened plan rows p, b, h)
 script_job stop (Err faults.Write) text plan rows m depth written p b h = (plan, rows, m, p, few-opened plan rows p, b, h)
 script_job stop (Err faults.Memory) text plan rows m depth written p b h = inr (plan, rows, m, p, few-opened plan rows p, b, h)
@@ -36,17 +32,40 @@ script_job stop (Err faults.Memory) text plan rows m depth written p b h = inr (
 pub fault_job : (stop : Bool) (fault : PlanFault) (text : List ℕ) (depth : ℕ) → (fault ≢ plan_faults.Read → fault ≢ plan_faults.Memory → IsFaultyPlan text fault) → DoesJobUntil stop text depth [] (Err (job_fault fault))
 fault_job stop plan_faults.Read text depth h = inl refl
 fault_job stop plan_faults.Memory text depth h = inl refl
-fault_job stop plan_faults.Version text depth h = let a : plan_faults.Version ≢ plan_faults.Read = λ e. cc e in let b : plan_faults.Version ≢ plan_faults.Memory = λ e. cc e in (refl, a, b, h a b)
-fault_job stop plan_faults.NoOpen text depth h = let a : plan_faults.NoOpen ≢ plan_faults.Read = λ e. cc e in let b : plan_faults.NoOpen ≢ plan_faults.Memory = λ e. cc e in (refl, a, b, h a b)
-fault_job stop plan_faults.Full text depth h = let a : plan_faults.Full ≢ plan_faults.Read = λ e. cc e in let b : plan_faults.Full ≢ plan_faults.Memory = λ e. cc e in (refl, a, b, h a b)
-fault_job stop (plan_faults.Syntax n) text depth h = let a : (plan_faults.Syntax n) ≢ plan_faults.Read = λ e. cc e in let b : (plan_faults.Syntax n) ≢ plan_faults.Memory = λ e. cc e in (refl, a, b, h a b)
-fault_job stop (plan_faults.Range n) text depth h = let a : (plan_faults.Range n) ≢ plan_faults.Read = λ e. cc e in let b : (plan_faults.Range n) ≢ plan_faults.Memory = λ e. cc e in (refl, a, b, h a b)
-fault_job stop (plan_faults.Taken n) text depth h = let a : (plan_faults.Taken n) ≢ plan_faults.Read = λ e. cc e in let b : (plan_faults.Taken n) ≢ plan_faults.Memory = λ e. cc e in (refl, a, b, h a b)
-fault_job stop (plan_faults.Unknown n) text depth h = let a : (plan_faults.Unknown n) ≢ plan_faults.Read = λ e. cc e in let b : (plan_faults.Unknown n) ≢ plan_faults.Memory = λ e. cc e in (refl, a, b, h a b)
-fault_job stop (plan_faults.Dangling n) text depth h = let a : (plan_faults.Dangling n) ≢ plan_faults.Read = λ e. cc e in let b : (plan_faults.Dangling n) ≢ plan_faults.Memory = λ e. cc e in (refl, a, b, h a b)
-fault_job stop (plan_faults.Corner n) text depth h = let a : (plan_faults.Corner n) ≢ plan_faults.Read = λ e. cc e in let b : (plan_faults.Corner n) ≢ plan_faults.Memory = λ e. cc e in (refl, a, b, h a b)
-fault_job stop (plan_faults.Labels n) text depth h = let a : (plan_faults.Labels n) ≢ plan_faults.Read = λ e. cc e in let b : (plan_faults.Labels n) ≢ plan_faults.Memory = λ e. cc e in (refl, a, b, h a b)
-fault_job stop (plan_faults.Breaks r) text depth h = let a : (plan_faults.Breaks r) ≢ plan_faults.Read = λ e. cc e in let b : (plan_faults.Breaks r) ≢ plan_faults.Memory = λ e. cc e in (refl, a, b, h a b)
+fault_job stop plan_faults.Length text depth h = inl (refl, h (λ e. cc e) (λ e. cc e))
+fault_job stop plan_faults.Version text depth h =
+    let a : plan_faults.Version ≢ plan_faults.Read = λ e. cc e in let b : plan_faults.Version ≢ plan_faults.Memory = λ e. cc e in
+    let d : plan_faults.Version ≢ plan_faults.Length = λ e. cc e in (refl, a, d, b, h a b)
+fault_job stop plan_faults.NoOpen text depth h =
+    let a : plan_faults.NoOpen ≢ plan_faults.Read = λ e. cc e in let b : plan_faults.NoOpen ≢ plan_faults.Memory = λ e. cc e in
+    let d : plan_faults.NoOpen ≢ plan_faults.Length = λ e. cc e in (refl, a, d, b, h a b)
+fault_job stop plan_faults.Full text depth h =
+    let a : plan_faults.Full ≢ plan_faults.Read = λ e. cc e in let b : plan_faults.Full ≢ plan_faults.Memory = λ e. cc e in
+    let d : plan_faults.Full ≢ plan_faults.Length = λ e. cc e in (refl, a, d, b, h a b)
+fault_job stop (plan_faults.Syntax n) text depth h =
+    let a : (plan_faults.Syntax n) ≢ plan_faults.Read = λ e. cc e in let b : (plan_faults.Syntax n) ≢ plan_faults.Memory = λ e. cc e in
+    let d : (plan_faults.Syntax n) ≢ plan_faults.Length = λ e. cc e in (refl, a, d, b, h a b)
+fault_job stop (plan_faults.Range n) text depth h =
+    let a : (plan_faults.Range n) ≢ plan_faults.Read = λ e. cc e in let b : (plan_faults.Range n) ≢ plan_faults.Memory = λ e. cc e in
+    let d : (plan_faults.Range n) ≢ plan_faults.Length = λ e. cc e in (refl, a, d, b, h a b)
+fault_job stop (plan_faults.Taken n) text depth h =
+    let a : (plan_faults.Taken n) ≢ plan_faults.Read = λ e. cc e in let b : (plan_faults.Taken n) ≢ plan_faults.Memory = λ e. cc e in
+    let d : (plan_faults.Taken n) ≢ plan_faults.Length = λ e. cc e in (refl, a, d, b, h a b)
+fault_job stop (plan_faults.Unknown n) text depth h =
+    let a : (plan_faults.Unknown n) ≢ plan_faults.Read = λ e. cc e in let b : (plan_faults.Unknown n) ≢ plan_faults.Memory = λ e. cc e in
+    let d : (plan_faults.Unknown n) ≢ plan_faults.Length = λ e. cc e in (refl, a, d, b, h a b)
+fault_job stop (plan_faults.Dangling n) text depth h =
+    let a : (plan_faults.Dangling n) ≢ plan_faults.Read = λ e. cc e in let b : (plan_faults.Dangling n) ≢ plan_faults.Memory = λ e. cc e in
+    let d : (plan_faults.Dangling n) ≢ plan_faults.Length = λ e. cc e in (refl, a, d, b, h a b)
+fault_job stop (plan_faults.Corner n) text depth h =
+    let a : (plan_faults.Corner n) ≢ plan_faults.Read = λ e. cc e in let b : (plan_faults.Corner n) ≢ plan_faults.Memory = λ e. cc e in
+    let d : (plan_faults.Corner n) ≢ plan_faults.Length = λ e. cc e in (refl, a, d, b, h a b)
+fault_job stop (plan_faults.Labels n) text depth h =
+    let a : (plan_faults.Labels n) ≢ plan_faults.Read = λ e. cc e in let b : (plan_faults.Labels n) ≢ plan_faults.Memory = λ e. cc e in
+    let d : (plan_faults.Labels n) ≢ plan_faults.Length = λ e. cc e in (refl, a, d, b, h a b)
+fault_job stop (plan_faults.Breaks r) text depth h =
+    let a : (plan_faults.Breaks r) ≢ plan_faults.Read = λ e. cc e in let b : (plan_faults.Breaks r) ≢ plan_faults.Memory = λ e. cc e in
+    let d : (plan_faults.Breaks r) ≢ plan_faults.Length = λ e. cc e in (refl, a, d, b, h a b)
 
 -- a script that isn't to stop was done to its end
 pub done_to_its_end : {X : Type 0} (n : Option ℕ) (x : X) (text : List ℕ) (plan : List (List (List ℕ))) (m : Map) (depth : ℕ) (written : List ℕ)
@@ -73,7 +92,8 @@ planned_ended f text depth written (plan, rows, m, opens, few, built, does) = (p
 
 pub job_ended : (f : JobFault) (text : List ℕ) (depth : ℕ) (written : List ℕ) → DoesJobUntil false text depth written (Err f) → DoesJob {X = Unit {0}} text depth written (Err f)
 job_ended (faults.Plan fault) text depth written h = h
-job_ended faults.Length text depth written h = planned_ended faults.Length text depth written h
+job_ended faults.Length text depth written (inl none) = inl none
+job_ended faults.Length text depth written (inr h) = inr (planned_ended faults.Length text depth written h)
 job_ended faults.Long text depth written h = planned_ended faults.Long text depth written h
 job_ended faults.Write text depth written h = planned_ended faults.Write text depth written h
 job_ended faults.Read text depth written (inl none) = inl none
@@ -84,6 +104,7 @@ job_ended faults.Memory text depth written (inr h) = inr (planned_ended faults.M
 -- no fault of a plan is told as a write fault
 pub not_write : (fault : PlanFault) → job_fault fault ≡ faults.Write → ⊥
 not_write plan_faults.Read h = cc
+not_write plan_faults.Length h = cc
 not_write plan_faults.Memory h = cc
 not_write plan_faults.Version h = cc
 not_write plan_faults.NoOpen h = cc
@@ -96,12 +117,6 @@ not_write (plan_faults.Dangling n) h = cc
 not_write (plan_faults.Corner n) h = cc
 not_write (plan_faults.Labels n) h = cc
 not_write (plan_faults.Breaks r) h = cc
-
--- behind an open plan, a record whose number of fields is none of those before it hasn't seven
-pub other_than_seven : (plan script : List (List (List ℕ))) (rows : Rows) (next : List (List ℕ)) → plan_of plan ≡ opened rows
-    → All (λ fields. length fields ≡ 7) (plan ++ script) → All (λ fields. length fields ≢ length next) (plan ++ script) → length next ≢ 7
-other_than_seven [] script rows next opens seven other = λ e. let bad = opens in cc
-other_than_seven (first ∷ rest) script rows next opens seven other = λ e. other 0 first (omega arith) (seven 0 first (omega arith) ∙ sym e)
 
 -- all of a job text begins it
 pub front-whole : (m : Map) (depth : ℕ) (script : List (List (List ℕ))) (written : List ℕ) → IsJobText m depth script written → BeginsJobText m depth script written

@@ -2,7 +2,7 @@
 use Rattle.std.proofs.Common.{◌∙◌, sym, ap, refl, ℕ, Bool, true, false, ◌≡◌, List, [], ◌∷◌, ◌++◌, append-nil, append_assoc, subst}
 use Rattle.cad_history.specs.History.{History}
 use Rattle.cad_files.specs.Line.{line_of}
-use Rattle.cad_job.specs.Jobs.{IsAnswered, AreAnswered}
+use Rattle.cad_session.specs.Answered.{IsAnswered, AreAnswered}
 use Rattle.cad_job.specs.Stopped.{AreGoneThrough, stops}
 
 pub AreAnswered-more : (old : History) (script : List (List (List ℕ))) (text : List ℕ) (mid : History) (fields : List (List ℕ)) (more : List ℕ) (new : History)

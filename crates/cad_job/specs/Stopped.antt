@@ -11,7 +11,9 @@ use Rattle.cad_files.specs.Line.{line_of}
 use Rattle.cad_files.specs.declared.faults.PlanFault.TheVariants as plan_fault
 use Rattle.cad_job.specs.declared.faults.JobFault.{JobFault}
 use Rattle.cad_job.specs.declared.faults.JobFault.TheVariants as fault
-use Rattle.cad_job.specs.Jobs.{IsAnswered, BeginsJobText, IsFaultyPlan, script_limit}
+use Rattle.cad_session.specs.Answered.{IsAnswered}
+use Rattle.cad_session.specs.Opening.{IsFaultyPlan}
+use Rattle.cad_job.specs.Jobs.{BeginsJobText, script_limit}
 
 -- an answer that begins with this word
 abbrev pub begins : List ℕ → List ℕ → Bool
@@ -66,12 +68,14 @@ DoesPlannedUntil stop text depth written result =
     (plan : List (List (List ℕ))) × (rows : Rows) × (m : Map) × (plan_of plan ≡ opened rows) × (length plan ≤ plan_limit + 2) × IsBuilt rows m
     × DoesUntil stop text plan m depth written result
 
--- The same of a whole job. Plan: nothing was written, and the plan has that fault.
--- Read and Memory may also come before the script, and then nothing was written.
+-- The same of a whole job. Plan: nothing was written, and the plan has that fault. Length: the same of a record of the plan,
+-- or as of a script. Read and Memory may also come before the script, and then nothing was written.
 abbrev pub DoesJobUntil : Bool → List ℕ → ℕ → List ℕ → Result (Option ℕ) JobFault → Type 0
 DoesJobUntil stop text depth written (Ok n) = DoesPlannedUntil stop text depth written (Ok n)
-DoesJobUntil stop text depth written (Err (fault.Plan f)) = (written ≡ []) × (f ≢ plan_fault.Read) × (f ≢ plan_fault.Memory) × IsFaultyPlan text f
-DoesJobUntil stop text depth written (Err fault.Length) = DoesPlannedUntil stop text depth written (Err fault.Length)
+DoesJobUntil stop text depth written (Err (fault.Plan f)) =
+    (written ≡ []) × (f ≢ plan_fault.Read) × (f ≢ plan_fault.Length) × (f ≢ plan_fault.Memory) × IsFaultyPlan text f
+DoesJobUntil stop text depth written (Err fault.Length) =
+    ((written ≡ []) × IsFaultyPlan text plan_fault.Length) ⊎ DoesPlannedUntil stop text depth written (Err fault.Length)
 DoesJobUntil stop text depth written (Err fault.Long) = DoesPlannedUntil stop text depth written (Err fault.Long)
 DoesJobUntil stop text depth written (Err fault.Write) = DoesPlannedUntil stop text depth written (Err fault.Write)
 DoesJobUntil stop text depth written (Err fault.Read) = (written ≡ []) ⊎ DoesPlannedUntil stop text depth written (Err fault.Read)

@@ -10,9 +10,9 @@ use std::fmt;
 pub enum JobFault {
     /// The plan is at fault.
     Plan(PlanFault),
-    /// The reader failed, or a record of the plan has another number of fields than the first.
+    /// The reader failed.
     Read,
-    /// A record of the script has another number of fields than the first of all; told as `Read` is.
+    /// A record has another number of fields than the first of all; told as `Read` is.
     Length,
     /// The sink failed.
     Write,

@@ -1,33 +1,24 @@
 //! A job, from bytes to bytes.
-ghost use Rattle.std.specs.Prelude.{◌≡◌, ◌≢◌, ◌++◌, [], ℕ, List, Some, ◌⊎◌, Err, IfOk, IfErr, IfSome, OnOk, IsErrOf, true};
+ghost use Rattle.std.specs.Prelude.{◌≡◌, ℕ, List, ◌⊎◌, Err, IfSome, OnOk, IsErrOf, true};
 ghost use Rattle.std.specs.Io.KnownBytes.{Appends, Keeps};
 ghost use Rattle.csv.specs.Reading.{strip_bom};
-ghost use Rattle.csv.specs.Records.{fields_of};
 ghost use Rattle.cad_map.specs.Valid.{IsValid};
-ghost use Rattle.cad_history.specs.History.{History};
-ghost use Rattle.cad_history.specs.Standing.{StandsFor, StandsForSome};
 ghost use Rattle.cad_files.specs.Input.{HasRead};
 ghost use Rattle.cad_files.specs.Rows.{Rows};
 ghost use Rattle.cad_files.specs.Plan.{plan_of, opened};
-ghost use Rattle.cad_files.specs.Building.{IsBuilt, IsBuildFault};
-ghost use Rattle.cad_files.specs.declared.faults.PlanFault.TheVariants as faults;
-ghost use Rattle.cad_files.specs.Line.{line_of};
 ghost use Rattle.map_parts.specs.Parts.{map_of};
 ghost use Rattle.cad_files.specs.Sinks.{counted_up};
-ghost use Rattle.cad_job.specs.Jobs.{IsAnswered, DoesScript, DoesJob, job_fault};
+ghost use Rattle.cad_job.specs.Jobs.{DoesScript, DoesJob, job_fault};
 ghost use Rattle.cad_job.specs.Stopped.{DoesUntil, DoesJobUntil, stops as stops_of};
 
 use crate::faults::JobFault;
-use cad_files::{
-    InputFault, Line, LineFault, PlanFault, PlanRows, Sink, answer_text, area_text, build_of,
-    next_row, outline_text, plan_text, read_line, read_plan, records_of, syntax_text, write_all,
-};
-use cad_history::{Answer, Command, Depth, Editor, step};
+use cad_files::{InputFault, PlanFault, Sink, next_row, read_plan, records_of, write_all};
+use cad_history::{Depth, Editor};
 use cad_map::{MapStore, MapView};
-use cad_rows::{Memory, Refusal};
+use cad_session::{answer_of_row, store_of};
 use cad_surgery::HalfMap;
 use csv::{ByteRecord, Reader};
-use half_table::{Tally, Ticks};
+use half_table::Tally;
 use number_hash::NumberHash;
 use std::alloc::Global;
 use std::io::Read;
@@ -38,6 +29,7 @@ fn fault_of_plan(fault: PlanFault) -> JobFault
 {
     match fault {
         PlanFault::Read => JobFault::Read,
+        PlanFault::Length => JobFault::Length,
         PlanFault::Memory => JobFault::Memory,
         _ => JobFault::Plan(fault),
     }
@@ -113,18 +105,6 @@ fn do_job<R: Read + Drop, S: Sink>(
         Err(fault) => return Err(fault_of_plan(fault)),
     };
     do_on_map(alloc, &mut reader, store, sink, depth, stop)
-}
-
-/// The map of a plan's rows on half-edges, on which a script is done. A fault is that of [`build_of`].
-fn store_of(alloc: Global, hash: NumberHash, rows: PlanRows) -> Result<HalfMap<Ticks>, PlanFault>
-    ensures ok { IfOk result (λ store. IsBuilt rows (map_of store)) }
-    ensures err { IfErr result (λ fault. fault ≢ faults.Memory → IsBuildFault rows fault) }
-{
-    let map = build_of(alloc, hash, rows)?;
-    match HalfMap::from_map(alloc, map, Ticks::new()) {
-        Ok(store) => Ok(store),
-        Err(_) => Err(PlanFault::Memory),
-    }
 }
 
 /// Does the records of a script that are left on the plan's map on half-edges, as `do_script` does on any store of it.
@@ -244,43 +224,4 @@ fn flushed<S: Sink>(
         Ok(()) => end,
         Err(_) => Err(JobFault::Write),
     }
-}
-
-/// Does what a record of a script asks for, and gives the text of its answer.
-fn answer_of_row<M: MapStore>(
-    alloc: Global,
-    editor: &mut Editor<M>,
-    row: &ByteRecord,
-) -> Result<Vec<u8>, Memory>
-    requires { StandsForSome M.map M.belongs editor.old }
-    ensures { IfOk result (λ text. (h : History) → StandsFor M.map M.belongs editor.old h →
-        (end : History) × IsAnswered h (line_of (fields_of row.now)) text.items end
-        × StandsFor M.map M.belongs editor.new end) }
-{
-    match read_line(alloc, row) {
-        Ok(Line::Command(command)) => answer_of_command(alloc, editor, &command),
-        Ok(Line::Areas) => area_text(alloc, editor.map()),
-        Ok(Line::Outline(face)) => outline_text(alloc, editor.map(), face),
-        Ok(Line::Print) => plan_text(alloc, editor.map()),
-        Err(LineFault::Syntax) => syntax_text(alloc),
-        Err(LineFault::Memory) => Err(Memory),
-    }
-}
-
-/// Carries a command out, and gives the text of its answer.
-fn answer_of_command<M: MapStore>(
-    alloc: Global,
-    editor: &mut Editor<M>,
-    command: &Command,
-) -> Result<Vec<u8>, Memory>
-    requires { StandsForSome M.map M.belongs editor.old }
-    ensures { IfOk result (λ text. (h : History) → StandsFor M.map M.belongs editor.old h →
-        (end : History) × IsAnswered h (Some (Line.Command command.now)) text.items end
-        × StandsFor M.map M.belongs editor.new end) }
-{
-    let answer = step(editor, command);
-    if answer == Answer::Refused(Refusal::Memory) {
-        return Err(Memory);
-    }
-    answer_text(alloc, &answer)
 }

@@ -34,7 +34,7 @@ pub use Rattle.cad_laws.proofs.CountedShared.{shared-counted}
 -- the faces of sides, where the rings are whole
 pub use Rattle.cad_laws.proofs.WholeFaces.{one-ring, face-told, one-face, side-face, side-string, string-sides, faces-differ}
 -- rows that are put back, or changed and changed back
-pub use Rattle.cad_laws.proofs.RowsBack.{filter-push, found-at, found-changed, insert-found, insert-with, insert-without, none-any, none-taken, placed-within, with-again, with-same, without-push}
+pub use Rattle.cad_laws.proofs.RowsBack.{filter-push, found-at, found-changed, insert-without, none-any, with-again, with-same, without-push}
 -- sums of faces that an edit leaves as they are, and what an area gains where a point goes elsewhere
 pub use Rattle.cad_laws.proofs.StandingAreas.{placed-stand, no-rings, face-stays, sums-stand}
 pub use Rattle.cad_laws.proofs.SweptAreas.{by-strings, gained-beside, areas-swept}

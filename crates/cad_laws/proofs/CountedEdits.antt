@@ -22,7 +22,7 @@ use Rattle.cad_map.specs.Effects.{after}
 use Rattle.cad_map.specs.Merger.{is_shared}
 use Rattle.cad_map.specs.Map.{Map, point_of, parcel_of, string_of, strings_at, is_end, degree}
 use Rattle.cad_map.specs.Refusals.{first_refusal, sources_at}
-use Rattle.cad_map.specs.Table.{row_with, without_row}
+use Rattle.numbered_rows.specs.Rows.{row_with, without_row}
 use Rattle.cad_map.specs.Valid.{IsValid}
 use Rattle.cad_map.proofs.CallerLemmas.{allowed, free-point, free-source, free-split, free-join, two-joined, there-one, can-divide, can-enclose, can-merge, Contains-cases, Contains-map, found-number, All-Contains, numbers-strings_along, MeetAt, meet-at, length-push}
 use Rattle.cad_laws.specs.Counts.{rows_by, sources_by, shared_strings, sources_of_strings}

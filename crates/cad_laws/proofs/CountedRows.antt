@@ -13,7 +13,7 @@ use Rattle.cad_rows.specs.declared.rows.ParcelRow.{ParcelRow}
 use Rattle.cad_rows.specs.declared.rows.SourceRow.{SourceRow}
 use Rattle.cad_map.specs.Costs.{rows_changed, sources_removed}
 use Rattle.cad_map.specs.Map.{Map}
-use Rattle.cad_map.specs.Table.{row_with, without_row, with_row}
+use Rattle.numbered_rows.specs.Rows.{row_with, without_row, with_row}
 use Rattle.cad_map.specs.Valid.{EachPair}
 use Rattle.cad_map.proofs.CallerLemmas.{Contains-cases, Contains-first, Contains-later, Contains-map, filter-Contains, filter-append, All-Contains, none-filter, map-with_row}
 use Rattle.cad_laws.proofs.Elsewhere.{filter-none}

@@ -7,7 +7,7 @@ use Rattle.cad_rows.specs.declared.names.Face.TheVariants.{Outside, Parcel}
 use Rattle.cad_map.specs.declared.boundary.Boundary.{Boundary}
 use Rattle.cad_map.specs.Boundaries.{is_face, canonical_order}
 use Rattle.cad_map.specs.Map.{Map, rings_at, rings_of}
-use Rattle.cad_map.specs.Table.{row_with, with_row, without_row}
+use Rattle.numbered_rows.specs.Rows.{row_with, with_row, without_row}
 use Rattle.cad_map.specs.Valid.{HasSoundRows}
 use Rattle.cad_map.proofs.CallerLemmas.{Contains-cases, Contains-first, Contains-later, is_face-same, filter-append, differs, none-filter, canonical_order-filter}
 

@@ -3,9 +3,9 @@ use Rattle.std.proofs.Common.{◌≡◌, ◌≢◌, ℕ, zero, suc, List, [], �
 use Rattle.std.specs.Prelude.{if◌then◌else◌}
 use Rattle.std.specs.List.{AllByRecursion, list_any}
 use Rattle.std.proofs.lemmas.Bool.{eqb-true, eq-eqb, false_from_ne_true}
-use Rattle.cad_map.specs.Table.{row_with, without_row, with_row}
+use Rattle.numbered_rows.specs.Rows.{row_with, without_row, with_row}
 use Rattle.cad_map.specs.Valid.{EachPair}
-use Rattle.cad_map.proofs.CallerLemmas.{others-from_none}
+use Rattle.numbered_rows.proofs.Removed.{others-from_none, with-absent, none-taken, insert-found}
 
 -- ---- A number in a list of different numbers
 
@@ -38,12 +38,6 @@ none-any n (k ∷ ns) none = by (nat_eq k n) refl none (λ h. none-any n ns h)
 turned : (k : ℕ) (ns : List ℕ) → AllByRecursion (λ m. k ≢ m) ns → AllByRecursion (λ m. m ≢ k) ns
 turned k [] all = tt
 turned k (m ∷ ns) all = ((λ same. all.0 (sym same)), turned k ns all.1)
-
--- an element stands at the place where it was put in only if it isn't past the end
-pub placed-within : {X : Type 0} (xs : List X) (place : ℕ) (x : X) → slice_get (insert xs place x) place ≡ Some x → place ≤ length xs
-placed-within xs zero x there = omega arith
-placed-within [] (suc place) x there = cc
-placed-within (y ∷ xs) (suc place) x there = let rest = placed-within xs place x there in omega (arith, rest)
 
 -- ---- Rows of different numbers
 
@@ -81,49 +75,6 @@ module _ {R : Type 0} (number : R → ℕ) where
       differs (q ∷ rs) zero all at = let same : q ≡ row = cc in subst (λ (t : R). number r ≢ number t) same all.0
       differs (q ∷ rs) (suc i) all at = differs rs i all.1 at
 
-  -- a row that is taken out isn't there
-  pub none-taken : (n : ℕ) (rows : List R) → row_with number n (without_row number n rows) ≡ None
-  none-taken n [] = refl
-  none-taken n (r ∷ rows) = by (nat_eq (number r) n) refl (none-taken n rows)
-    where
-      by : (a : Bool) → nat_eq (number r) n ≡ a → row_with number n (without_row number n rows) ≡ None
-          → row_with number n (without_row number n (r ∷ rows)) ≡ None
-      by true is rest = rw is rest
-      by false is rest = rw is (rw is rest)
-
-  -- a row that is put in is found
-  pub insert-found : (n : ℕ) (left : List R) (place : ℕ) (row : R) → number row ≡ n → row_with number n left ≡ None → row_with number n (insert left place row) ≡ Some row
-  insert-found n left zero row same none = rw (eq-eqb (number row) n same) refl
-  insert-found n [] (suc place) row same none = rw (eq-eqb (number row) n same) refl
-  insert-found n (r ∷ left) (suc place) row same none = by (nat_eq (number r) n) refl none (λ h. insert-found n left place row same h)
-    where
-      by : (a : Bool) → nat_eq (number r) n ≡ a → row_with number n (r ∷ left) ≡ None
-          → (row_with number n left ≡ None → row_with number n (insert left place row) ≡ Some row)
-          → row_with number n (r ∷ insert left place row) ≡ Some row
-      by true is none again = let some : Some r ≡ None = rw is at none in cc
-      by false is none again = rw is (again (rw is at none))
-
-  with-absent : (new : R) (rows : List R) → AllByRecursion (λ k. k ≢ number new) (map number rows) → with_row number new rows ≡ rows
-  with-absent new [] all = refl
-  with-absent new (r ∷ rows) all =
-      rw (false_from_ne_true (nat_eq (number r) (number new)) (λ h. all.0 (eqb-true (number r) (number new) h)))
-      (ap (λ (l : List R). r ∷ l) (with-absent new rows all.1))
-
-  -- another row of its number, put in at the place where one was taken out
-  pub insert-with : (left : List R) (place : ℕ) (row new : R) → number new ≡ number row → row_with number (number row) left ≡ None → insert left place new ≡ with_row number new (insert left place row)
-  insert-with left place row new same none =
-      by left place (subst (λ (n : ℕ). AllByRecursion (λ k. k ≢ n) (map number left)) (sym same) (others-from_none number (number row) left none))
-    where
-      at : nat_eq (number row) (number new) ≡ true
-      at = eq-eqb (number row) (number new) (sym same)
-
-      by : (rs : List R) (i : ℕ) → AllByRecursion (λ k. k ≢ number new) (map number rs) → insert rs i new ≡ with_row number new (insert rs i row)
-      by rs zero all = rw at (ap (λ (l : List R). new ∷ l) (sym (with-absent new rs all)))
-      by [] (suc i) all = rw at refl
-      by (r ∷ rs) (suc i) all =
-          rw (false_from_ne_true (nat_eq (number r) (number new)) (λ h. all.0 (eqb-true (number r) (number new) h)))
-          (ap (λ (l : List R). r ∷ l) (by rs i all.1))
-
   -- a row in the place of another of its number, and that one again
   pub with-again : (new old : R) (rows : List R) → number new ≡ number old → with_row number old (with_row number new rows) ≡ with_row number old rows
   with-again new old [] same = refl
@@ -148,7 +99,7 @@ module _ {R : Type 0} (number : R → ℕ) where
       by true is found again =
           let here : Some r ≡ Some row = rw is at found in
           let same : r ≡ row = cc in
-          rw is (λ i. sym same i ∷ with-absent row rows
+          rw is (λ i. sym same i ∷ with-absent number row rows
           (turned (number row) (map number rows) (subst (λ (q : R). AllByRecursion (λ m. number q ≢ m) (map number rows)) same each.0)) i)
       by false is found again = rw is (ap (λ (l : List R). r ∷ l) (again (rw is at found)))
 

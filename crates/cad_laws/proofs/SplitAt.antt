@@ -21,7 +21,7 @@ use Rattle.cad_map.specs.Asked.{GivesInRange}
 use Rattle.cad_map.specs.Changes.{split}
 use Rattle.cad_map.specs.Effects.{after}
 use Rattle.cad_map.specs.Refusals.{first_refusal}
-use Rattle.cad_map.specs.Table.{without_row}
+use Rattle.numbered_rows.specs.Rows.{without_row}
 use Rattle.cad_map.proofs.CallerLemmas.{allowed, free-split, sum-without, found-number, find-Contains, times, times-flat_map, times-permuted, Contains-cases, Contains-first, Contains-later, Contains-flat_map, Contains-in_part, All-at_each, count-some, apart-valid, beside-canonical_order, IsBeside, beside, has_side-Contains, both_sides, in_all, corner-sides, both, split_ring, split_boundary, apart-split, Came, came, old-known, along-known, IsPermutation-canonical_order, whole_valid, string-side-points, side_before, side_behind, is_side-refl, once-from_pairs}
 use Rattle.cad_laws.proofs.WholeAfter.{whole-after}
 use Rattle.cad_map.specs.Map.{Map, point_of, string_of, has_point, side_of, string_sides, all_sides, all_corners}

@@ -19,7 +19,7 @@ use Rattle.cad_map.specs.Boundaries.{is_face}
 use Rattle.cad_map.specs.Changes.{change_parcel, change_sources}
 use Rattle.cad_map.specs.Effects.{after}
 use Rattle.cad_map.specs.Map.{Map, point_of, string_of, parcel_of, has_face, has_parcel, position_of, rings_of, sum_of_face}
-use Rattle.cad_map.specs.Table.{row_with}
+use Rattle.numbered_rows.specs.Rows.{row_with}
 use Rattle.cad_map.specs.Touched.{Touched, IsTouched}
 use Rattle.cad_map.specs.Valid.{HasSoundRows}
 use Rattle.cad_map.proofs.CallerLemmas.{All-at_each, Contains-first, found-with_row, is_face-same, kept}

@@ -19,7 +19,7 @@ use Rattle.cad_map.specs.Map.{Map, has_face, is_end, side_of, rings_of}
 use Rattle.cad_map.specs.Merger.{ChainInRings, shared_sides, is_shared, shared_chains, is_taken_out, handed_over, boundaries_merged}
 use Rattle.cad_map.specs.Merger.ChainInRings.{along, around}
 use Rattle.cad_map.specs.Refusals.{first_refusal}
-use Rattle.cad_map.specs.Table.{row_with}
+use Rattle.numbered_rows.specs.Rows.{row_with}
 use Rattle.cad_map.specs.Touched.{Touched, IsTouched}
 use Rattle.cad_map.specs.Valid.{IsValid}
 use Rattle.cad_map.proofs.CallerLemmas.{allowed, can-merge, Contains-first, Contains-flat_map, map-Contains, has_side-Contains, is_face-same, filter-append, ends, shared-chain, CanMerge, faces-differ, shared_chain-there, merge-is, none-filter, along-found, around-found, along-passed, IsFound, found}

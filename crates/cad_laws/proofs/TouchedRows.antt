@@ -18,7 +18,7 @@ use Rattle.cad_map.specs.Changes.{with_point, with_string, with_parcel, change_p
 use Rattle.cad_map.specs.Effects.{after}
 use Rattle.cad_map.specs.Map.{Map, point_of, string_of, parcel_of, has_point, has_face, position_of, origin, is_end, far_end, rings_at, rings_of, is_free}
 use Rattle.cad_map.specs.Refusals.{first_refusal}
-use Rattle.cad_map.specs.Table.{row_with, without_row}
+use Rattle.numbered_rows.specs.Rows.{row_with, without_row}
 use Rattle.cad_map.specs.Touched.{Touched, neighbours, StringStands, ComesByMove, ComesBySplit, ComesByJoin, IsTouched}
 use Rattle.cad_map.specs.Valid.{IsValid}
 use Rattle.cad_map.proofs.CallerLemmas.{allowed, free-dropped, Contains-first, Contains-map, All-at_each, All-from_each, map-Contains, is_nothing, no_end, differs, found-number, found-with_row, map-with_row-same}

@@ -22,7 +22,7 @@ use Rattle.cad_rings.proofs.CallerLemmas.{both_ways-apart, sides_of_chain-is}
 use Rattle.cad_map.specs.declared.boundary.Boundary.{Boundary}
 use Rattle.cad_map.specs.Boundaries.{sides_in}
 use Rattle.cad_map.specs.Map.{Map, point_of, string_of, has_point, side_of, is_end, far_end, string_sides, all_sides}
-use Rattle.cad_map.specs.Table.{without_row}
+use Rattle.numbered_rows.specs.Rows.{without_row}
 use Rattle.cad_map.specs.Chain.{strings_along}
 use Rattle.cad_map.specs.Merger.{is_shared}
 use Rattle.cad_map.specs.Changes.{both_sources, string_joining, split, join, divide, enclose, merge, with_boundaries, change_sources}

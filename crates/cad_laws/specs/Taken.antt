@@ -1,7 +1,7 @@
 -- Rows that are taken out of a map one after another.
 use Rattle.std.specs.Prelude.{◌≡◌, ⊤, ℕ, List, ◌∷◌, slice_get, Some}
 use Rattle.cad_rows.specs.declared.rows.StringRow.{StringRow}
-use Rattle.cad_map.specs.Table.{without_row}
+use Rattle.numbered_rows.specs.Rows.{without_row}
 
 -- each of these rows is at its place when those before it are out
 abbrev pub AreAtPlaces : List StringRow → List StringRow → List ℕ → Type 0

@@ -1,12 +1,13 @@
 -- What crates above cite of maps, in one import.
 -- lists: elements, tests of them, and rows as they grow and shrink
-pub use Rattle.cad_map.proofs.Lists.EachElement.{All-Contains, All-append, All-filter, All-flat_map, All-follows, All-from_Contains, All-map, All-permuted, All-push, drop-at, filter-at, filter-past, found-again, found-number, found-with_row, map-push, map-with_row, map-with_row-same, others-from_none}
+pub use Rattle.cad_map.proofs.Lists.EachElement.{All-Contains, All-append, All-filter, All-flat_map, All-follows, All-from_Contains, All-map, All-permuted, All-push, drop-at, filter-at, filter-past, found-again, found-number, found-with_row, map-push, map-with_row, map-with_row-same}
 pub use Rattle.cad_map.proofs.Lists.Elements.{All-at_each, All-from_each, Contains-at, Contains-cases, Contains-first, Contains-flat_map, Contains-in_part, Contains-later, Contains-map, count-map, count-no, count-some, count-yes, find-none, list_all-IsPermutation, list_all-same, list_any-Contains, one-only}
 pub use Rattle.cad_map.proofs.Lists.ElementFacts.{Contains-filter, Contains-one, EachPair-from_test, EachPair-two, filter-Contains, find-Contains, find-nothing, list_all-at, list_all-from, list_any-none, map-Contains}
 pub use Rattle.cad_map.proofs.Lists.TakenOut.{EachPair-append}
-pub use Rattle.cad_map.proofs.Lists.RowsLeft.{none-filter, none-push, sum-without}
+pub use Rattle.cad_map.proofs.Lists.RowsLeft.{none-push, sum-without}
+pub use Rattle.numbered_rows.proofs.Removed.{none-filter, others-from_none}
 pub use Rattle.cad_map.proofs.Lists.RowsInTurn.{row_with-earlier, row_with-there}
-pub use Rattle.cad_map.proofs.Lists.Entries.{AreNumbered-push, lookup-row, numbered-with, numbered-without, take-more, values-with, values-without, values_of-push}
+pub use Rattle.cad_map.proofs.Lists.Entries.{take-more}
 pub use Rattle.cad_map.proofs.Lists.PairsByPlace.{AllPairs-from_EachPair, EachPair-from_AllPairs}
 -- boundaries: their canonical order, and the faces on both hands of their sides
 pub use Rattle.cad_map.proofs.Boundaries.CanonicalOrder.{IsPermutation-canonical_order, canonical_order-canonical_order, canonical_order-permuted, each_canonical, is_face-place, map-canonical_form}

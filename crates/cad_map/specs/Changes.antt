@@ -13,7 +13,7 @@ use Rattle.cad_rings.specs.Surgery.{put_on, without}
 use Rattle.cad_map.specs.declared.boundary.Boundary.{Boundary}
 use Rattle.cad_map.specs.Boundaries.{bounding, canonical_order}
 use Rattle.cad_map.specs.Map.{Map, point_of, parcel_of, string_of, strings_at, far_end, is_end}
-use Rattle.cad_map.specs.Table.{with_row, without_row}
+use Rattle.numbered_rows.specs.Rows.{with_row, without_row}
 use Rattle.cad_map.specs.Chain.{start_of, next_of, end_of, last_but_one, strings_along, chosen_corner}
 use Rattle.cad_map.specs.Division.{boundaries_divided, boundaries_enclosed}
 use Rattle.cad_map.specs.Merger.{ChainInRings, shared_chains, is_shared, boundaries_by}

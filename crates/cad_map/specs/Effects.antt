@@ -3,7 +3,7 @@ use Rattle.std.specs.Prelude.{not, ◌==◌, [], ◌∷◌, ◌++◌, filter, op
 use Rattle.cad_rows.specs.declared.edits.Edit.{Edit}
 use Rattle.cad_rows.specs.declared.edits.Edit.TheVariants.{AddSource, AddPoint, DropPoint, Split, Join, Divide, Merge, Move, Attach, Detach, Rename, Enclose}
 use Rattle.cad_map.specs.Map.{Map, string_of}
-use Rattle.cad_map.specs.Table.{without_row}
+use Rattle.numbered_rows.specs.Rows.{without_row}
 use Rattle.cad_map.specs.Changes.{change_point, change_parcel, change_sources, split, join, divide, merge, enclose}
 
 -- the map after an edit

@@ -1,4 +1,3 @@
-pub mod Table
 pub mod Boundaries
 pub mod Map
 pub mod Valid
@@ -17,7 +16,7 @@ pub mod Spans
 pub mod Walk
 pub mod Crossings
 pub mod Rings
-pub mod RowTables
+pub mod MapRows
 pub mod Outline
 pub mod Steps
 pub mod SharedChains

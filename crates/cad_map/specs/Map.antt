@@ -14,7 +14,7 @@ use Rattle.cad_rows.specs.declared.names.Face.TheVariants.{Outside, Parcel}
 use Rattle.cad_rings.specs.Cycle.{Ring, Side, has_side, opposite, sides_of, Corner, corners_of, after_side, placed, ring_sum}
 use Rattle.cad_map.specs.declared.boundary.Boundary.{Boundary}
 use Rattle.cad_map.specs.Boundaries.{is_face, sides_in, corners_in}
-use Rattle.cad_map.specs.Table.{row_with}
+use Rattle.numbered_rows.specs.Rows.{row_with}
 
 pub record Map : Type 0 where
   pub sources : List SourceRow

@@ -15,7 +15,7 @@ use Rattle.cad_rows.specs.declared.refusals.Rule.TheVariants.{V3, V4, V6, V7, V8
 use Rattle.cad_rings.specs.Cycle.{Ring, Corner, anchor_of}
 use Rattle.cad_map.specs.Boundaries.{canonical_order}
 use Rattle.cad_map.specs.Map.{Map, has_point, has_parcel, has_face, position_of, far_end, strings_at, string_sides, rings_of, all_sides, all_corners, left_face, right_face, is_positive, is_negative, is_in_ring}
-use Rattle.cad_map.specs.Table.{row_with}
+use Rattle.numbered_rows.specs.Rows.{row_with}
 
 -- the relation holds between each element and each later one
 abbrev pub EachPair : {X : Type 0} → (X → X → Type 0) → List X → Type 0

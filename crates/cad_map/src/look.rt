@@ -8,15 +8,16 @@ ghost use Rattle.geo_exact.specs.Measure.{doubled_area};
 ghost use Rattle.cad_rows.specs.Limits.{string_limit};
 ghost use Rattle.cad_rings.specs.Cycle.{has_side as has_side_of, sides_of, corners_of};
 ghost use Rattle.cad_rings.specs.Surgery.{corner};
+ghost use Rattle.numbered_rows.specs.Rows.{rows_in};
 ghost use Rattle.cad_map.specs.Boundaries.{is_face as is_face_of, canonical_order, sides_in, corners_in, EndsBelow, BeginsFrom, IsFirstFrom};
 ghost use Rattle.cad_map.specs.Map.{is_end as is_end_of, far_end as far_end_of, point_after as point_after_in, rings_at, empty_map, position_of, sum_of_ring};
 
 use crate::boundary::Boundary;
 use crate::canonical::face_place;
-use crate::table::Table;
 use cad_rings::Ring;
 use cad_rows::{Face, PointNo, PointRow, StringRow};
 use geo_exact::{DoubledArea, Pt, SideMeasure};
+use numbered_rows::Rows;
 
 /// Whether a string leads from a point or to it.
 pub fn is_end(string: &StringRow, point: PointNo) -> bool
@@ -45,8 +46,8 @@ pub(crate) fn one_if(test: bool) -> usize
 }
 
 /// How many of these strings have the point.
-pub(crate) fn strings_with(strings: &Table<StringRow>, point: PointNo) -> usize
-    ensures { result ≡ length (filter (λ s. is_end_of s point) strings.now) }
+pub(crate) fn strings_with(strings: &Rows<StringRow>, point: PointNo) -> usize
+    ensures { result ≡ length (filter (λ s. is_end_of s point) (rows_in strings.now)) }
 {
     let mut count = 0;
     for place in 0..strings.len() {
@@ -58,11 +59,12 @@ pub(crate) fn strings_with(strings: &Table<StringRow>, point: PointNo) -> usize
 
 /// The string at a place among those of these that have the point, and `None` past the last.
 pub(crate) fn string_with(
-    strings: &Table<StringRow>,
+    strings: &Rows<StringRow>,
     point: PointNo,
     place: usize,
 ) -> Option<&StringRow>
-    ensures { option_copied result ≡ slice_get (filter (λ s. is_end_of s point) strings.now) place }
+    ensures { option_copied result
+        ≡ slice_get (filter (λ s. is_end_of s point) (rows_in strings.now)) place }
 {
     let mut left = place;
     for at in 0..strings.len() {
@@ -158,9 +160,9 @@ pub(crate) fn rings_with(boundaries: &[Boundary], face: &Face) -> usize
     run_of(boundaries, face).len()
 }
 
-/// The position of a point, and of one that isn't there the origin.
-fn position_in(points: &Table<PointRow>, no: PointNo) -> Pt
-    ensures { result ≡ position_of (record empty_map { points = points.now }) no }
+/// The position of a point by these rows, and of one that isn't there the origin. Takes no memory.
+pub fn position_in(points: &Rows<PointRow>, no: PointNo) -> Pt
+    ensures { result ≡ position_of (record empty_map { points = rows_in points.now }) no }
 {
     match points.get(no.get()) {
         Some(row) => row.position,
@@ -169,10 +171,10 @@ fn position_in(points: &Table<PointRow>, no: PointNo) -> Pt
 }
 
 /// The doubled area of a ring, its points being where these rows have them. Takes no memory.
-pub(crate) fn area_of(points: &Table<PointRow>, ring: &Ring) -> i128
+pub(crate) fn area_of(points: &Rows<PointRow>, ring: &Ring) -> i128
     requires { length ring.now ≤ 2 * string_limit }
     ensures { result
-        ≡ sum_of_ring doubled_area (record empty_map { points = points.now }) ring.now }
+        ≡ sum_of_ring doubled_area (record empty_map { points = rows_in points.now }) ring.now }
 {
     let mut area = 0;
     for (from, to) in ring.sides() {

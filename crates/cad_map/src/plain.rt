@@ -1,83 +1,35 @@
 //! A map kept as rows in order of entry, and its rings in canonical order.
-ghost use Rattle.std.specs.Prelude.{◌≡◌, ◌≤◌, ◌++◌, ◌∷◌, [], None, length, map, IsSome, IfOk, OnOk, OnErr};
+ghost use Rattle.std.specs.Prelude.{◌≡◌, ◌≢◌, ◌≤◌, ◌++◌, ◌∷◌, [], None, length, map, IsSome, IfOk, OnOk, OnErr};
 ghost use Rattle.std.specs.List.{AllByRecursion};
 ghost use Rattle.cad_map.specs.Boundaries.{bounding, canonical_order, without_face};
 ghost use Rattle.cad_rows.specs.declared.names.Face.TheVariants.{Parcel};
 ghost use Rattle.cad_map.specs.Map.{empty_map, rings_at, source_of, point_of, parcel_of, string_of};
-ghost use Rattle.cad_map.specs.RowTables.{rows_of_tables};
-ghost use Rattle.cad_map.specs.Table.{without_row, with_row};
-ghost use Rattle.cad_map.specs.Valid.{IsValid};
+ghost use Rattle.numbered_rows.specs.Rows.{without_row, with_row};
+ghost use Rattle.cad_map.specs.MapRows.{map_in};
+ghost use Rattle.cad_map.specs.Valid.{EachPair, IsValid};
 
 use crate::boundary::Boundary;
 use crate::canonical::{arrange, in_canonical_order};
 use crate::look::{self, is_face};
+use crate::map_rows::{MapRows, retired_rows};
 use crate::retired::Retired;
-use crate::row_tables::RowTables;
 use crate::span::{Span, span_of};
 use crate::store::{Counts, MapView};
-use crate::table::{Numbered, Table};
 use cad_rings::Ring;
 use cad_rows::{
     Face, Memory, ParcelNo, ParcelRow, PointNo, PointRow, SourceNo, SourceRow, StringNo, StringRow,
 };
 use number_hash::NumberHash;
+use numbered_rows::Rows;
 use std::alloc::Global;
 use std::marker::Model;
 
-impl Numbered for SourceRow {
-    ghost number_of = { λ r. r.number };
-
-    fn number(&self) -> u32 {
-        self.number.get()
-    }
-
-    fn copied(&self) -> Result<SourceRow, Memory> {
-        self.copy()
-    }
-}
-
-impl Numbered for PointRow {
-    ghost number_of = { λ r. r.number };
-
-    fn number(&self) -> u32 {
-        self.number.get()
-    }
-
-    fn copied(&self) -> Result<PointRow, Memory> {
-        self.copy()
-    }
-}
-
-impl Numbered for ParcelRow {
-    ghost number_of = { λ r. r.number };
-
-    fn number(&self) -> u32 {
-        self.number.get()
-    }
-
-    fn copied(&self) -> Result<ParcelRow, Memory> {
-        self.copy()
-    }
-}
-
-impl Numbered for StringRow {
-    ghost number_of = { λ r. r.number };
-
-    fn number(&self) -> u32 {
-        self.number.get()
-    }
-
-    fn copied(&self) -> Result<StringRow, Memory> {
-        self.copy()
-    }
-}
-
 /// A map whose rows stand in tables, in order of entry. None of its calls asks for a valid map.
 pub struct PlainMap {
-    sources: Table<SourceRow>,
-    points: Table<PointRow>,
-    parcels: Table<ParcelRow>,
-    strings: Table<StringRow>,
+    sources: Rows<SourceRow>,
+    points: Rows<PointRow>,
+    parcels: Rows<ParcelRow>,
+    strings: Rows<StringRow>,
     retired: Retired,
     boundaries: Vec<Boundary>,
 }
@@ -99,16 +51,17 @@ impl Drop for PlainMap {
 impl Model for PlainMap {
     ghost use Rattle.std.specs.Prelude.{◌≡◌, ◌≤◌, length};
     ghost use Rattle.std.specs.List.{AllByRecursion};
+    ghost use Rattle.numbered_rows.specs.Rows.{rows_in};
     ghost use Rattle.cad_map.specs.Boundaries.{canonical_order};
     ghost use Rattle.cad_map.specs.Map.{Map};
 
     ghost Value = { Map };
 
     ghost view = { λ a. record {
-      sources = a.sources;
-      points = a.points;
-      parcels = a.parcels;
-      strings = a.strings;
+      sources = rows_in a.sources;
+      points = rows_in a.points;
+      parcels = rows_in a.parcels;
+      strings = rows_in a.strings;
       retired = a.retired;
       boundaries = a.boundaries.items;
     } };
@@ -125,10 +78,10 @@ impl PlainMap {
     {
         let hash = NumberHash::fixed();
         PlainMap {
-            sources: Table::new(alloc, hash),
-            points: Table::new(alloc, hash),
-            parcels: Table::new(alloc, hash),
-            strings: Table::new(alloc, hash),
+            sources: Rows::new(alloc, hash),
+            points: Rows::new(alloc, hash),
+            parcels: Rows::new(alloc, hash),
+            strings: Rows::new(alloc, hash),
             retired: Retired::new(alloc, hash),
             boundaries: Vec::new(alloc),
         }
@@ -140,10 +93,10 @@ impl PlainMap {
         ensures empty { IfOk result (λ made. made ≡ empty_map) }
     {
         Ok(PlainMap {
-            sources: Table::with_room(alloc, hash, counts.sources)?,
-            points: Table::with_room(alloc, hash, counts.points)?,
-            parcels: Table::with_room(alloc, hash, counts.parcels)?,
-            strings: Table::with_room(alloc, hash, counts.strings)?,
+            sources: Rows::with_room(alloc, hash, counts.sources)?,
+            points: Rows::with_room(alloc, hash, counts.points)?,
+            parcels: Rows::with_room(alloc, hash, counts.parcels)?,
+            strings: Rows::with_room(alloc, hash, counts.strings)?,
             retired: Retired::new(alloc, hash),
             boundaries: Vec::new(alloc),
         })
@@ -173,9 +126,11 @@ impl PlainMap {
         })
     }
 
-    /// The map's rows by themselves; its rings end. It takes no memory.
-    pub fn into_rows(self) -> RowTables
-        ensures { rows_of_tables result ≡ record self { boundaries = [] } }
+    /// The rows of a map, of whose retired numbers no two are the same, by themselves; its rings end. They stay where they
+    /// stand: only the retired ones take memory.
+    pub fn into_rows(self) -> Result<MapRows, Memory>
+        requires { EachPair (λ a b. a ≢ b) self.retired }
+        ensures { IfOk result (λ rows. map_in rows ≡ record self { boundaries = [] }) }
     {
         let PlainMap {
             sources,
@@ -185,13 +140,14 @@ impl PlainMap {
             retired,
             boundaries: _boundaries,
         } = self;
-        RowTables {
+        let retired = retired_rows(points.allocator(), points.hash(), &retired)?;
+        Ok(MapRows {
             sources,
             points,
             parcels,
             strings,
-            retired: retired.into_list(),
-        }
+            retired,
+        })
     }
 
     /// The rings of all faces, each from the point on from which it comes before its other rotations: the outside's
@@ -217,7 +173,7 @@ impl PlainMap {
             (self.new ≡ record self.old { sources = self.old.sources ++ row ∷ [] }) }
         ensures err { OnErr result (self.new ≡ self.old) }
     {
-        self.sources.put(row)
+        self.sources.push(row)
     }
 
     /// Puts a point last. Where memory runs out the map stays.
@@ -227,7 +183,7 @@ impl PlainMap {
             (self.new ≡ record self.old { points = self.old.points ++ row ∷ [] }) }
         ensures err { OnErr result (self.new ≡ self.old) }
     {
-        self.points.put(row)
+        self.points.push(row)
     }
 
     /// Puts a parcel last. Where memory runs out the map stays.
@@ -237,7 +193,7 @@ impl PlainMap {
             (self.new ≡ record self.old { parcels = self.old.parcels ++ row ∷ [] }) }
         ensures err { OnErr result (self.new ≡ self.old) }
     {
-        self.parcels.put(row)
+        self.parcels.push(row)
     }
 
     /// Puts a string last. Where memory runs out the map stays.
@@ -247,7 +203,7 @@ impl PlainMap {
             (self.new ≡ record self.old { strings = self.old.strings ++ row ∷ [] }) }
         ensures err { OnErr result (self.new ≡ self.old) }
     {
-        self.strings.put(row)
+        self.strings.push(row)
     }
 
     /// Puts the number of a parcel last among those that mergers ended. Where memory runs out the map stays.
@@ -265,7 +221,7 @@ impl PlainMap {
         ensures { self.new
             ≡ record self.old { points = with_row (λ r. r.number) row self.old.points } }
     {
-        self.points.set(row);
+        let _ = self.points.replace(row);
     }
 
     /// Puts a parcel in the place of the one with its number. It takes no memory.
@@ -274,7 +230,7 @@ impl PlainMap {
         ensures { self.new
             ≡ record self.old { parcels = with_row (λ r. r.number) row self.old.parcels } }
     {
-        self.parcels.set(row);
+        let _ = self.parcels.replace(row);
     }
 
     /// Puts a string in the place of the one with its number. It takes no memory.
@@ -283,7 +239,7 @@ impl PlainMap {
         ensures { self.new
             ≡ record self.old { strings = with_row (λ r. r.number) row self.old.strings } }
     {
-        self.strings.set(row);
+        let _ = self.strings.replace(row);
     }
 
     /// Takes the point with a number away, if there is one.
@@ -291,7 +247,7 @@ impl PlainMap {
         ensures { self.new
             ≡ record self.old { points = without_row (λ r. r.number) no self.old.points } }
     {
-        self.points.take(no.get());
+        let _ = self.points.take(no.get());
     }
 
     /// Takes the parcel with a number away, if there is one, and its rings with it.
@@ -302,7 +258,7 @@ impl PlainMap {
               boundaries = without_face (Parcel no) self.old.boundaries;
             } }
     {
-        self.parcels.take(no.get());
+        let _ = self.parcels.take(no.get());
         drop_rings(&mut self.boundaries, &Face::Parcel(no));
     }
 
@@ -311,7 +267,7 @@ impl PlainMap {
         ensures { self.new
             ≡ record self.old { strings = without_row (λ r. r.number) no self.old.strings } }
     {
-        self.strings.take(no.get());
+        let _ = self.strings.take(no.get());
     }
 
     /// Puts these rings in the place of those of a face, in whatever order and rotation they are given. Where memory runs out

@@ -70,13 +70,6 @@ impl Retired {
         Ok(())
     }
 
-    /// The numbers as a list. It takes no memory.
-    pub(crate) fn into_list(self) -> Numbers<ParcelNo>
-        ensures { result ≡ self }
-    {
-        self.list
-    }
-
     /// The same numbers.
     pub(crate) fn copy(&self) -> Result<Retired, Memory>
         ensures { IfOk result (λ copied. copied ≡ self.now) }

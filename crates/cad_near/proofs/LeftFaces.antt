@@ -6,7 +6,7 @@ use Rattle.cad_rows.specs.declared.names.Face.TheVariants.{Outside, Parcel}
 use Rattle.cad_rows.specs.declared.rows.ParcelRow.{ParcelRow}
 use Rattle.cad_map.specs.Map.{Map, has_face, position_of, rings_of}
 use Rattle.cad_map.specs.Rings.{HasWholeRings}
-use Rattle.cad_map.specs.Table.{row_with}
+use Rattle.numbered_rows.specs.Rows.{row_with}
 use Rattle.cad_map.specs.Touched.{Moved, Joined}
 use Rattle.cad_map.specs.Valid.{IsValid, has_outlines, has_sound_holes}
 use Rattle.cad_map.proofs.CallerLemmas.{whole_valid}

@@ -8,7 +8,7 @@ use Rattle.cad_rows.specs.declared.rows.PointRow.{PointRow}
 use Rattle.cad_rows.specs.declared.rows.StringRow.{StringRow}
 use Rattle.cad_map.specs.Crossings.{HasPlacedRows, HasTwoPoints}
 use Rattle.cad_map.specs.Map.{Map, has_point, position_of, point_of, string_of}
-use Rattle.cad_map.specs.Table.{row_with}
+use Rattle.numbered_rows.specs.Rows.{row_with}
 use Rattle.cad_map.specs.Valid.{EachPair, HasSoundRows, is_same_position}
 use Rattle.cad_map.proofs.CallerLemmas.{Contains-cases, Contains-first, Contains-later, All-at_each, All-from_each, Contains-map, find-Contains, all-placed}
 use Rattle.cad_near.specs.Near.{OfPoint, OfString}

@@ -11,7 +11,7 @@ use Rattle.cad_rows.specs.declared.rows.PointRow.{PointRow}
 use Rattle.cad_rows.specs.declared.rows.StringRow.{StringRow}
 use Rattle.cad_map.specs.Map.{Map, has_point, position_of, point_of, string_of, is_end, far_end}
 use Rattle.cad_map.specs.Crossings.{HasPlacedRows, HasTwoPoints}
-use Rattle.cad_map.specs.Table.{row_with}
+use Rattle.numbered_rows.specs.Rows.{row_with}
 use Rattle.cad_map.specs.Touched.{Touched}
 use Rattle.cad_map.specs.Valid.{EachPair, HasSoundRows, is_same_position, MeetAtEnds, LiesOnlyAsEnd}
 use Rattle.cad_map.proofs.CallerLemmas.{All-at_each, All-from_each, list_all-at, positions-differ, all-placed, is_end-from, is_end-of, far_end-away, meet-at_end}

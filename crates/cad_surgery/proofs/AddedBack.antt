@@ -34,7 +34,7 @@ use Rattle.cad_surgery.specs.NewParcels.{edit_by, ticks_by, ticks_out}
 use Rattle.cad_surgery.specs.Proper.{IsProper}
 use Rattle.cad_surgery.specs.Trials.{IsTakenBack}
 use Rattle.cad_surgery.specs.Work.{TakesWork}
-use Rattle.map_parts.specs.declared.map_rows.MapRows.{MapRows}
+use Rattle.cad_map.specs.declared.map_rows.MapRows.{MapRows}
 use Rattle.map_parts.specs.declared.stars.Spoke.{Spoke}
 use Rattle.map_parts.specs.Dividing.{CanBeginUndivide, divided}
 use Rattle.map_parts.specs.Enclosing.{CanBeginOpen, enclosed}

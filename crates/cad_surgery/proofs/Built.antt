@@ -1,10 +1,9 @@
 -- What is built of a map whose rings are whole stands for it.
-use Rattle.std.proofs.Common.{◌≡◌, [], refl, sym, subst}
+use Rattle.std.proofs.Common.{◌≡◌, [], sym, subst}
 use Rattle.std.specs.List.{Contains}
 use Rattle.cad_map.specs.declared.boundary.Boundary.{Boundary}
 use Rattle.cad_map.specs.Map.{Map}
 use Rattle.cad_map.specs.Rings.{HasWholeRings}
-use Rattle.cad_map.specs.Valid.{HasSoundRows}
 use Rattle.half_table.specs.declared.half.Half.{Half}
 use Rattle.half_table.specs.Rows.{Table}
 use Rattle.map_parts.specs.declared.stars.Spoke.{Spoke}
@@ -18,32 +17,6 @@ use Rattle.map_parts.specs.Labels.{IsLabelled, HoldsRings}
 use Rattle.map_parts.proofs.Labels.{faced}
 use Rattle.map_parts.proofs.KeptHalves.{keeps-rings, none-kept}
 use Rattle.map_parts.proofs.FromHalves.{fit-together, map-is}
-
--- a map's rows by themselves are sound
-pub without-rings : (m : Map) → HasSoundRows m → HasSoundRows (record m { boundaries = [] })
-without-rings m sound = record {
-  sources = sound.sources;
-  points = sound.points;
-  parcels = sound.parcels;
-  strings = sound.strings;
-  retired = sound.retired;
-  retired_for_good = sound.retired_for_good;
-  texts = sound.texts;
-  labels = sound.labels;
-  positions = sound.positions;
-  ends = sound.ends;
-  points_of_rings = tt;
-  faces_of_rings = tt;
-  point_sources = sound.point_sources;
-  parcel_sources = sound.parcel_sources;
-  string_sources = sound.string_sources;
-  few_sources = sound.few_sources;
-  few_points = sound.few_points;
-  few_parcels = sound.few_parcels;
-  few_strings = sound.few_strings;
-  few_retired = sound.few_retired;
-  canonical = refl;
-}
 
 module _ (m : Map) (whole : HasWholeRings m) (table : Table) (kept : Held Half) (stars : Held Spoke) (grid : Grid) (st : HoldsStrings m table.rows stars) (local : IsLocal m table.rows)
     (labelled : (b : Boundary) → Contains m.boundaries b → IsLabelled m table.rows b) (holds : HoldsRings m table.rows kept m.boundaries) where

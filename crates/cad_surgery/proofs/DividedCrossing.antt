@@ -12,7 +12,7 @@ use Rattle.cad_map.specs.Chain.{leaving}
 use Rattle.cad_map.specs.Effects.{after}
 use Rattle.cad_map.specs.Map.{Map, all_sides, has_face, string_of}
 use Rattle.cad_map.specs.Rings.{HasWholeRings}
-use Rattle.cad_map.specs.Table.{row_with}
+use Rattle.numbered_rows.specs.Rows.{row_with}
 use Rattle.cad_map.proofs.CallerLemmas.{All-at_each, All-follows, All-from_each, Contains-flat_map, Contains-later, filter-Contains, found-number, whole_valid}
 use Rattle.half_table.specs.declared.half.Half.{Half}
 use Rattle.half_table.specs.Half.{forward_of}

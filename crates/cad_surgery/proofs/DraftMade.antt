@@ -9,7 +9,7 @@ use Rattle.cad_map.specs.Refusals.{first_refusal, unknown, taken, not_attached}
 use Rattle.cad_map.specs.Valid.{EachPair}
 use Rattle.cad_map.proofs.CallerLemmas.{allowed}
 use Rattle.map_parts.specs.Parts.{Parts, FitTogether, rows_of, map_of}
-use Rattle.map_parts.specs.Rows.{map_in}
+use Rattle.cad_map.specs.MapRows.{map_in}
 use Rattle.cad_surgery.specs.declared.draft.Draft.TheInside.{Inside}
 use Rattle.cad_surgery.specs.RowEdits.{is_of_rows, HasSameEnds, KeepsBeside, with_rows, without_rings}
 use Rattle.cad_surgery.proofs.DraftRows.{unknown-rows, taken-rows, not_attached-rows, made-ends, made-map, rows-after, unmade-ends, unmade-map, beside-rows}

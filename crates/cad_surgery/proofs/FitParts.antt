@@ -7,11 +7,11 @@ use Rattle.cell_grid.specs.Grid.{Grid}
 use Rattle.half_table.specs.declared.half.Half.{Half}
 use Rattle.half_table.specs.Rows.{Table, has}
 use Rattle.key_lists.specs.Held.{Held}
-use Rattle.map_parts.specs.declared.map_rows.MapRows.{MapRows}
+use Rattle.cad_map.specs.declared.map_rows.MapRows.{MapRows}
 use Rattle.map_parts.specs.declared.stars.Spoke.{Spoke}
 use Rattle.map_parts.specs.declared.edits.placed_strings.PlacedString.{PlacedString}
 use Rattle.map_parts.specs.Merging.{HaveGone}
-use Rattle.map_parts.specs.Rows.{map_in}
+use Rattle.cad_map.specs.MapRows.{map_in}
 use Rattle.map_parts.specs.Parts.{Parts, FitTogether, map_of, kept_at}
 use Rattle.cad_surgery.specs.Proper.{IsProper}
 use Rattle.cad_surgery.specs.declared.draft.Draft.TheInside.{Inside}

@@ -16,7 +16,7 @@ use Rattle.cad_map.specs.Division.{hole_placed}
 use Rattle.cad_map.specs.Effects.{after}
 use Rattle.cad_map.specs.Map.{Map, all_sides, has_face}
 use Rattle.cad_map.specs.Rings.{HasWholeRings}
-use Rattle.cad_map.specs.Table.{row_with}
+use Rattle.numbered_rows.specs.Rows.{row_with}
 use Rattle.cad_map.proofs.CallerLemmas.{CanEnclose as IsAllowed, All-at_each, All-from_each, Contains-cases, Contains-first, Contains-later, Contains-map, Contains-flat_map, Contains-filter, filter-Contains, map-Contains, Contains-has_side, has_side-Contains, is_face-same, is_face-refl, ring-hole_placed, is_division-enclosed, count-no, count-map}
 use Rattle.half_table.specs.declared.half.Half.{Half}
 use Rattle.half_table.specs.Rows.{HalfRows}

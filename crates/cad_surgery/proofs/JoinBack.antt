@@ -17,7 +17,7 @@ use Rattle.key_lists.specs.Held.{Held}
 use Rattle.cad_laws.specs.Joining.{FarEndsAreApart}
 use Rattle.cad_laws.specs.Tried.{IsTried}
 use Rattle.map_parts.specs.declared.edits.join.JoinedRows.{JoinedRows}
-use Rattle.map_parts.specs.declared.map_rows.MapRows.{MapRows}
+use Rattle.cad_map.specs.declared.map_rows.MapRows.{MapRows}
 use Rattle.map_parts.specs.declared.stars.Spoke.{Spoke}
 use Rattle.map_parts.specs.Joined.{CanBeginUnjoin}
 use Rattle.cad_surgery.specs.declared.draft.Draft.TheInside.{Inside}

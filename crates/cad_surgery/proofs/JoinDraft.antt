@@ -9,7 +9,7 @@ use Rattle.cad_map.specs.Costs.{work_bound}
 use Rattle.cad_map.specs.Effects.{after}
 use Rattle.cad_map.specs.Map.{Map, point_of, string_of, has_string, strings_at, far_end, degree}
 use Rattle.cad_map.specs.Rings.{HasWholeRings}
-use Rattle.cad_map.specs.Table.{without_row}
+use Rattle.numbered_rows.specs.Rows.{without_row}
 use Rattle.cad_map.proofs.CallerLemmas.{allowed, two-joined, meet-at, found-number}
 use Rattle.half_table.specs.declared.half.Half.{Half}
 use Rattle.half_table.specs.Half.{half_of, twin, forward_of}
@@ -25,7 +25,7 @@ use Rattle.cad_laws.specs.Local.{IsShown}
 use Rattle.cad_laws.specs.Tried.{IsTried}
 use Rattle.map_parts.specs.declared.edits.join.JoinedRows.{JoinedRows}
 use Rattle.cad_surgery.specs.declared.edits.joining.Joining.{Joining}
-use Rattle.map_parts.specs.declared.map_rows.MapRows.{MapRows}
+use Rattle.cad_map.specs.declared.map_rows.MapRows.{MapRows}
 use Rattle.map_parts.specs.declared.stars.Spoke.{Spoke}
 use Rattle.map_parts.specs.Joined.{CanBeginJoin, CanUnjoin, CanBeginUnjoin}
 use Rattle.cad_surgery.specs.Joinings.{joining_of}

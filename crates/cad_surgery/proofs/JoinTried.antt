@@ -19,7 +19,7 @@ use Rattle.cad_laws.specs.Tried.{IsTried}
 use Rattle.map_parts.specs.declared.edits.join.JoinedRows.{JoinedRows}
 use Rattle.cad_surgery.specs.declared.draft.Draft.TheInside.{Inside}
 use Rattle.cad_surgery.specs.declared.edits.joining.Joining.{Joining}
-use Rattle.map_parts.specs.declared.map_rows.MapRows.{MapRows}
+use Rattle.cad_map.specs.declared.map_rows.MapRows.{MapRows}
 use Rattle.map_parts.specs.declared.stars.Spoke.{Spoke}
 use Rattle.map_parts.specs.Joined.{CanBeginJoin, CanBePutBack, CanUnjoin, HaveJoined}
 use Rattle.cad_surgery.specs.Joinings.{IsJoiningAt}
@@ -27,7 +27,7 @@ use Rattle.map_parts.specs.Parts.{Parts, FitTogether, HasHalves, map_of, kept_at
 use Rattle.map_parts.specs.Passing.{path_at}
 use Rattle.cad_surgery.specs.Proper.{IsProper}
 use Rattle.edit_records.specs.Record.{HeldJoined}
-use Rattle.map_parts.specs.Rows.{map_in}
+use Rattle.cad_map.specs.MapRows.{map_in}
 use Rattle.map_parts.specs.Splitting.{FitMap}
 use Rattle.cad_surgery.specs.Work.{TakesWork}
 use Rattle.cad_surgery.proofs.DraftFits.{draft-fits, draft-all, draft-work, settled}

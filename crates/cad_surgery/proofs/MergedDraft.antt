@@ -22,7 +22,7 @@ use Rattle.cad_surgery.specs.declared.edits.merging.Way.TheVariants.{Along}
 use Rattle.cad_surgery.specs.Mergers.{HasSharedPath}
 use Rattle.cad_surgery.specs.Merging.{HasShared, IsMergerOn, IsUndoable, CanTakeBack, Begins, IsBack, ticks_by}
 use Rattle.map_parts.specs.declared.edits.merging_tried.EndedParcel.{EndedParcel}
-use Rattle.map_parts.specs.declared.map_rows.MapRows.{MapRows}
+use Rattle.cad_map.specs.declared.map_rows.MapRows.{MapRows}
 use Rattle.map_parts.specs.declared.stars.Spoke.{Spoke}
 use Rattle.map_parts.specs.Handing.{KeepsEnds, home_of}
 use Rattle.map_parts.specs.Islands.{AreOfRings}

@@ -14,7 +14,7 @@ use Rattle.cad_laws.specs.Counts.{sides_of_face}
 use Rattle.cad_laws.specs.Tried.{IsTried}
 use Rattle.cad_laws.proofs.CallerLemmas.{whole-after}
 use Rattle.cad_surgery.specs.declared.edits.given.NewParcel.{NewParcel}
-use Rattle.map_parts.specs.declared.map_rows.MapRows.{MapRows}
+use Rattle.cad_map.specs.declared.map_rows.MapRows.{MapRows}
 use Rattle.map_parts.specs.declared.stars.Spoke.{Spoke}
 use Rattle.map_parts.specs.Enclosing.{IsEnclosing, CanBeginOpen, enclosed}
 use Rattle.cad_surgery.specs.Enclosures.{enclosed_by, strings_by}

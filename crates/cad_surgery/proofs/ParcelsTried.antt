@@ -31,7 +31,7 @@ use Rattle.cad_surgery.specs.NewParcels.{Comes, IsNewOn, IsPut, IsUndoable, AreB
 use Rattle.cad_surgery.specs.Proper.{IsProper}
 use Rattle.cad_surgery.specs.Trials.{IsMade}
 use Rattle.cad_surgery.specs.Work.{TakesWork, TicksUpTo}
-use Rattle.map_parts.specs.declared.map_rows.MapRows.{MapRows}
+use Rattle.cad_map.specs.declared.map_rows.MapRows.{MapRows}
 use Rattle.map_parts.specs.declared.stars.Spoke.{Spoke}
 use Rattle.map_parts.specs.Dividing.{CanUndivide}
 use Rattle.map_parts.specs.Enclosing.{CanOpen}

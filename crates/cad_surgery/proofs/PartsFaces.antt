@@ -14,7 +14,7 @@ use Rattle.cad_map.specs.declared.boundary.Boundary.{Boundary}
 use Rattle.cad_map.specs.Boundaries.{is_face}
 use Rattle.cad_map.specs.Map.{faces, rings_at, has_face, has_parcel}
 use Rattle.cad_map.specs.Rings.{HasWholeRings, ring_at}
-use Rattle.cad_map.specs.Table.{row_with}
+use Rattle.numbered_rows.specs.Rows.{row_with}
 use Rattle.cad_map.specs.Valid.{EachPair}
 use Rattle.cad_map.specs.Walk.{first_side}
 use Rattle.cad_map.proofs.CallerLemmas.{Contains-first, Contains-later, Contains-map, Contains-flat_map, Contains-at, begins_with, has_first, ring-few}

@@ -23,7 +23,7 @@ use Rattle.cad_surgery.specs.RowEdits.{HasSameEnds, ends_of, with_rows}
 use Rattle.map_parts.specs.Stars.{spokes_of}
 use Rattle.map_parts.specs.declared.stars.Spoke.{Spoke}
 use Rattle.map_parts.proofs.CycleRings.{map-map}
-use Rattle.map_parts.proofs.RowLists.{some-by_numbers}
+use Rattle.numbered_rows.proofs.ByNumbers.{some-by_numbers}
 
 -- a fact of what a list is mapped to
 All-unmap : {X Y : Type 0} (P : X → Type 0) (f : Y → X) (ys : List Y) → AllByRecursion P (map f ys) → AllByRecursion (λ y. P (f y)) ys

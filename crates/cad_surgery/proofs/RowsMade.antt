@@ -17,14 +17,15 @@ use Rattle.cad_map.specs.Changes.{change_point, change_parcel, change_sources}
 use Rattle.cad_map.specs.Effects.{after}
 use Rattle.cad_map.specs.Map.{Map, point_of, parcel_of, string_of}
 use Rattle.cad_map.specs.Refusals.{is_there, item_named, is_attached, sources_at}
-use Rattle.cad_map.specs.Table.{row_with, without_row}
+use Rattle.numbered_rows.specs.Rows.{row_with, without_row}
 use Rattle.cad_map.specs.Valid.{IsValid, EachPair, AreSources}
 use Rattle.cad_map.proofs.CallerLemmas.{IsAllowed, allowed, free-source, free-point, there-one, not-when, find-Contains, All-at_each}
 use Rattle.edit_records.specs.Record.{edit_of, IsMadeOf}
 use Rattle.edit_records.specs.declared.record.SmallRecord.{SmallRecord}
 use Rattle.edit_records.specs.declared.record.SmallRecord.TheVariants.{AddSource, AddPoint, DropPoint, Move, Attach, Detach, Rename}
 use Rattle.cad_surgery.specs.RowEdits.{without_rings}
-use Rattle.cad_laws.proofs.CallerLemmas.{filter-push, none-any, none-taken, without-push, insert-without}
+use Rattle.numbered_rows.proofs.Removed.{none-taken}
+use Rattle.cad_laws.proofs.CallerLemmas.{filter-push, none-any, without-push, insert-without}
 use Rattle.map_parts.proofs.RowsUndone.{HasNumbers, IsChanged, changed, point-known, parcel-known, moved-back, named-back, place-left}
 
 -- ---- Lists

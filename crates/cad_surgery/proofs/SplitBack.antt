@@ -15,7 +15,7 @@ use Rattle.half_table.specs.Rows.{Table, has, cycle}
 use Rattle.half_paths.specs.Loose.{is_of, DropsStrings}
 use Rattle.key_lists.specs.Held.{Held}
 use Rattle.cad_laws.specs.Tried.{IsTried}
-use Rattle.map_parts.specs.declared.map_rows.MapRows.{MapRows}
+use Rattle.cad_map.specs.declared.map_rows.MapRows.{MapRows}
 use Rattle.map_parts.specs.declared.stars.Spoke.{Spoke}
 use Rattle.cad_surgery.specs.declared.draft.Draft.TheInside.{Inside}
 use Rattle.cad_surgery.specs.declared.edits.try_split.Halving.{Halving}

@@ -24,12 +24,12 @@ use Rattle.cad_laws.specs.Counts.{sides_through}
 use Rattle.cad_laws.specs.Local.{IsShown}
 use Rattle.cad_laws.specs.Tried.{IsTried}
 use Rattle.cad_laws.proofs.CallerLemmas.{whole-after}
-use Rattle.map_parts.specs.declared.map_rows.MapRows.{MapRows}
+use Rattle.cad_map.specs.declared.map_rows.MapRows.{MapRows}
 use Rattle.map_parts.specs.declared.stars.Spoke.{Spoke}
 use Rattle.cad_surgery.specs.declared.draft.Draft.TheInside.{Inside}
 use Rattle.cad_surgery.specs.declared.edits.try_split.Halving.{Halving}
 use Rattle.cad_surgery.specs.declared.edits.try_split.SplitRows.{SplitRows}
-use Rattle.map_parts.specs.Rows.{map_in}
+use Rattle.cad_map.specs.MapRows.{map_in}
 use Rattle.map_parts.specs.Parts.{Parts, FitTogether, HasHalves, map_of, kept_at}
 use Rattle.map_parts.specs.Passing.{HasBetween, path_of}
 use Rattle.cad_surgery.specs.Proper.{IsProper}

@@ -35,7 +35,7 @@ use Rattle.cad_surgery.specs.ToldMergers.{halves_of}
 use Rattle.cad_surgery.specs.Proper.{IsProper}
 use Rattle.cad_surgery.specs.Work.{TakesWork}
 use Rattle.map_parts.specs.declared.edits.placed_strings.PlacedString.{PlacedString}
-use Rattle.map_parts.specs.declared.map_rows.MapRows.{MapRows}
+use Rattle.cad_map.specs.declared.map_rows.MapRows.{MapRows}
 use Rattle.map_parts.specs.declared.stars.Spoke.{Spoke}
 use Rattle.map_parts.specs.Merging.{rows_gone, sides_led}
 use Rattle.map_parts.specs.Parts.{Parts, FitTogether, map_of, kept_at}

@@ -29,7 +29,7 @@ use Rattle.cad_surgery.specs.Proper.{IsProper}
 use Rattle.cad_surgery.specs.ToldMergers.{CanGoBack, GoesBack, HeldMerger, IsAtHand, IsMergedBy, WentAlong, chain_told, halves_of, ticks_back}
 use Rattle.cad_surgery.specs.Trials.{IsTakenBack}
 use Rattle.map_parts.specs.declared.edits.merging_tried.EndedParcel.{EndedParcel}
-use Rattle.map_parts.specs.declared.map_rows.MapRows.{MapRows}
+use Rattle.cad_map.specs.declared.map_rows.MapRows.{MapRows}
 use Rattle.map_parts.specs.declared.stars.Spoke.{Spoke}
 use Rattle.map_parts.specs.Merging.{merged, sides_led, CanBeginUnmerge}
 use Rattle.map_parts.specs.MergingIsland.{without_island, CanBeginUnmergeIsland}

@@ -21,7 +21,7 @@ use Rattle.cad_surgery.specs.NewParcels.{edit_by, ticks_out}
 use Rattle.edit_records.specs.HeldChains.{HeldChain, HeldIsland}
 use Rattle.edit_records.specs.declared.record.SmallRecord.{SmallRecord}
 use Rattle.edit_records.specs.declared.record.SmallRecord.TheVariants as change
-use Rattle.map_parts.specs.declared.map_rows.MapRows.{MapRows}
+use Rattle.cad_map.specs.declared.map_rows.MapRows.{MapRows}
 use Rattle.map_parts.specs.declared.stars.Spoke.{Spoke}
 use Rattle.map_parts.specs.Dividing.{CanBeginUndivide, divided}
 use Rattle.map_parts.specs.Enclosing.{CanBeginOpen, enclosed}

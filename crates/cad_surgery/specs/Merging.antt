@@ -21,7 +21,7 @@ use Rattle.cad_surgery.specs.IslandMergers.{HasSharedRing, HasFoundRing}
 use Rattle.cad_surgery.specs.Mergers.{HasSharedPath, HasFoundPath}
 use Rattle.cad_surgery.specs.Work.{TakesWork, TicksUpTo}
 use Rattle.map_parts.specs.declared.edits.merging_tried.EndedParcel.{EndedParcel}
-use Rattle.map_parts.specs.declared.map_rows.MapRows.{MapRows}
+use Rattle.cad_map.specs.declared.map_rows.MapRows.{MapRows}
 use Rattle.map_parts.specs.declared.stars.Spoke.{Spoke}
 use Rattle.map_parts.specs.Handing.{KeepsEnds}
 use Rattle.map_parts.specs.Merging.{CanUnmerge}

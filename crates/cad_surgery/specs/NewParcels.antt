@@ -28,7 +28,7 @@ use Rattle.cad_surgery.specs.declared.edits.merging.Way.TheVariants as way
 use Rattle.cad_surgery.specs.Divisions.{ComesAcross, divided_by}
 use Rattle.cad_surgery.specs.Enclosures.{ComesRound, enclosed_by, parcel_by}
 use Rattle.cad_surgery.specs.Work.{TicksUpTo}
-use Rattle.map_parts.specs.declared.map_rows.MapRows.{MapRows}
+use Rattle.cad_map.specs.declared.map_rows.MapRows.{MapRows}
 use Rattle.map_parts.specs.declared.stars.Spoke.{Spoke}
 use Rattle.map_parts.specs.Dividing.{CanUndivide}
 use Rattle.map_parts.specs.Enclosing.{CanOpen}

@@ -24,7 +24,7 @@ use Rattle.edit_records.specs.declared.record.SmallRecord.TheVariants as change
 use Rattle.edit_records.specs.Record.{HeldMergedAlong, HeldMergedIsland}
 use Rattle.map_parts.specs.declared.edits.merging_tried.EndedParcel.{EndedParcel}
 use Rattle.map_parts.specs.declared.edits.placed_strings.PlacedString.{PlacedString}
-use Rattle.map_parts.specs.declared.map_rows.MapRows.{MapRows}
+use Rattle.cad_map.specs.declared.map_rows.MapRows.{MapRows}
 use Rattle.map_parts.specs.declared.stars.Spoke.{Spoke}
 use Rattle.map_parts.specs.Merging.{rows_gone, CanBeginUnmerge}
 use Rattle.map_parts.specs.MergingIsland.{CanBeginUnmergeIsland}

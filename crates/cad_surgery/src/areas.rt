@@ -2,24 +2,15 @@
 ghost use Rattle.std.specs.Prelude.{◌≡◌, ◌≤◌, ◌*◌, true, length, map};
 ghost use Rattle.geo_exact.specs.Measure.{doubled_area};
 ghost use Rattle.cad_rows.specs.Limits.{string_limit};
-ghost use Rattle.cad_map.specs.Map.{empty_map, position_of, sum_of_ring};
+ghost use Rattle.cad_map.specs.Map.{empty_map, sum_of_ring};
 ghost use Rattle.half_table.specs.Rows.{has, origin_of, cycle};
-ghost use Rattle.map_parts.specs.Rows.{rows_in};
+ghost use Rattle.numbered_rows.specs.Rows.{rows_in};
 
-use cad_rows::{PointNo, PointRow};
-use geo_exact::{DoubledArea, Pt, SideMeasure};
+use cad_map::position_in;
+use cad_rows::PointRow;
+use geo_exact::{DoubledArea, SideMeasure};
 use half_table::{Half, HalfTable, Tally};
-use map_parts::Rows;
-
-/// The position of a point, and of one that isn't there the origin.
-fn position_in(points: &Rows<PointRow>, no: PointNo) -> Pt
-    ensures { result ≡ position_of (record empty_map { points = rows_in points.now }) no }
-{
-    match points.get(no.get()) {
-        Some(row) => row.position,
-        None => Pt { x: 0, y: 0 },
-    }
-}
+use numbered_rows::Rows;
 
 /// The doubled area of the ring along the cycle of a half, whose points are where these rows have
 /// them. It takes no memory.

@@ -15,7 +15,7 @@ ghost use Rattle.map_parts.specs.Views.{view_half};
 ghost use Rattle.cad_surgery.specs.Spans.{span_along};
 
 use crate::areas::area_along;
-use cad_map::{Counts, MapView, PlainMap, Span, face_place};
+use cad_map::{Counts, MapRows, MapView, PlainMap, Span, face_place};
 use cad_rows::{
     Face, Memory, ParcelNo, ParcelRow, PointNo, PointRow, SourceNo, SourceRow, StringNo, StringRow,
 };
@@ -24,8 +24,7 @@ use edit_records::{grid_of, span_between};
 use half_table::{Half, HalfTable, Tally};
 use key_lists::KeyLists;
 use map_parts::{
-    MapRows, Spoke, add_strings, far_in_star, find_half_in_star, half_at, kept_half, link_rings,
-    star_of,
+    Spoke, add_strings, far_in_star, find_half_in_star, half_at, kept_half, link_rings, star_of,
 };
 use std::alloc::Global;
 use std::marker::Model;
@@ -55,7 +54,7 @@ impl<T: Tally> Drop for Draft<T> {
 impl<T: Tally> Model for Draft<T> {
     ghost use Rattle.map_parts.specs.Parts.{Parts, FitTogether};
     ghost use Rattle.map_parts.specs.Building.{parts_of};
-    ghost use Rattle.map_parts.specs.Rows.{map_in};
+    ghost use Rattle.cad_map.specs.MapRows.{map_in};
 
     ghost Value = { Parts };
 
@@ -114,7 +113,7 @@ impl<T: Tally> Draft<T> {
         let kept = link_rings(alloc, &map, &mut linking, &stars)?;
         let table = linking.close();
         let grid = grid_of(alloc, &map)?;
-        let rows = MapRows::of(alloc, map.into_rows())?;
+        let rows = map.into_rows()?;
         Ok(Draft {
             rows,
             table,

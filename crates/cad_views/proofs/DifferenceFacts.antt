@@ -8,7 +8,7 @@ use Rattle.std.proofs.lemmas.List.Elements.{Contains-append_left, Contains-appen
 use Rattle.cad_rows.specs.declared.names.Name.{Name}
 use Rattle.cad_rows.specs.declared.names.Name.TheVariants as name
 use Rattle.cad_map.specs.Map.{Map, source_of, point_of, parcel_of, string_of, is_retired, has_parcel}
-use Rattle.cad_map.specs.Table.{row_with}
+use Rattle.numbered_rows.specs.Rows.{row_with}
 use Rattle.cad_map.specs.Valid.{EachPair, HasSoundRows}
 use Rattle.cad_map.proofs.CallerLemmas.{All-from_Contains, All-Contains, Contains-cases, Contains-filter, Contains-map, filter-Contains, find-Contains, list_any-Contains, map-Contains, EachPair-join}
 use Rattle.cad_map.proofs.Lists.TakenOut.{EachPair-filter}

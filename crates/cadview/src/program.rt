@@ -95,7 +95,7 @@ where
     let plan = last_plan(text.as_slice());
     match read_map(rt.alloc(), NumberHash::drawn(rt), plan) {
         Ok(plan) => Ok(plan),
-        Err(PlanFault::Read) => Err(ViewFault::Read),
+        Err(PlanFault::Read | PlanFault::Length) => Err(ViewFault::Read),
         Err(PlanFault::Memory) => Err(ViewFault::Memory),
         Err(fault) => Err(ViewFault::Plan(fault)),
     }

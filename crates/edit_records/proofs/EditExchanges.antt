@@ -21,7 +21,7 @@ use Rattle.cad_map.specs.Changes.{with_point, change_point, change_string, chang
 use Rattle.cad_map.specs.Effects.{after}
 use Rattle.cad_map.specs.Map.{Map, point_of, string_of, parcel_of, has_point, position_of, origin, is_end, strings_at}
 use Rattle.cad_map.specs.Merger.{is_shared}
-use Rattle.cad_map.specs.Table.{row_with, with_row, without_row}
+use Rattle.numbered_rows.specs.Rows.{row_with, with_row, without_row}
 use Rattle.cad_map.specs.Valid.{IsValid, EachPair, is_same_position}
 use Rattle.cad_map.proofs.CallerLemmas.{IsAllowed, allowed, not-when, there-one, two-joined, halves-differ, free-point, free-split, free-join, free-dropped, can-divide, can-enclose, names-parcels, MeetAt, meet-at, All-at_each, All-Contains, Contains-cases, Contains-map, filter-Contains, find-Contains, found-number, map-with_row-same, numbers-strings_along, pairs-from_distinct, length-push, ends, is_end-of, is_nothing, no_end}
 use Rattle.cell_grid.specs.declared.entry.Entry.{Entry}

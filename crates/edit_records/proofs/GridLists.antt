@@ -23,7 +23,7 @@ use Rattle.cad_map.specs.Changes.{with_point, by_number}
 use Rattle.cad_map.specs.Effects.{after}
 use Rattle.cad_map.specs.Map.{Map, point_of, string_of, has_point, position_of, is_end, far_end, strings_at}
 use Rattle.cad_map.specs.Spans.{span_of}
-use Rattle.cad_map.specs.Table.{row_with, without_row}
+use Rattle.numbered_rows.specs.Rows.{row_with, without_row}
 use Rattle.cad_map.specs.Valid.{IsValid, EachPair, is_same_position}
 use Rattle.cad_map.proofs.CallerLemmas.{allowed, not-when, there-one, two-joined, free-split, can-divide, CanDivide, MeetAt, meet-at, All-at_each, Contains-first, Contains-later, Contains-map, filter-Contains, find-Contains, found-number, differs, ends}
 use Rattle.cad_laws.specs.Counts.{shared_strings}

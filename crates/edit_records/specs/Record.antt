@@ -16,7 +16,7 @@ use Rattle.cad_map.specs.Effects.{after}
 use Rattle.cad_map.specs.Map.{Map, point_of, parcel_of, strings_at}
 use Rattle.cad_map.specs.Outcome.{LeadsTo}
 use Rattle.cad_map.specs.Refusals.{first_refusal, sources_at}
-use Rattle.cad_map.specs.Table.{without_row}
+use Rattle.numbered_rows.specs.Rows.{without_row}
 use Rattle.cad_map.specs.Valid.{IsValid}
 use Rattle.half_table.specs.declared.half.Half.{Half}
 use Rattle.edit_records.specs.declared.record.ChainString.{ChainString}

@@ -14,7 +14,7 @@ use Rattle.cad_map.specs.Boundaries.{face_place}
 use Rattle.cad_map.specs.Chain.{are_distinct, strings_along}
 use Rattle.cad_map.specs.Map.{Map, string_of, parcel_of, side_of, has_face}
 use Rattle.cad_map.specs.Rings.{HasWholeRings}
-use Rattle.cad_map.specs.Table.{without_row}
+use Rattle.numbered_rows.specs.Rows.{without_row}
 use Rattle.cad_map.specs.Valid.{EachPair}
 use Rattle.cad_map.proofs.CallerLemmas.{All-append, All-follows, All-join, numbers-strings_along, sides-strings_along, pairs-from_distinct}
 use Rattle.half_table.specs.declared.half.Half.{Half}
@@ -23,9 +23,9 @@ use Rattle.half_table.specs.Rows.{HalfRows, has}
 use Rattle.half_paths.specs.Path.{AreIn, AreDifferent, strings_of}
 use Rattle.half_paths.specs.Loose.{numbers_of}
 use Rattle.key_lists.specs.Held.{Held, items_at, capacity_at, HasRoomAt}
-use Rattle.map_parts.specs.declared.map_rows.MapRows.{MapRows}
+use Rattle.cad_map.specs.declared.map_rows.MapRows.{MapRows}
 use Rattle.map_parts.specs.declared.stars.Spoke.{Spoke}
-use Rattle.map_parts.specs.Rows.{map_in}
+use Rattle.cad_map.specs.MapRows.{map_in}
 use Rattle.map_parts.specs.Parts.{HasHalves}
 use Rattle.map_parts.specs.Paths.{AreAlong, HasStringsMore}
 use Rattle.map_parts.specs.Islands.{FitsTable, AreOfRings}

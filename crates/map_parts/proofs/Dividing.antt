@@ -21,7 +21,7 @@ use Rattle.half_paths.specs.Loose.{numbers_of}
 use Rattle.key_lists.specs.Held.{Held, IsSame}
 use Rattle.cad_laws.specs.Faces.{left_of_chain, right_of_chain}
 use Rattle.cad_laws.proofs.CallerLemmas.{whole-after}
-use Rattle.map_parts.specs.declared.map_rows.MapRows.{MapRows}
+use Rattle.cad_map.specs.declared.map_rows.MapRows.{MapRows}
 use Rattle.map_parts.specs.declared.stars.Spoke.{Spoke}
 use Rattle.map_parts.specs.Adding.{AreAdded, HasRoomToExchange}
 use Rattle.map_parts.specs.Parts.{HasHalves}

@@ -10,7 +10,7 @@ use Rattle.cad_rows.specs.declared.edits.Edit.TheVariants.{Enclose}
 use Rattle.cad_rows.specs.declared.names.Face.{Face}
 use Rattle.cad_rows.specs.declared.names.Face.TheVariants.{Outside, Parcel}
 use Rattle.cad_rows.specs.declared.rows.ParcelRow.{ParcelRow}
-use Rattle.cad_map.specs.Table.{row_with}
+use Rattle.numbered_rows.specs.Rows.{row_with}
 use Rattle.cad_rings.specs.Cycle.{Ring, sides_of, opposite}
 use Rattle.cad_rings.proofs.CallerLemmas.{sides_of-least_rotation, sides_of-reversed}
 use Rattle.cad_map.specs.declared.boundary.Boundary.{Boundary}

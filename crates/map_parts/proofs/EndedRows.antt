@@ -8,20 +8,21 @@ use Rattle.std.proofs.lemmas.Option.{slice_get_within}
 use Rattle.cad_rows.specs.declared.rows.ParcelRow.{ParcelRow}
 use Rattle.cad_rows.specs.declared.rows.StringRow.{StringRow}
 use Rattle.cad_map.specs.Map.{Map, parcel_of, is_retired}
-use Rattle.cad_map.specs.Table.{without_row}
+use Rattle.numbered_rows.specs.Rows.{without_row}
 use Rattle.cad_map.proofs.CallerLemmas.{All-from_each, All-at_each, list_any-Contains, Contains-first}
 use Rattle.key_lists.specs.Held.{Held}
 use Rattle.cad_laws.proofs.CallerLemmas.{found-at}
 use Rattle.map_parts.specs.declared.edits.placed_strings.PlacedString.{PlacedString}
-use Rattle.map_parts.specs.declared.map_rows.MapRows.{MapRows}
+use Rattle.cad_map.specs.declared.map_rows.MapRows.{MapRows}
 use Rattle.map_parts.specs.declared.stars.Spoke.{Spoke}
 use Rattle.map_parts.specs.Merging.{CanComeBack}
 use Rattle.map_parts.specs.PlacedStrings.{CanPutPlaced}
-use Rattle.map_parts.specs.Rows.{map_in}
+use Rattle.cad_map.specs.MapRows.{map_in}
 use Rattle.map_parts.specs.Splitting.{AreStarsOf}
 use Rattle.map_parts.proofs.MergedRows.{stood-there}
 use Rattle.map_parts.proofs.Passing.SplitBetween.{row-first}
-use Rattle.map_parts.proofs.Passing.SplitUndone.{insert-back, none-without}
+use Rattle.numbered_rows.proofs.Removed.{none-taken}
+use Rattle.map_parts.proofs.Passing.SplitUndone.{insert-back}
 
 module _ {row : ParcelRow} {place : ℕ} {gone : List PlacedString} {rows : MapRows} {stars : Held Spoke} (can : CanComeBack row place gone rows stars) where
   abbrev pub put-can : CanPutPlaced gone rows stars
@@ -46,7 +47,7 @@ module _ {row : ParcelRow} {place : ℕ} {gone : List PlacedString} {rows : MapR
     mid_are = mid_is ∙ ap (λ (q : Map). record q { strings = can.before.strings }) can.left
 
     pub mid-absent : parcel_of mid row.number ≡ None
-    mid-absent = ap (λ (q : Map). parcel_of q row.number) mid_are ∙ none-without (λ (p : ParcelRow). p.number) row.number can.before.parcels
+    mid-absent = ap (λ (q : Map). parcel_of q row.number) mid_are ∙ none-taken (λ (p : ParcelRow). p.number) row.number can.before.parcels
 
     pub mid-retired : is_retired mid row.number ≡ true
     mid-retired =

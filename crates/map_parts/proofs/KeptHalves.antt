@@ -13,7 +13,7 @@ use Rattle.cad_rings.specs.Cycle.{has_side, sides_of}
 use Rattle.cad_map.specs.declared.boundary.Boundary.{Boundary}
 use Rattle.cad_map.specs.Boundaries.{bounding, face_place}
 use Rattle.cad_map.specs.Map.{Map, faces, has_face, all_sides}
-use Rattle.cad_map.specs.Table.{row_with}
+use Rattle.numbered_rows.specs.Rows.{row_with}
 use Rattle.cad_map.specs.Rings.{HasWholeRings}
 use Rattle.cad_map.specs.Valid.{EachPair}
 use Rattle.cad_map.proofs.CallerLemmas.{Contains-first, Contains-later, Contains-cases, Contains-map, Contains-in_part, All-at_each, All-from_each, list_any-Contains, map-Contains, find-Contains, filter-Contains, has_side-Contains, Contains-has_side, is_face-same, is_face-place, front_exchanged, once-from_pairs}

@@ -1,4 +1,3 @@
-pub mod RowLists
 pub mod WholeStrings
 pub mod RingsOfHalves
 pub mod CycleRings

@@ -18,7 +18,7 @@ use Rattle.cad_map.specs.Effects.{after}
 use Rattle.cad_map.specs.Map.{Map, faces, has_face}
 use Rattle.cad_map.specs.Merger.{ChainInRings, shared_chains}
 use Rattle.cad_map.specs.Merger.ChainInRings.{along, around}
-use Rattle.cad_map.specs.Table.{without_row}
+use Rattle.numbered_rows.specs.Rows.{without_row}
 use Rattle.cad_map.specs.Valid.{IsValid}
 use Rattle.cad_map.proofs.CallerLemmas.{IsAllowed, allowed, can-merge, faces-differ, IsFound, found, common-along, along-found, Contains-filter}
 use Rattle.cad_laws.specs.Faces.{IsMergedIn}

@@ -15,7 +15,7 @@ use Rattle.key_lists.specs.Held.{Held, IsSame}
 use Rattle.cad_laws.proofs.CallerLemmas.{two-sides}
 use Rattle.cad_rings.specs.Cycle.{sides_of}
 use Rattle.map_parts.specs.declared.edits.placed_strings.PlacedString.{PlacedString}
-use Rattle.map_parts.specs.declared.map_rows.MapRows.{MapRows}
+use Rattle.cad_map.specs.declared.map_rows.MapRows.{MapRows}
 use Rattle.map_parts.specs.declared.stars.Spoke.{Spoke}
 use Rattle.map_parts.specs.Adding.{HasRoomToExchange}
 use Rattle.map_parts.specs.Paths.{AreAlong}

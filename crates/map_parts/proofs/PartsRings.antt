@@ -13,7 +13,7 @@ use Rattle.cad_rings.proofs.CallerLemmas.{sides_of-least_rotation}
 use Rattle.cad_map.specs.declared.boundary.Boundary.{Boundary}
 use Rattle.cad_map.specs.Boundaries.{bounding, is_face, canonical_order, sides_in, corners_in, canonical_form}
 use Rattle.cad_map.specs.Map.{all_sides, rings_at}
-use Rattle.cad_map.specs.Table.{row_with}
+use Rattle.numbered_rows.specs.Rows.{row_with}
 use Rattle.cad_map.specs.Valid.{HasTwoEnds}
 use Rattle.cad_map.specs.Views.{HasSide, ComesAfter}
 use Rattle.cad_map.proofs.CallerLemmas.{Contains-cases, Contains-first, Contains-later, Contains-map, Contains-flat_map, Contains-in_part, All-at_each, All-from_each, map-Contains, find-Contains, Contains-has_side, is_face-refl, IsPermutation-canonical_order, sides_in-canonical_order, corners_in-canonical_order}

@@ -1,9 +1,9 @@
 -- Numbers that are retired, as rows.
 use Rattle.std.proofs.Common.{◌≡◌, ℕ, refl, ap, ◌∙◌, List, [], ◌∷◌, ◌++◌, map, Bool, true, false, ◌==◌, ◌||◌, Option, Some, None, is_some, true≢false, arith}
 use Rattle.std.specs.List.{list_any}
-use Rattle.cad_map.specs.Table.{row_with, without_row}
-use Rattle.map_parts.specs.declared.map_rows.RetiredRow.{RetiredRow}
-use Rattle.map_parts.proofs.RowLists.{some-by_numbers}
+use Rattle.numbered_rows.specs.Rows.{row_with, without_row}
+use Rattle.cad_map.specs.declared.map_rows.RetiredRow.{RetiredRow}
+use Rattle.numbered_rows.proofs.ByNumbers.{some-by_numbers}
 
 abbrev number : RetiredRow → ℕ
 number r = r.number

@@ -18,14 +18,14 @@ use Rattle.half_paths.specs.Loose.{AddsStrings, AreLoose, AreNew, is_of, numbers
 use Rattle.entry_list.specs.Slots.{HasSlot}
 use Rattle.key_lists.specs.Held.{Held, IsSame, items_at, HasRoomAt}
 use Rattle.cad_laws.specs.Local.{side_by}
-use Rattle.map_parts.specs.declared.map_rows.MapRows.{MapRows}
+use Rattle.cad_map.specs.declared.map_rows.MapRows.{MapRows}
 use Rattle.map_parts.specs.declared.stars.Spoke.{Spoke}
 use Rattle.map_parts.specs.Adding.{AreAdded, IsSeenAs}
 use Rattle.map_parts.specs.Handing.{KeepsEnds}
 use Rattle.map_parts.specs.Islands.{AreOfRings}
 use Rattle.map_parts.specs.KeptRings.{KeepsRings}
 use Rattle.map_parts.specs.Labels.{IsAlong, IsOnRing}
-use Rattle.map_parts.specs.Rows.{map_in}
+use Rattle.cad_map.specs.MapRows.{map_in}
 use Rattle.map_parts.specs.Parts.{HasHalves}
 use Rattle.map_parts.specs.Passing.{FitTable}
 use Rattle.map_parts.specs.Splitting.{FitMap}

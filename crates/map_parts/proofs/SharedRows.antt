@@ -8,7 +8,7 @@ use Rattle.std.proofs.lemmas.List.Sorted.{IsPermutation-sym, Contains-permutatio
 use Rattle.std.proofs.lemmas.Option.{same_Some}
 use Rattle.cad_rows.specs.declared.rows.StringRow.{StringRow}
 use Rattle.cad_map.specs.Map.{Map, string_of}
-use Rattle.cad_map.specs.Table.{row_with, without_row}
+use Rattle.numbered_rows.specs.Rows.{row_with, without_row}
 use Rattle.cad_map.specs.Valid.{EachPair}
 use Rattle.cad_map.proofs.CallerLemmas.{All-from_each, All-at_each, Contains-cases, Contains-first, Contains-later, Contains-map, map-Contains, Contains-filter, filter-Contains, list_any-Contains, row-found, pairs-IsPermutation}
 use Rattle.half_table.specs.declared.half.Half.{Half}
@@ -19,7 +19,7 @@ use Rattle.map_parts.specs.StringRows.{without_rows}
 use Rattle.map_parts.proofs.AddedStrings.{of-none}
 use Rattle.map_parts.proofs.PartsRings.{row-there}
 use Rattle.map_parts.proofs.StringRowsPut.{each-left}
-use Rattle.map_parts.proofs.Passing.SplitUndone.{none-without, kept-without}
+use Rattle.numbered_rows.proofs.Removed.{none-taken, kept-without}
 
 abbrev number : StringRow → ℕ
 number r = r.number
@@ -34,7 +34,7 @@ none-still [] n rows none = none
 none-still (k ∷ ns) n rows none = none-still ns n (without_row number k rows) (by (nat_eq k n) refl)
   where
     by : (b : Bool) → nat_eq k n ≡ b → row_with number n (without_row number k rows) ≡ None
-    by true is = subst (λ (j : ℕ). row_with number n (without_row number j rows) ≡ None) (sym (eqb-true k n is)) (none-without number n rows)
+    by true is = subst (λ (j : ℕ). row_with number n (without_row number j rows) ≡ None) (sym (eqb-true k n is)) (none-taken number n rows)
     by false is = kept-without number n k rows (λ same. true≢false (sym (eq-eqb k n same) ∙ is)) ∙ none
 
 -- one that is out isn't found
@@ -43,7 +43,7 @@ none-out [] n rows among = let low = among.1 in absurd (omega arith)
 none-out (k ∷ ns) n rows among = elim (Contains-cases k ns n among) [
   | inl same ↦
       none-still ns n (without_row number k rows)
-      (subst (λ (j : ℕ). row_with number j (without_row number k rows) ≡ None) same (none-without number k rows))
+      (subst (λ (j : ℕ). row_with number j (without_row number k rows) ≡ None) same (none-taken number k rows))
   | inr later ↦ none-out ns n (without_row number k rows) later
 ]
 

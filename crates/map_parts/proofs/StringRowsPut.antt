@@ -6,20 +6,21 @@ use Rattle.std.proofs.lemmas.List.{drop_more}
 use Rattle.std.proofs.lemmas.List.Sorted.{IsPermutation-append_comm}
 use Rattle.cad_rows.specs.declared.rows.StringRow.{StringRow}
 use Rattle.cad_map.specs.Map.{string_of}
-use Rattle.cad_map.specs.Table.{row_with, without_row}
+use Rattle.numbered_rows.specs.Rows.{row_with, without_row}
 use Rattle.cad_map.specs.Valid.{EachPair}
 use Rattle.cad_map.proofs.CallerLemmas.{All-follows, All-at_each, All-filter, none-push, Contains-first, Contains-later}
 use Rattle.entry_list.specs.Slots.{HasSlot, KeepsSlots}
 use Rattle.key_lists.specs.Held.{Held, items_at, capacity_at, HasRoomAt}
-use Rattle.map_parts.specs.declared.map_rows.MapRows.{MapRows}
+use Rattle.cad_map.specs.declared.map_rows.MapRows.{MapRows}
 use Rattle.map_parts.specs.declared.stars.Spoke.{Spoke}
-use Rattle.map_parts.specs.Rows.{map_in, rows_in}
+use Rattle.cad_map.specs.MapRows.{map_in}
+use Rattle.numbered_rows.specs.Rows.{rows_in}
 use Rattle.half_table.specs.Half.{forward_of, backward_of}
 use Rattle.map_parts.specs.Stars.{spoke, spokes_of, spokes_at, AddsSpokes}
 use Rattle.map_parts.specs.Splitting.{AreStarsOf}
 use Rattle.map_parts.specs.StringRows.{CanPutStrings, CanTakeStrings, KeepsRoom}
 use Rattle.map_parts.proofs.Passing.SplitBetween.{row-first}
-use Rattle.map_parts.proofs.Passing.SplitUndone.{kept-without}
+use Rattle.numbered_rows.proofs.Removed.{kept-without}
 use Rattle.map_parts.proofs.Passing.StarsChanged.{stars-with, stars-without, room-after_put, length-spokes_at, star-from, star-to}
 
 -- ---- Put

@@ -8,21 +8,22 @@ use Rattle.std.proofs.lemmas.List.{map-append}
 use Rattle.std.proofs.lemmas.List.Sorted.{length_permutation}
 use Rattle.std.proofs.lemmas.Option.{slice_get_within}
 use Rattle.cad_rows.specs.declared.rows.StringRow.{StringRow}
-use Rattle.cad_map.specs.Table.{row_with, without_row}
+use Rattle.numbered_rows.specs.Rows.{row_with, without_row}
 use Rattle.cad_map.specs.Valid.{EachPair}
 use Rattle.cad_map.proofs.CallerLemmas.{All-follows, Contains-at, row-found}
 use Rattle.entry_list.specs.Slots.{HasSlot, KeepsSlots}
 use Rattle.key_lists.specs.Held.{Held, items_at, HasRoomAt, capacity_at}
 use Rattle.map_parts.specs.declared.edits.placed_strings.PlacedString.{PlacedString}
-use Rattle.map_parts.specs.declared.map_rows.MapRows.{MapRows}
+use Rattle.cad_map.specs.declared.map_rows.MapRows.{MapRows}
 use Rattle.map_parts.specs.declared.stars.Spoke.{Spoke}
 use Rattle.map_parts.specs.PlacedStrings.{CanPutPlaced, numbers_placed, StoodIn}
-use Rattle.map_parts.specs.Rows.{rows_in}
+use Rattle.numbered_rows.specs.Rows.{rows_in}
 use Rattle.map_parts.specs.Splitting.{AreStarsOf}
 use Rattle.map_parts.specs.Stars.{spokes_of, spokes_at, AddsSpokes}
 use Rattle.map_parts.specs.StringRows.{HasRoomFor, without_rows}
 use Rattle.map_parts.proofs.Passing.SplitBetween.{row-first}
-use Rattle.map_parts.proofs.Passing.SplitUndone.{insert-back, none-without}
+use Rattle.numbered_rows.proofs.Removed.{none-taken}
+use Rattle.map_parts.proofs.Passing.SplitUndone.{insert-back}
 use Rattle.map_parts.proofs.Passing.StarsChanged.{stars-with, room-after_put, length-spokes_at}
 use Rattle.map_parts.proofs.StringRowsPut.{each-left}
 
@@ -144,7 +145,7 @@ module _ (gone : List PlacedString) (g : PlacedString) (b left : List StringRow)
   pub last-absent : row_with (λ (r : StringRow). r.number) g.row.number left ≡ None
   last-absent =
       ap (row_with (λ (r : StringRow). r.number) g.row.number) left-are
-      ∙ none-without (λ (r : StringRow). r.number) g.row.number x
+      ∙ none-taken (λ (r : StringRow). r.number) g.row.number x
 
   pub last-place : g.place ≤ length left
   last-place =

@@ -24,7 +24,7 @@ use Rattle.key_lists.specs.Held.{Held}
 use Rattle.cad_laws.specs.Local.{side_by}
 use Rattle.cad_laws.specs.Tried.{IsTried}
 use Rattle.map_parts.specs.declared.edits.placed_strings.PlacedString.{PlacedString}
-use Rattle.map_parts.specs.declared.map_rows.MapRows.{MapRows}
+use Rattle.cad_map.specs.declared.map_rows.MapRows.{MapRows}
 use Rattle.map_parts.specs.declared.stars.Spoke.{Spoke}
 use Rattle.map_parts.specs.Adding.{AreAdded, HasRoomAtEnds, HasRoomToCome}
 use Rattle.map_parts.specs.Merging.{merged, shared_chain, first_corner, last_corner, rings_past, rows_gone, bare_row, sides_led, HaveRoomBack, CanBeginUnmerge, CanUnmerge}

@@ -10,9 +10,9 @@ use Rattle.half_table.specs.Rows.{HalfRows, IsLinked}
 use Rattle.half_paths.specs.Loose.{AddsStrings}
 use Rattle.entry_list.specs.Slots.{HasSlot}
 use Rattle.key_lists.specs.Held.{Held, IsSame, items_at, HasRoomAt}
-use Rattle.map_parts.specs.declared.map_rows.MapRows.{MapRows}
+use Rattle.cad_map.specs.declared.map_rows.MapRows.{MapRows}
 use Rattle.map_parts.specs.declared.stars.Spoke.{Spoke}
-use Rattle.map_parts.specs.Rows.{map_in}
+use Rattle.cad_map.specs.MapRows.{map_in}
 
 -- Room that was made changes nothing that is seen.
 pub record IsSeenAs (rows more : MapRows) (held wide : Held Half) (stars filled : Held Spoke) : Type 0 where

@@ -20,7 +20,7 @@ use Rattle.half_paths.specs.Loose.{AreNew}
 use Rattle.key_lists.specs.Held.{Held, items_at, HasRoomAt}
 use Rattle.cad_laws.specs.Faces.{IsDividedIn, left_of_chain, uncut}
 use Rattle.cad_laws.specs.Tried.{IsTried, AreChosen}
-use Rattle.map_parts.specs.declared.map_rows.MapRows.{MapRows}
+use Rattle.cad_map.specs.declared.map_rows.MapRows.{MapRows}
 use Rattle.map_parts.specs.declared.stars.Spoke.{Spoke}
 use Rattle.map_parts.specs.Labels.{IsAlong}
 use Rattle.map_parts.specs.Islands.{AreOfRings}

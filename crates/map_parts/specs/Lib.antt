@@ -1,4 +1,3 @@
-pub mod Rows
 pub mod KeptRings
 pub mod Stars
 pub mod Parts

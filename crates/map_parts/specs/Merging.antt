@@ -13,7 +13,7 @@ use Rattle.cad_map.specs.Boundaries.{face_place}
 use Rattle.cad_map.specs.Chain.{leaving}
 use Rattle.cad_map.specs.Effects.{after}
 use Rattle.cad_map.specs.Map.{Map, side_of, parcel_of, is_retired}
-use Rattle.cad_map.specs.Table.{without_row}
+use Rattle.numbered_rows.specs.Rows.{without_row}
 use Rattle.cad_map.specs.Valid.{EachPair}
 use Rattle.cad_map.specs.Merger.{shared_chains}
 use Rattle.cad_map.specs.Merger.ChainInRings.{along}
@@ -26,7 +26,7 @@ use Rattle.key_lists.specs.Held.{Held, items_at, HasRoomAt}
 use Rattle.cad_laws.specs.Counts.{shared_strings}
 use Rattle.cad_laws.specs.Tried.{IsTried}
 use Rattle.map_parts.specs.declared.edits.placed_strings.PlacedString.{PlacedString}
-use Rattle.map_parts.specs.declared.map_rows.MapRows.{MapRows}
+use Rattle.cad_map.specs.declared.map_rows.MapRows.{MapRows}
 use Rattle.map_parts.specs.declared.stars.Spoke.{Spoke}
 use Rattle.map_parts.specs.Chains.{IsTakenChain}
 use Rattle.map_parts.specs.Labels.{IsAlong}
@@ -36,7 +36,7 @@ use Rattle.map_parts.specs.Islands.{AreOfRings}
 use Rattle.map_parts.specs.PlacedStrings.{numbers_placed, StoodIn}
 use Rattle.map_parts.specs.Splitting.{FitMap, AreStarsOf}
 use Rattle.map_parts.specs.StringRows.{HasRoomFor, CanTakeStrings, without_rows}
-use Rattle.map_parts.specs.Rows.{map_in}
+use Rattle.cad_map.specs.MapRows.{map_in}
 
 -- The merger of two parcels along a chain is tried, and the path has the strings that the two share.
 pub record IsMerging (m : Map) (keeper : Face) (ended : ℕ) (path : List Half) : Type 0 where

@@ -9,8 +9,6 @@
 mod building;
 mod edits;
 mod kept;
-mod map_rows;
-mod rows;
 mod stars;
 
 pub use building::{add_strings, link_rings};
@@ -26,6 +24,4 @@ pub use edits::points::{add_point, move_point, put_point_back, take_point};
 pub use edits::sources::{add_source, attach, attach_at, detach, take_source};
 pub use edits::split::{begin_split, begin_unsplit, forward, unsplit};
 pub use kept::kept_half;
-pub use map_rows::{MapRows, RetiredRow};
-pub use rows::Rows;
 pub use stars::{Spoke, far_in_star, find_half_by_ends, find_half_in_star, half_at, star_of};

@@ -8,7 +8,7 @@ ghost use Rattle.cad_map.specs.SharedChains.{IsSharedChain};
 ghost use Rattle.std.specs.Str.{bytes_eq as is_same_list};
 ghost use Rattle.cad_edit.specs.Admitted.{HasChain};
 ghost use Rattle.cad_edit.specs.Merging.{kept_side as kept_side_of, ended_side as ended_side_of, CanBeJoined, rings_joined};
-ghost use Rattle.cad_map.specs.Table.{without_row};
+ghost use Rattle.numbered_rows.specs.Rows.{without_row};
 
 use crate::rings::ring_with;
 use cad_map::{

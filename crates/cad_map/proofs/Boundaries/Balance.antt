@@ -14,7 +14,7 @@ use Rattle.cad_rings.proofs.CallerLemmas.{sum-append, sum-permuted, sum-both_way
 use Rattle.cad_map.specs.declared.boundary.Boundary.{Boundary}
 use Rattle.cad_map.specs.Boundaries.{is_face, sides_in}
 use Rattle.cad_map.specs.Map.{Map, faces, has_face, rings_at, all_sides, position_of, side_of, string_sides}
-use Rattle.cad_map.specs.Table.{row_with}
+use Rattle.numbered_rows.specs.Rows.{row_with}
 use Rattle.cad_map.specs.Valid.{EachPair, HasSoundRows, HasCompleteRings}
 use Rattle.cad_map.specs.Sums.{total, IsBalanced}
 use Rattle.cad_map.proofs.Parcels.ChainFacts.{sides-from_ends}

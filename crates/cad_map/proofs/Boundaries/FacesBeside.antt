@@ -16,7 +16,7 @@ use Rattle.cad_rings.proofs.CallerLemmas.{is_side-same}
 use Rattle.cad_map.specs.declared.boundary.Boundary.{Boundary}
 use Rattle.cad_map.specs.Boundaries.{is_face, sides_in}
 use Rattle.cad_map.specs.Map.{Map, string_of, side_of, string_sides, rings_at, all_sides, face_at, left_face, right_face}
-use Rattle.cad_map.specs.Table.{row_with}
+use Rattle.numbered_rows.specs.Rows.{row_with}
 use Rattle.cad_map.specs.Valid.{EachPair, IsValid}
 use Rattle.cad_map.specs.Views.{HasSide, HasFaces, HasNoFaces}
 use Rattle.cad_map.proofs.Lists.Elements.{Contains-cases, Contains-first, Contains-later, Contains-flat_map, Contains-in_part, count-some, list_any-Contains, All-at_each, Contains-map}

@@ -15,7 +15,7 @@ use Rattle.cad_rows.specs.declared.refusals.Refusal.{Refusal}
 use Rattle.cad_rows.specs.declared.refusals.Refusal.TheVariants as told
 use Rattle.cad_rows.specs.declared.rows.SourceRow.{SourceRow}
 use Rattle.cad_map.specs.Map.{Map, point_of, string_of, has_source, degree, is_free}
-use Rattle.cad_map.specs.Table.{row_with}
+use Rattle.numbered_rows.specs.Rows.{row_with}
 use Rattle.cad_map.specs.Refusals.{when, first_of, range, unknown, taken, retired, outside, no_change, not_free, not_degree_two, bad_chain, not_in_parcel, chain_joins_rings, same_parcel, not_neighbours, not_one_chain, already_attached, not_attached, full, first_refusal, is_there, item_named}
 
 -- ---- None of the rows applies

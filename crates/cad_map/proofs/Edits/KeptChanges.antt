@@ -13,7 +13,7 @@ use Rattle.cad_rows.specs.declared.rows.StringRow.{StringRow}
 use Rattle.cad_rows.specs.declared.rows.SourceRow.{SourceRow}
 use Rattle.cad_rings.specs.Cycle.{Side, opposite}
 use Rattle.cad_map.specs.Map.{Map, point_of, parcel_of, string_of, has_point, side_of, string_sides, all_sides, left_face, right_face}
-use Rattle.cad_map.specs.Table.{row_with}
+use Rattle.numbered_rows.specs.Rows.{row_with}
 use Rattle.cad_map.specs.Valid.{AreSources, HasSoundRows, IsSound}
 use Rattle.cad_map.specs.Refusals.{sources_at}
 use Rattle.cad_map.specs.Changes.{with_point, with_parcel, with_string, change_point, change_parcel, change_string, change_sources}

@@ -20,14 +20,14 @@ use Rattle.cad_rings.proofs.CallerLemmas.{length-without, from_corner, IsSameRin
 use Rattle.cad_map.specs.declared.boundary.Boundary.{Boundary}
 use Rattle.cad_map.specs.Boundaries.{canonical_order, sides_in}
 use Rattle.cad_map.specs.Map.{Map, has_point, has_face, side_of, is_end, far_end, strings_at, degree, string_sides, all_sides}
-use Rattle.cad_map.specs.Table.{row_with, without_row}
+use Rattle.numbered_rows.specs.Rows.{row_with, without_row}
 use Rattle.cad_map.specs.Valid.{AreSources, EachPair, HasSoundRows, HasTwoEnds, HasCompleteRings, IsValid, Keeps, CanBeTested}
 use Rattle.cad_map.specs.Changes.{both_sources, joined_sources, by_number, string_joining, join, with_boundaries}
 use Rattle.cad_map.proofs.Lists.Elements.{Contains-first, Contains-later, Contains-flat_map, All-at_each, All-from_each, count-some, list_any-Contains}
 use Rattle.cad_map.proofs.Lists.ElementFacts.{Contains-filter, filter-Contains, map-Contains}
 use Rattle.cad_map.proofs.Lists.EachElement.{All-push, All-filter, All-follows, All-map, found-without}
 use Rattle.cad_map.proofs.Lists.TakenOut.{EachPair-filter}
-use Rattle.cad_map.proofs.Lists.RowsLeft.{none-filter}
+use Rattle.numbered_rows.proofs.Removed.{none-filter}
 use Rattle.cad_map.proofs.Parcels.AddedRows.{All-join, EachPair-join}
 use Rattle.cad_map.proofs.Edits.Allowed.{IsAllowed, not-when, two-joined, free-join}
 use Rattle.cad_map.proofs.Ends.Parallel.{string_sides-once}

@@ -18,12 +18,13 @@ use Rattle.cad_rings.proofs.CallerLemmas.{IsSameRing-least_rotation, round_permu
 use Rattle.cad_map.specs.declared.boundary.Boundary.{Boundary}
 use Rattle.cad_map.specs.Boundaries.{canonical_form, canonical_order}
 use Rattle.cad_map.specs.Map.{Map, point_of, string_of, has_point, has_parcel, has_face, is_end, is_free, side_of, string_sides, all_sides}
-use Rattle.cad_map.specs.Table.{row_with, with_row, without_row}
+use Rattle.numbered_rows.specs.Rows.{row_with, with_row, without_row}
 use Rattle.cad_map.specs.Valid.{AreNumbers, AreSources, HasSoundRows, HasCompleteRings, IsSound}
 use Rattle.cad_map.specs.Changes.{with_point, with_parcel, with_string, with_boundaries}
 use Rattle.cad_map.proofs.Edits.Allowed.{IsAllowed, not-when, free-source, room}
 use Rattle.cad_map.proofs.Parcels.ChainFacts.{others-attached}
-use Rattle.cad_map.proofs.Lists.EachElement.{All-push, All-filter, All-follows, EachPair-push, EachPair-filter-map, All-filter-map, map-push, others-from_none, found-push, found-with_row, found-without, map-with_row, length-with_row, All-with_row, length-without_row, All-map, All-permuted, All-flat_map}
+use Rattle.numbered_rows.proofs.Removed.{others-from_none}
+use Rattle.cad_map.proofs.Lists.EachElement.{All-push, All-filter, All-follows, EachPair-push, EachPair-filter-map, All-filter-map, map-push, found-push, found-with_row, found-without, map-with_row, length-with_row, All-with_row, length-without_row, All-map, All-permuted, All-flat_map}
 use Rattle.cad_map.proofs.Boundaries.CanonicalOrder.{canonical_order-canonical_order, IsPermutation-canonical_order}
 
 -- ---- Numbers and sources

@@ -16,13 +16,14 @@ use Rattle.cad_rings.proofs.CallerLemmas.{is_side-same, sides_of-put_on, halves_
 use Rattle.cad_map.specs.declared.boundary.Boundary.{Boundary}
 use Rattle.cad_map.specs.Boundaries.{bounding, sides_in}
 use Rattle.cad_map.specs.Map.{Map, point_of, string_of, has_point, has_face, side_of, string_sides, all_sides}
-use Rattle.cad_map.specs.Table.{row_with, without_row}
+use Rattle.numbered_rows.specs.Rows.{row_with, without_row}
 use Rattle.cad_map.specs.Valid.{AreSources, HasSoundRows, HasCompleteRings, IsSound, IsValid}
 use Rattle.cad_map.specs.Changes.{split, with_boundaries}
 use Rattle.cad_map.proofs.Lists.Elements.{Contains-cases, Contains-in_part, Contains-flat_map, All-at_each, count-some}
 use Rattle.cad_map.proofs.Lists.ElementFacts.{map-Contains, find-Contains}
 use Rattle.cad_map.proofs.Lists.EachElement.{All-push, All-filter, All-follows, All-map, found-push, found-number}
-use Rattle.cad_map.proofs.Lists.RowsLeft.{sum-without, length-without, none-filter, none-push}
+use Rattle.numbered_rows.proofs.Removed.{none-filter}
+use Rattle.cad_map.proofs.Lists.RowsLeft.{sum-without, length-without, none-push}
 use Rattle.cad_map.proofs.Walks.Counted.{times, times-append, times-cons, times-permuted, times-flat_map, permuted-from_times}
 use Rattle.cad_map.proofs.Walks.AlongRing.{is_side-refl, once-from_pairs}
 use Rattle.cad_map.proofs.Boundaries.FacesBeside.{IsBeside, both_sides, sides-once, in_all, of_string}

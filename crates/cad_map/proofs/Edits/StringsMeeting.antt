@@ -9,7 +9,7 @@ use Rattle.cad_rows.specs.Limits.{source_limit}
 use Rattle.cad_rows.specs.declared.rows.StringRow.{StringRow}
 use Rattle.cad_rings.specs.Cycle.{times_through}
 use Rattle.cad_map.specs.Map.{Map, is_end, strings_at}
-use Rattle.cad_map.specs.Table.{row_with, without_row}
+use Rattle.numbered_rows.specs.Rows.{row_with, without_row}
 use Rattle.cad_map.specs.Valid.{AreSources, IsValid}
 use Rattle.cad_map.specs.Changes.{by_number}
 use Rattle.cad_map.proofs.Lists.Elements.{Contains-first, Contains-later, All-at_each, All-from_each}

@@ -6,7 +6,7 @@ use Rattle.std.proofs.lemmas.List.Sorted.{IsPermutation-sym, Contains-permutatio
 use Rattle.std.specs.List.{AllByRecursion, Contains, flat_map, list_any}
 use Rattle.std.proofs.lemmas.Bool.{eqb-true}
 use Rattle.std.proofs.lemmas.Cmp.{nat_eq_equiv}
-use Rattle.cad_map.specs.Table.{row_with, without_row, with_row}
+use Rattle.numbered_rows.specs.Rows.{row_with, without_row, with_row}
 use Rattle.cad_map.specs.Valid.{EachPair}
 
 module _ {X : Type 0} (P : X → Type 0) where
@@ -57,18 +57,6 @@ module _ {R : Type 0} (number : R → ℕ) where
   pub map-push : (rows : List R) (row : R) → map number (rows ++ row ∷ []) ≡ map number rows ++ number row ∷ []
   map-push [] row = refl
   map-push (r ∷ rows) row = ap (λ (ns : List ℕ). number r ∷ ns) (map-push rows row)
-
-  -- where no row has the number, it is none of theirs
-  pub others-from_none : (n : ℕ) (rows : List R) → row_with number n rows ≡ None → AllByRecursion (λ k. k ≢ n) (map number rows)
-  others-from_none n [] none = tt
-  others-from_none n (r ∷ rows) none = by (λ rest. others-from_none n rows rest) (nat_eq (number r) n) refl
-    where
-      by : (row_with number n rows ≡ None → AllByRecursion (λ k. k ≢ n) (map number rows)) → (b : Bool) → nat_eq (number r) n ≡ b → AllByRecursion (λ k. k ≢ n) (map number (r ∷ rows))
-      by again true is = let here : Some r ≡ None = sym (ap (λ (b : Bool). cond b (Some r) (row_with number n rows)) is) ∙ none in cc
-      by again false is = (
-        (λ same. true≢false (sym (ap (λ (k : ℕ). nat_eq k n) same ∙ nat_eq_equiv.refl n) ∙ is)),
-        again (sym (ap (λ (b : Bool). cond b (Some r) (row_with number n rows)) is) ∙ none),
-      )
 
   -- a row that is found is found among more rows too
   pub found-push : (n : ℕ) (rows : List R) (row : R) → IsTrue (is_some (row_with number n rows)) → IsTrue (is_some (row_with number n (rows ++ row ∷ [])))

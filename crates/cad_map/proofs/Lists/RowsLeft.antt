@@ -4,7 +4,7 @@ use Rattle.std.specs.Prelude.{sum_by}
 use Rattle.std.specs.List.{AllByRecursion}
 use Rattle.std.proofs.lemmas.Bool.{eqb-true, false_from_ne_true}
 use Rattle.std.proofs.lemmas.List.Sums.{sum_by-cons}
-use Rattle.cad_map.specs.Table.{row_with, without_row}
+use Rattle.numbered_rows.specs.Rows.{row_with, without_row}
 use Rattle.cad_map.specs.Valid.{EachPair}
 
 module _ {R : Type 0} (number : R → ℕ) where
@@ -47,17 +47,7 @@ module _ {R : Type 0} (number : R → ℕ) where
       by true is again = let e = less rows in rw is (omega (arith, e))
       by false is again = let e = again (rw is at found) in rw is (omega (arith, e))
 
-  -- where no row has the number, none has it among fewer rows
-  pub none-filter : (test : R → Bool) (n : ℕ) (rows : List R) → row_with number n rows ≡ None → row_with number n (filter test rows) ≡ None
-  none-filter test n [] none = refl
-  none-filter test n (r ∷ rows) none = by (nat_eq (number r) n) (test r) refl refl (λ h. none-filter test n rows h)
-    where
-      by : (b t : Bool) → nat_eq (number r) n ≡ b → test r ≡ t → (row_with number n rows ≡ None → row_with number n (filter test rows) ≡ None) → row_with number n (filter test (r ∷ rows)) ≡ None
-      by true t is it again = let some : Some r ≡ None = rw is at none in cc
-      by false true is it again = rw it (rw is (again (rw is at none)))
-      by false false is it again = rw it (again (rw is at none))
-
-  -- nor after a row of another number
+  -- where no row has the number, none has it after a row of another number
   pub none-push : (n : ℕ) (rows : List R) (row : R) → number row ≢ n → row_with number n rows ≡ None → row_with number n (rows ++ row ∷ []) ≡ None
   none-push n [] row other none = rw (false_from_ne_true (nat_eq (number row) n) (λ h. other (eqb-true (number row) n h))) refl
   none-push n (r ∷ rows) row other none = by (nat_eq (number r) n) refl (λ h. none-push n rows row other h)

@@ -15,7 +15,7 @@ use Rattle.cad_map.specs.Boundaries.{canonical_form, canonical_order}
 use Rattle.cad_map.specs.Changes.{with_boundaries, merge, merge_at}
 use Rattle.cad_map.specs.Map.{Map, has_point, has_parcel, has_face}
 use Rattle.cad_map.specs.Merger.{ChainInRings, shared_chains, is_shared, boundaries_merged}
-use Rattle.cad_map.specs.Table.{row_with, without_row}
+use Rattle.numbered_rows.specs.Rows.{row_with, without_row}
 use Rattle.cad_map.specs.Valid.{AreSources, HasSoundRows, HasCompleteRings, IsSound, IsValid}
 use Rattle.cad_map.proofs.Lists.Elements.{Contains-first, Contains-map, All-at_each, All-from_each}
 use Rattle.cad_map.proofs.Lists.ElementFacts.{filter-Contains, find-Contains, find-nothing}

@@ -14,10 +14,11 @@ use Rattle.cad_rings.specs.Cycle.{Side, opposite, sides_of}
 use Rattle.cad_map.specs.declared.boundary.Boundary.{Boundary}
 use Rattle.cad_map.specs.Boundaries.{canonical_form, canonical_order, sides_in}
 use Rattle.cad_map.specs.Map.{Map, string_of, parcel_of, has_point, has_parcel, has_face, has_source, is_retired, side_of, string_sides}
-use Rattle.cad_map.specs.Table.{row_with}
+use Rattle.numbered_rows.specs.Rows.{row_with}
 use Rattle.cad_map.specs.Valid.{EachPair, AreNumbers, AreSources, HasSoundRows, IsSound}
 use Rattle.cad_map.specs.Changes.{with_boundaries, with_new_parcel}
-use Rattle.cad_map.proofs.Lists.EachElement.{All-push, All-follows, All-map, All-flat_map, All-permuted, EachPair-push, map-push, others-from_none, found-push}
+use Rattle.numbered_rows.proofs.Removed.{others-from_none}
+use Rattle.cad_map.proofs.Lists.EachElement.{All-push, All-follows, All-map, All-flat_map, All-permuted, EachPair-push, map-push, found-push}
 use Rattle.cad_map.proofs.Boundaries.CanonicalOrder.{IsPermutation-canonical_order, canonical_order-canonical_order}
 use Rattle.cad_map.proofs.Boundaries.TwoFaces.{AreApart, complete}
 use Rattle.cad_map.proofs.Parcels.ChainFacts.{others-attached, points-round}

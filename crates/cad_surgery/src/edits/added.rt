@@ -20,11 +20,12 @@ use crate::edits::given::{NewParcel, first_and_rest, halves_of, new_parcel};
 use crate::edits::hidden::drop_hidden;
 use crate::edits::merging::Way;
 use cad_edit::rows_along;
+use cad_map::MapRows;
 use cad_rows::Memory;
 use edit_records::SmallRecord;
 use half_table::{Half, HalfTable, Tally};
 use key_lists::KeyLists;
-use map_parts::{MapRows, Spoke, begin_open, begin_undivide};
+use map_parts::{Spoke, begin_open, begin_undivide};
 
 // What the record of a division or an enclosure tells.
 #[derive(Clone, Copy)]

@@ -14,11 +14,12 @@ use crate::edits::counted::is_work_in_range;
 use crate::edits::given::{NewParcel, first_and_rest};
 use crate::edits::hidden::drop_hidden;
 use crate::edits::merging::Way;
+use cad_map::MapRows;
 use cad_near::{FaceAreas, Touched, first_broken_near};
 use cad_rows::{Memory, ParcelRow, Refusal, StringRow};
 use half_table::{Half, HalfTable, Tally};
 use key_lists::KeyLists;
-use map_parts::{MapRows, Spoke, begin_divide, begin_enclose, open, undivide};
+use map_parts::{Spoke, begin_divide, begin_enclose, open, undivide};
 
 /// Where the strings of a new parcel lead, the halves along them, and one half of each ring that
 /// passes over to it.

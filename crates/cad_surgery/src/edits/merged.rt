@@ -16,13 +16,12 @@ use crate::edits::counted::is_work_in_range;
 use crate::edits::given::{closed, first_and_rest};
 use crate::edits::merging::{Merger, Way, merge_again};
 use crate::edits::shared::numbers_of;
+use cad_map::MapRows;
 use cad_rows::{Face, Memory, ParcelRow, PointNo, StringRow};
 use edit_records::{ChainString, SmallRecord};
 use half_table::{Half, HalfTable, Tally};
 use key_lists::KeyLists;
-use map_parts::{
-    EndedParcel, MapRows, PlacedString, Spoke, begin_unmerge_along, begin_unmerge_island,
-};
+use map_parts::{EndedParcel, PlacedString, Spoke, begin_unmerge_along, begin_unmerge_island};
 use std::alloc::Global;
 
 // What the record of a merger tells.

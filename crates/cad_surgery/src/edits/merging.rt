@@ -10,19 +10,19 @@ ghost use Rattle.half_paths.specs.Path.{strings_of};
 ghost use Rattle.half_table.specs.Rows.{Table};
 ghost use Rattle.map_parts.specs.Merging.{HaveGone};
 ghost use Rattle.map_parts.specs.Parts.{map_of, kept_at};
-ghost use Rattle.map_parts.specs.Rows.{map_in};
+ghost use Rattle.cad_map.specs.MapRows.{map_in};
 
 use crate::draft::Draft;
 use crate::edits::counted::is_work_in_range;
 use crate::edits::given::first_and_rest;
 use crate::edits::hidden::drop_hidden;
+use cad_map::MapRows;
 use cad_near::{FaceAreas, Touched, first_broken_near};
 use cad_rows::{Face, Memory, ParcelNo, Refusal, StringNo};
 use half_table::{Half, HalfTable, Tally};
 use key_lists::KeyLists;
 use map_parts::{
-    EndedParcel, MapRows, Spoke, begin_merge_along, begin_merge_island, unmerge_along,
-    unmerge_island,
+    EndedParcel, Spoke, begin_merge_along, begin_merge_island, unmerge_along, unmerge_island,
 };
 
 /// Where strings lead that go or come: along a chain, with the halves that follow its two ends as

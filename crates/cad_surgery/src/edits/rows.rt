@@ -6,13 +6,14 @@ ghost use Rattle.cad_map.specs.Map.{Map};
 ghost use Rattle.cad_map.specs.Refusals.{range, unknown, taken, not_attached};
 ghost use Rattle.edit_records.specs.Record.{edit_of, Holds, IsMadeOf, IsPlaced};
 ghost use Rattle.cad_surgery.specs.RowEdits.{is_of_rows, without_rings};
-ghost use Rattle.map_parts.specs.Rows.{map_in};
+ghost use Rattle.cad_map.specs.MapRows.{map_in};
 
+use cad_map::MapRows;
 use cad_rows::{Edit, Memory, SourceRow};
 use edit_records::SmallRecord;
 use geo_exact::Pt;
 use map_parts::{
-    MapRows, add_point, add_source, attach, attach_at, detach, move_point, put_point_back, rename,
+    add_point, add_source, attach, attach_at, detach, move_point, put_point_back, rename,
     take_point, take_source,
 };
 

@@ -7,7 +7,7 @@ ghost use Rattle.cad_laws.specs.Tried.{IsTried};
 ghost use Rattle.cad_rows.specs.declared.rows.StringRow.{StringRow as StringRowOf};
 ghost use Rattle.map_parts.specs.Parts.{map_of, kept_at};
 ghost use Rattle.cad_surgery.specs.Proper.{IsProper};
-ghost use Rattle.map_parts.specs.Rows.{map_in};
+ghost use Rattle.cad_map.specs.MapRows.{map_in};
 ghost use Rattle.cad_surgery.specs.Halvings.{IsOfSplit, IsSplitFrom, split_by, split_record, split_rows};
 ghost use Rattle.cad_surgery.specs.Trials.{IsReadyFor, IsTrialOf, IsMade, IsPlayed, StandsBeside, IsTakenBack};
 ghost use Rattle.edit_records.specs.Record.{edit_of, Belongs};
@@ -15,12 +15,13 @@ ghost use Rattle.edit_records.specs.Record.{edit_of, Belongs};
 use crate::draft::Draft;
 use crate::edits::counted::is_work_in_range;
 use crate::edits::hidden::drop_hidden;
+use cad_map::MapRows;
 use cad_near::{FaceAreas, Touched, first_broken_near};
 use cad_rows::{Memory, Numbers, PointNo, PointRow, Refusal, StringNo, StringRow};
 use edit_records::SmallRecord;
 use geo_exact::Pt;
 use half_table::Tally;
-use map_parts::{MapRows, begin_split, begin_unsplit, forward, unsplit};
+use map_parts::{begin_split, begin_unsplit, forward, unsplit};
 
 /// What a split gives: the new point, its position, and the numbers of the two strings.
 #[derive(Clone, Copy, Debug)]

@@ -12,10 +12,10 @@ use Rattle.half_table.specs.Surgery.{AddsLoose}
 use Rattle.half_paths.proofs.Added.{adds-none, adds-more, new-kept, numbers-first}
 use Rattle.half_paths.specs.Loose.{AreNew, AddsStrings, AreLoose, numbers_of}
 use Rattle.key_lists.specs.Held.{Held, IsSame}
-use Rattle.map_parts.specs.declared.map_rows.MapRows.{MapRows}
+use Rattle.cad_map.specs.declared.map_rows.MapRows.{MapRows}
 use Rattle.map_parts.specs.declared.stars.Spoke.{Spoke}
 use Rattle.map_parts.specs.Parts.{HasHalves}
-use Rattle.map_parts.specs.Rows.{map_in}
+use Rattle.cad_map.specs.MapRows.{map_in}
 use Rattle.map_parts.specs.Splitting.{FitMap}
 use Rattle.map_parts.proofs.HiddenStrings.{added-halves, added-loose}
 use Rattle.map_parts.proofs.RoomMade.{added-fit, fit-grown, fit-seen}

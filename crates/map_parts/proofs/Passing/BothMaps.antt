@@ -7,7 +7,7 @@ use Rattle.std.proofs.lemmas.Cmp.{nat_eq_equiv}
 use Rattle.std.proofs.lemmas.List.Sorted.{Contains-permutation, IsPermutation-sym}
 use Rattle.cad_rows.specs.declared.rows.StringRow.{StringRow}
 use Rattle.cad_map.specs.Map.{Map, has_string}
-use Rattle.cad_map.specs.Table.{row_with}
+use Rattle.numbered_rows.specs.Rows.{row_with}
 use Rattle.half_table.specs.declared.half.Half.{Half}
 use Rattle.half_table.specs.Rows.{HalfRows, has}
 use Rattle.half_table.proofs.Loose.{nat_eq-symm}

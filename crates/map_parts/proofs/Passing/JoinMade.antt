@@ -10,7 +10,7 @@ use Rattle.cad_rows.specs.declared.rows.StringRow.{StringRow}
 use Rattle.cad_map.specs.Changes.{by_number}
 use Rattle.cad_map.specs.Effects.{after}
 use Rattle.cad_map.specs.Map.{Map, point_of, string_of, is_end, far_end, strings_at}
-use Rattle.cad_map.specs.Table.{without_row}
+use Rattle.numbered_rows.specs.Rows.{without_row}
 use Rattle.cad_map.proofs.CallerLemmas.{Contains-cases, Contains-first, Contains-later, Contains-filter, row-found, ends, All-at_each, find-Contains}
 use Rattle.half_table.specs.declared.half.Half.{Half}
 use Rattle.half_table.specs.Half.{forward_of, backward_of}
@@ -19,9 +19,9 @@ use Rattle.cad_laws.specs.Joining.{FarEndsAreApart}
 use Rattle.cad_laws.specs.Tried.{IsTried}
 use Rattle.key_lists.specs.Held.{Held, HasRoomAt}
 use Rattle.map_parts.specs.declared.edits.passing.Passing.{Passing}
-use Rattle.map_parts.specs.declared.map_rows.MapRows.{MapRows}
+use Rattle.cad_map.specs.declared.map_rows.MapRows.{MapRows}
 use Rattle.map_parts.specs.declared.stars.Spoke.{Spoke}
-use Rattle.map_parts.specs.Rows.{map_in}
+use Rattle.cad_map.specs.MapRows.{map_in}
 use Rattle.map_parts.specs.Parts.{HasHalves}
 use Rattle.map_parts.specs.Passing.{HasBetween, FitTable, CanGoPast, path_at}
 use Rattle.map_parts.specs.Splitting.{Connects, CanMeet, AreStarsOf}

@@ -10,7 +10,7 @@ use Rattle.cad_rows.specs.declared.rows.PointRow.{PointRow}
 use Rattle.cad_rows.specs.declared.rows.StringRow.{StringRow}
 use Rattle.cad_map.specs.Effects.{after}
 use Rattle.cad_map.specs.Map.{Map, point_of, string_of, far_end}
-use Rattle.cad_map.specs.Table.{row_with, without_row}
+use Rattle.numbered_rows.specs.Rows.{row_with, without_row}
 use Rattle.cad_map.specs.Valid.{EachPair}
 use Rattle.cad_map.proofs.CallerLemmas.{row-found, none-filter, none-push, Contains-map, Contains-at, All-at_each}
 use Rattle.half_table.specs.declared.half.Half.{Half}
@@ -18,9 +18,9 @@ use Rattle.half_table.specs.Rows.{HalfRows}
 use Rattle.key_lists.specs.Held.{Held}
 use Rattle.map_parts.specs.declared.edits.join.JoinedRows.{JoinedRows}
 use Rattle.map_parts.specs.declared.edits.passing.Passing.{Passing}
-use Rattle.map_parts.specs.declared.map_rows.MapRows.{MapRows}
+use Rattle.cad_map.specs.declared.map_rows.MapRows.{MapRows}
 use Rattle.map_parts.specs.declared.stars.Spoke.{Spoke}
-use Rattle.map_parts.specs.Rows.{map_in}
+use Rattle.cad_map.specs.MapRows.{map_in}
 use Rattle.map_parts.specs.Passing.{HasBetween, FitTable, CanGoThrough, path_at}
 use Rattle.map_parts.specs.Splitting.{CanPart, AreStarsOf}
 use Rattle.map_parts.specs.Joined.{CanUnjoin}
@@ -28,7 +28,8 @@ use Rattle.map_parts.proofs.Passing.Between as between
 use Rattle.map_parts.proofs.Passing.JoinBetween as made
 use Rattle.map_parts.proofs.Passing.JoinMade.{two-out, end-connects}
 use Rattle.map_parts.proofs.Passing.SplitBetween.{row-first}
-use Rattle.map_parts.proofs.Passing.SplitUndone.{without-last, none-without, kept-without, insert-back}
+use Rattle.numbered_rows.proofs.Removed.{none-taken, kept-without}
+use Rattle.map_parts.proofs.Passing.SplitUndone.{without-last, insert-back}
 use Rattle.map_parts.proofs.Passing.StarsChanged.{stars-permuted}
 
 -- numbers that differ still do where a row is left out
@@ -230,17 +231,17 @@ module _ {joined : JoinedRows} {new : ℕ} {rows : MapRows} {table : HalfRows} {
   pub undo-no_point : point_of (map_in rows) p ≡ None
   undo-no_point =
       ap (row_with (λ (r : PointRow). r.number) p) (now-points ∙ points-are)
-      ∙ none-without (λ (r : PointRow). r.number) p m.points
+      ∙ none-taken (λ (r : PointRow). r.number) p m.points
 
   not-left_first : row_with (λ (r : StringRow). r.number) s.number left ≡ None
   not-left_first =
       ap (row_with (λ (r : StringRow). r.number) s.number) (sym both-out)
-      ∙ none-filter (λ (r : StringRow). r.number) _ s.number one_out (none-without (λ (r : StringRow). r.number) s.number m.strings)
+      ∙ none-filter (λ (r : StringRow). r.number) _ s.number one_out (none-taken (λ (r : StringRow). r.number) s.number m.strings)
 
   not-left_second : row_with (λ (r : StringRow). r.number) t.number left ≡ None
   not-left_second =
       ap (row_with (λ (r : StringRow). r.number) t.number) (sym both-out)
-      ∙ none-without (λ (r : StringRow). r.number) t.number one_out
+      ∙ none-taken (λ (r : StringRow). r.number) t.number one_out
 
   -- one that isn't left and isn't the new one isn't there
   absent : (n : ℕ) (q : StringRow) → string_of m n ≡ Some q → row_with (λ (r : StringRow). r.number) n left ≡ None

@@ -7,7 +7,7 @@ use Rattle.half_table.specs.Rows.{HalfRows}
 use Rattle.half_table.specs.declared.half.Half.{Half}
 use Rattle.entry_list.specs.Slots.{HasSlot}
 use Rattle.key_lists.specs.Held.{Held}
-use Rattle.map_parts.specs.declared.map_rows.MapRows.{MapRows}
+use Rattle.cad_map.specs.declared.map_rows.MapRows.{MapRows}
 use Rattle.map_parts.specs.declared.stars.Spoke.{Spoke}
 use Rattle.map_parts.specs.Splitting.{CanUnsplit, CanBeginUnsplit}
 use Rattle.map_parts.proofs.Passing.Begun.{IsStringReady}

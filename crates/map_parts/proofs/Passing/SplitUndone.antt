@@ -11,16 +11,17 @@ use Rattle.cad_rows.specs.declared.rows.StringRow.{StringRow}
 use Rattle.cad_map.specs.Changes.{split}
 use Rattle.cad_map.specs.Effects.{after}
 use Rattle.cad_map.specs.Map.{Map, point_of, string_of}
-use Rattle.cad_map.specs.Table.{row_with, without_row}
+use Rattle.numbered_rows.specs.Rows.{row_with, without_row}
 use Rattle.cad_map.specs.Valid.{EachPair}
 use Rattle.cad_map.proofs.CallerLemmas.{Contains-at, All-at_each, Contains-map, row-found, row_with-there, none-push, none-filter, allowed, free-split}
+use Rattle.numbered_rows.proofs.Removed.{none-taken}
 use Rattle.half_table.specs.declared.half.Half.{Half}
 use Rattle.half_table.specs.Rows.{HalfRows}
 use Rattle.key_lists.specs.Held.{Held}
 use Rattle.map_parts.specs.declared.edits.passing.Passing.{Passing}
-use Rattle.map_parts.specs.declared.map_rows.MapRows.{MapRows}
+use Rattle.cad_map.specs.declared.map_rows.MapRows.{MapRows}
 use Rattle.map_parts.specs.declared.stars.Spoke.{Spoke}
-use Rattle.map_parts.specs.Rows.{map_in}
+use Rattle.cad_map.specs.MapRows.{map_in}
 use Rattle.map_parts.specs.Passing.{HasBetween, FitTable, CanGoPast, path_of}
 use Rattle.map_parts.specs.Splitting.{CanUnsplit, CanMeet, AreStarsOf}
 use Rattle.map_parts.proofs.Passing.Between as between
@@ -51,29 +52,6 @@ module _ {R : Type 0} (number : R → ℕ) where
           → without_row number (number row) (r ∷ rows ++ row ∷ []) ≡ r ∷ rows
       by true is again = let some : Some r ≡ None = rw is at none in cc
       by false is again = rw is (ap (λ (l : List R). r ∷ l) (again (rw is at none)))
-
-  -- no row has a number that is left out
-  pub none-without : (n : ℕ) (rows : List R) → row_with number n (without_row number n rows) ≡ None
-  none-without n [] = refl
-  none-without n (r ∷ rows) = by (number r == n) refl (none-without n rows)
-    where
-      by : (t : Bool) → (number r == n) ≡ t → row_with number n (without_row number n rows) ≡ None
-          → row_with number n (without_row number n (r ∷ rows)) ≡ None
-      by true is rest = rw is rest
-      by false is rest = rw (is, is) rest
-
-  -- a row of another number is found all the same
-  pub kept-without : (n k : ℕ) (rows : List R) → k ≢ n → row_with number n (without_row number k rows) ≡ row_with number n rows
-  kept-without n k [] apart = refl
-  kept-without n k (r ∷ rows) apart = by (number r == k) (number r == n) refl refl (kept-without n k rows apart)
-    where
-      by : (s t : Bool) → (number r == k) ≡ s → (number r == n) ≡ t
-          → row_with number n (without_row number k rows) ≡ row_with number n rows
-          → row_with number n (without_row number k (r ∷ rows)) ≡ row_with number n (r ∷ rows)
-      by true true e f rest = absurd (apart (sym (eqb-true (number r) k e) ∙ eqb-true (number r) n f))
-      by true false e f rest = rw (e, f) rest
-      by false true e f rest = rw (e, f) refl
-      by false false e f rest = rw (e, f) rest
 
   -- a row that is left out, and comes back at its place
   pub insert-back : (n : ℕ) (rows : List R) (place : ℕ) (row : R) → EachPair (λ a b. a ≢ b) (map number rows)
@@ -234,7 +212,7 @@ module _ {row : StringRow} {place p first second : ℕ} {rows : MapRows} {table 
       ap (λ (q : Map). string_of q row.number) can.fits.rows_are
       ∙ ap (row_with number row.number) split_list
       ∙ none-push number row.number (left ++ one ∷ []) other not_second
-      (none-push number row.number left one not_first (none-without number row.number m.strings))
+      (none-push number row.number left one not_first (none-taken number row.number m.strings))
     where
       none-some : (r : StringRow) → None ≡ Some r → ⊥
       none-some r e = cc

@@ -1,15 +1,15 @@
 //! Strings and a parcel that come last among the rows, and go again.
 ghost use Rattle.std.specs.Prelude.{◌≡◌, ◌++◌, ◌∷◌, [], None, IsSome};
 ghost use Rattle.cad_map.specs.Map.{parcel_of};
-ghost use Rattle.cad_map.specs.Table.{without_row};
+ghost use Rattle.numbered_rows.specs.Rows.{without_row};
 ghost use Rattle.entry_list.specs.Slots.{HasSlot};
-ghost use Rattle.map_parts.specs.Rows.{map_in};
+ghost use Rattle.cad_map.specs.MapRows.{map_in};
 ghost use Rattle.map_parts.specs.Splitting.{AreStarsOf};
 ghost use Rattle.map_parts.specs.StringRows.{CanPutStrings, CanTakeStrings, without_rows};
 
 use crate::edits::string_rows::{put_strings, take_strings};
-use crate::map_rows::MapRows;
 use crate::stars::Spoke;
+use cad_map::MapRows;
 use cad_rows::{ParcelNo, ParcelRow, StringNo, StringRow};
 use key_lists::KeyLists;
 

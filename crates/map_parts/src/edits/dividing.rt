@@ -19,8 +19,8 @@ ghost use Rattle.map_parts.specs.TableGrown.{CameAndWent, HasBesides, KeepsOrigi
 use crate::edits::added::{put_added, take_added};
 use crate::edits::divide::{bring_across, take_across};
 use crate::edits::parcel_rooms::{add_with_room, make_handing_room};
-use crate::map_rows::MapRows;
 use crate::stars::Spoke;
+use cad_map::MapRows;
 use cad_rows::{Face, Memory, ParcelNo, ParcelRow, StringNo, StringRow};
 use half_table::{Half, HalfTable, Tally};
 use key_lists::KeyLists;

@@ -5,15 +5,15 @@ ghost use Rattle.cad_rows.specs.declared.names.Face.TheVariants.{Parcel};
 ghost use Rattle.key_lists.specs.Held.{capacity_at, IsSame};
 ghost use Rattle.map_parts.specs.Adding.{HasRoomToExchange, IsSeenAs};
 ghost use Rattle.map_parts.specs.Merging.{CanComeBack, CanEnd, HaveGone, HaveRoomBack, without_ended};
-ghost use Rattle.map_parts.specs.Rows.{map_in};
+ghost use Rattle.cad_map.specs.MapRows.{map_in};
 ghost use Rattle.map_parts.specs.Splitting.{AreStarsOf};
 
 use crate::edits::merging_tried::EndedParcel;
 use crate::edits::parcel_rooms::make_handing_room;
 use crate::edits::placed_strings::{PlacedString, put_placed, take_placed};
 use crate::edits::retired::{retire, unretire};
-use crate::map_rows::MapRows;
 use crate::stars::Spoke;
+use cad_map::MapRows;
 use cad_rows::{Face, Memory, ParcelNo, ParcelRow, StringNo};
 use half_table::Half;
 use key_lists::KeyLists;

@@ -2,9 +2,9 @@
 ghost use Rattle.std.specs.Prelude.{◌≡◌, Some, option_map, IsTrue};
 ghost use Rattle.cad_map.specs.Changes.{change_parcel};
 ghost use Rattle.cad_map.specs.Map.{parcel_of, has_parcel};
-ghost use Rattle.map_parts.specs.Rows.{map_in};
+ghost use Rattle.cad_map.specs.MapRows.{map_in};
 
-use crate::map_rows::MapRows;
+use cad_map::MapRows;
 use cad_rows::{Label, ParcelNo};
 use std::mem;
 

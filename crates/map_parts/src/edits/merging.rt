@@ -13,7 +13,7 @@ ghost use Rattle.map_parts.specs.Labels.{IsAlong};
 ghost use Rattle.map_parts.specs.Merging.{CanBeginMerge, CanBeginUnmerge, CanUnmerge, HaveGone, merged};
 ghost use Rattle.map_parts.specs.Merging.{first_corner, last_corner};
 ghost use Rattle.map_parts.specs.PlacedStrings.{numbers_placed};
-ghost use Rattle.map_parts.specs.Rows.{map_in};
+ghost use Rattle.cad_map.specs.MapRows.{map_in};
 ghost use Rattle.map_parts.specs.Splitting.{FitMap};
 ghost use Rattle.map_parts.specs.TableGrown.{CameAndWent, HasBesides, KeepsOrigins};
 
@@ -21,8 +21,8 @@ use crate::edits::divide::{bring_across, take_across};
 use crate::edits::ended::{end_with_room, put_ended};
 use crate::edits::merging_tried::{EndedParcel, make_unmerge_room};
 use crate::edits::placed_strings::PlacedString;
-use crate::map_rows::MapRows;
 use crate::stars::Spoke;
+use cad_map::MapRows;
 use cad_rows::{Face, Memory, ParcelNo, ParcelRow, StringNo};
 use half_table::{Half, HalfTable, Tally};
 use key_lists::KeyLists;

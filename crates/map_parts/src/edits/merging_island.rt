@@ -11,7 +11,7 @@ ghost use Rattle.map_parts.specs.Merging.{HaveGone};
 ghost use Rattle.map_parts.specs.MergingIsland.{CanBeginMergeIsland, CanBeginUnmergeIsland};
 ghost use Rattle.map_parts.specs.MergingIsland.{CanUnmergeIsland, without_island};
 ghost use Rattle.map_parts.specs.PlacedStrings.{numbers_placed};
-ghost use Rattle.map_parts.specs.Rows.{map_in};
+ghost use Rattle.cad_map.specs.MapRows.{map_in};
 ghost use Rattle.map_parts.specs.Splitting.{FitMap};
 ghost use Rattle.map_parts.specs.TableGrown.{CameAndWent, HasBesides, KeepsOrigins};
 
@@ -19,8 +19,8 @@ use crate::edits::enclose::{bring_in, take_out};
 use crate::edits::ended::{end_with_room, put_ended};
 use crate::edits::merging_tried::{EndedParcel, make_unmerge_room};
 use crate::edits::placed_strings::PlacedString;
-use crate::map_rows::MapRows;
 use crate::stars::Spoke;
+use cad_map::MapRows;
 use cad_rows::{Face, Memory, ParcelNo, ParcelRow, StringNo};
 use half_table::{Half, HalfTable, Tally};
 use key_lists::KeyLists;

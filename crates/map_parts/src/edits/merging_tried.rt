@@ -11,8 +11,8 @@ ghost use Rattle.map_parts.specs.TableGrown.{CameAndWent};
 
 use crate::edits::parcel_rooms::add_with_room;
 use crate::edits::placed_strings::PlacedString;
-use crate::map_rows::MapRows;
 use crate::stars::Spoke;
+use cad_map::MapRows;
 use cad_rows::{Face, Memory, Numbers, ParcelNo, ParcelRow, StringRow};
 use half_table::{Half, HalfTable, Tally};
 use key_lists::KeyLists;

@@ -9,12 +9,11 @@ ghost use Rattle.half_table.specs.Rows.{IsLinked};
 ghost use Rattle.half_paths.specs.Loose.{numbers_of, AreNew};
 ghost use Rattle.key_lists.specs.Held.{items_at, HasRoomAt, IsSame};
 ghost use Rattle.map_parts.specs.Adding.{AreAdded, HasRoomAtEnds, HasRoomToExchange, IsSeenAs};
-ghost use Rattle.map_parts.specs.Rows.{map_in};
+ghost use Rattle.cad_map.specs.MapRows.{map_in};
 ghost use Rattle.map_parts.specs.TableGrown.{CameAndWent};
 
-use crate::map_rows::MapRows;
 use crate::stars::Spoke;
-use cad_map::face_place;
+use cad_map::{MapRows, face_place};
 use cad_rows::{Face, Memory, ParcelNo, StringRow};
 use half_paths::add_strings;
 use half_table::{Half, HalfTable, Tally};

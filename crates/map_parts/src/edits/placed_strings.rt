@@ -3,7 +3,7 @@ ghost use Rattle.std.specs.Prelude.{◌≡◌, ◌≢◌, ◌+◌, ◌≤◌, []
 ghost use Rattle.std.specs.List.{AllByRecursion};
 ghost use Rattle.std.specs.Vec.{vec_len, vec_capacity};
 ghost use Rattle.entry_list.specs.Slots.{HasSlot};
-ghost use Rattle.map_parts.specs.Rows.{map_in};
+ghost use Rattle.cad_map.specs.MapRows.{map_in};
 ghost use Rattle.cad_rows.specs.declared.rows.StringRow.{StringRow as StringRowOf};
 ghost use Rattle.cad_map.specs.Valid.{EachPair};
 ghost use Rattle.map_parts.specs.PlacedStrings.{CanPutPlaced, numbers_placed, StoodIn};
@@ -12,8 +12,8 @@ ghost use Rattle.map_parts.specs.StringRows.{CanTakeStrings, HasRoomFor, KeepsRo
 
 use crate::edits::spokes::put_spokes;
 use crate::edits::string_rows::take_string;
-use crate::map_rows::MapRows;
 use crate::stars::Spoke;
+use cad_map::MapRows;
 use cad_rows::{StringNo, StringRow};
 use key_lists::KeyLists;
 

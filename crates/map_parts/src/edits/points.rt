@@ -2,10 +2,10 @@
 ghost use Rattle.std.specs.Prelude.{◌≡◌, ◌≤◌, ◌++◌, ◌∷◌, [], None, Some, length, insert, slice_get, option_map, IsTrue, OnOk, OnErr};
 ghost use Rattle.cad_map.specs.Changes.{change_point};
 ghost use Rattle.cad_map.specs.Map.{point_of, has_point};
-ghost use Rattle.cad_map.specs.Table.{without_row};
-ghost use Rattle.map_parts.specs.Rows.{map_in};
+ghost use Rattle.numbered_rows.specs.Rows.{without_row};
+ghost use Rattle.cad_map.specs.MapRows.{map_in};
 
-use crate::map_rows::MapRows;
+use cad_map::MapRows;
 use cad_rows::{Memory, Numbers, PointNo, PointRow};
 use geo_exact::Pt;
 

@@ -3,10 +3,10 @@ ghost use Rattle.std.specs.Prelude.{◌≡◌, ◌≤◌, ◌==◌, ◌++◌, �
 ghost use Rattle.std.specs.List.{list_any};
 ghost use Rattle.entry_list.specs.Slots.{HasSlot, KeepsSlots};
 ghost use Rattle.cad_map.specs.Map.{is_retired, parcel_of};
-ghost use Rattle.cad_map.specs.Table.{without_row};
-ghost use Rattle.map_parts.specs.Rows.{map_in};
+ghost use Rattle.numbered_rows.specs.Rows.{without_row};
+ghost use Rattle.cad_map.specs.MapRows.{map_in};
 
-use crate::map_rows::{MapRows, RetiredRow};
+use cad_map::{MapRows, RetiredRow};
 use cad_rows::{ParcelNo, ParcelRow};
 
 /// Takes a parcel's row out, and gives it with its place. Its number is retired. It takes no memory,

@@ -6,10 +6,10 @@ ghost use Rattle.half_table.specs.Rows.{IsLinked};
 ghost use Rattle.half_paths.specs.Loose.{AddsStrings, AreNew};
 ghost use Rattle.key_lists.specs.Held.{IsSame};
 ghost use Rattle.map_parts.specs.Adding.{HasRoomForPath};
-ghost use Rattle.map_parts.specs.Rows.{map_in};
+ghost use Rattle.cad_map.specs.MapRows.{map_in};
 
-use crate::map_rows::MapRows;
 use crate::stars::Spoke;
+use cad_map::MapRows;
 use cad_rows::{Memory, PointNo, StringNo, StringRow};
 use half_table::{HalfTable, Tally};
 use key_lists::KeyLists;

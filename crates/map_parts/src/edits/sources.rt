@@ -4,10 +4,10 @@ ghost use Rattle.std.specs.List.{list_any};
 ghost use Rattle.cad_map.specs.Changes.{change_sources as change_sources_of, change_point, change_string, change_parcel};
 ghost use Rattle.cad_map.specs.Map.{source_of, has_point, has_string, has_parcel};
 ghost use Rattle.cad_map.specs.Refusals.{is_there, item_named, is_attached, sources_at};
-ghost use Rattle.cad_map.specs.Table.{without_row};
-ghost use Rattle.map_parts.specs.Rows.{map_in};
+ghost use Rattle.numbered_rows.specs.Rows.{without_row};
+ghost use Rattle.cad_map.specs.MapRows.{map_in};
 
-use crate::map_rows::MapRows;
+use cad_map::MapRows;
 use cad_rows::{Item, Memory, Numbers, ParcelNo, PointNo, SourceNo, SourceRow, StringNo};
 use std::alloc::Global;
 

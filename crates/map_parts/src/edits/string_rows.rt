@@ -1,16 +1,16 @@
 //! Several strings that come last among the rows, with their halves in the stars, and go again.
 ghost use Rattle.std.specs.Prelude.{◌≡◌, ◌++◌, ◌∷◌, [], ℕ, List, Some, slice_get, IsPermutation};
-ghost use Rattle.cad_map.specs.Table.{without_row};
+ghost use Rattle.numbered_rows.specs.Rows.{without_row};
 ghost use Rattle.entry_list.specs.Slots.{HasSlot};
 ghost use Rattle.key_lists.specs.Held.{items_at, HasRoomAt};
-ghost use Rattle.map_parts.specs.Rows.{map_in};
+ghost use Rattle.cad_map.specs.MapRows.{map_in};
 ghost use Rattle.map_parts.specs.Splitting.{AreStarsOf};
 ghost use Rattle.map_parts.specs.Stars.{spokes_of};
 ghost use Rattle.map_parts.specs.StringRows.{CanPutStrings, CanTakeStrings, KeepsRoom, without_rows};
 
 use crate::edits::spokes::{put_spokes, take_spokes};
-use crate::map_rows::MapRows;
 use crate::stars::Spoke;
+use cad_map::MapRows;
 use cad_rows::{StringNo, StringRow};
 use key_lists::KeyLists;
 

@@ -1,5 +1,5 @@
-use Rattle.std.proofs.Common.{rules, false, subst, ◌≡◌, ◌∙◌}
-use Rattle.csv.specs.Reading.{ExplainsRead, error_kind}
+use Rattle.std.proofs.Common.{rules, Bool, true, false, ap, subst, ◌≡◌, ◌∙◌}
+use Rattle.csv.specs.Reading.{ExplainsRead, error_kind, stops_reader, has_failed}
 use Rattle.csv.specs.declared.error.ErrorKind.TheVariants as kinds
 use Rattle.cad_files.proofs.InputFacts.{has_read-more, has_read-end, has_read-other}
 use Rattle.cad_files.proofs.input.next_row.Goals as goal
@@ -21,3 +21,8 @@ returns-in-UnequalLengths-clause-length g c = λ is_length text rows h.
     let is_unequal : error_kind c.in-Err.e ≡ unequal = search rules in
     let (strict, is_expected, other, fields, took, is_len) = subst (ExplainsRead g.R.Read.remaining c.args.reader.now reader false) is_unequal (c.in-Err.ensures.why h.ready) in
     has_read-other g.R.Read.remaining c.args.reader.now reader fields _ text rows h took is_expected (λ e. other (e ∙ is_len))
+
+pub returns-in-OutOfMemory-clause-failed : goal.returns-in-OutOfMemory-clause-failed
+returns-in-OutOfMemory-clause-failed g c = λ other text rows h.
+    let is_memory : error_kind c.in-Err.e ≡ kinds.OutOfMemory = search rules in
+    c.in-Err.ensures.fails ∙ ap stops_reader is_memory

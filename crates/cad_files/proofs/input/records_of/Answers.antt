@@ -11,4 +11,4 @@ returns g c = if_known _ _ (λ input known.
     let fr = c.from_reader.ensures in
     let e = c.has_headers.ensures in
     has_read-start g.R.Read.remaining c.from_reader.result (g.R.Read.remaining c.args.input) input
-    (rw e at fr.trim ∙ c.new.ensures.trim) (rw e at fr.has_headers) fr.headers (rw e at fr.config ∙ c.new.ensures.config) (rw e at fr.flexible ∙ c.new.ensures.flexible) fr.state fr.source known)
+    (rw e at fr.trim ∙ c.new.ensures.trim) (rw e at fr.has_headers) fr.headers (rw e at fr.config ∙ c.new.ensures.config) (rw e at fr.flexible ∙ c.new.ensures.flexible) fr.expected fr.state fr.source known)

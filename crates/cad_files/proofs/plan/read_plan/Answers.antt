@@ -1,12 +1,12 @@
-use Rattle.std.proofs.Common.{◌≡◌, ◌++◌, ◌∷◌, [], ℕ, List, length, refl, ap, sym, ◌∙◌, inl, inr, arith}
+use Rattle.std.proofs.Common.{rules, ◌≡◌, ◌++◌, ◌∷◌, [], ℕ, List, length, length-append, refl, ap, sym, ◌∙◌, inl, inr, arith}
 use Rattle.std.proofs.lemmas.List.Elements.{All-nil}
 use Rattle.csv.specs.Records.{fields_of}
 use Rattle.cad_files.specs.Plan.{beginning, faulty, is_unfinished}
-use Rattle.cad_files.specs.Plan.HasPlanFault.{of_record, of_first, of_end}
+use Rattle.cad_files.specs.Plan.HasPlanFault.{of_record, of_first, of_length, of_end}
 use Rattle.cad_files.specs.declared.faults.PlanFault.TheVariants as faults
 use Rattle.cad_files.proofs.InputFacts.{begins}
 use Rattle.cad_files.proofs.PlanFacts.{plan_of-more, fewer_left}
-use Rattle.cad_files.proofs.SevenFields.{first-other, seven_or_not, taken-first, taken, taken-plan}
+use Rattle.cad_files.proofs.SevenFields.{first-other, seven_or_not, taken-first, taken, taken-plan, other-seven}
 use Rattle.cad_files.proofs.FewRecords.{few-reading}
 use Rattle.cad_files.proofs.plan.read_plan.Goals as goal
 
@@ -70,3 +70,43 @@ loop-rows-preserved g c = record {
   counted = let more = c.in-Ok-true-take_row.ensures.grows c.in-Ok-true-take_row.field-0-test in omega (arith, more.count, c.loop-rows.invariant.counted);
   few = let more = c.in-Ok-true-take_row.ensures.grows c.in-Ok-true-take_row.field-0-test in omega (arith, more.count, more.room);
 }
+
+pub returns-in-Err-clause-few : goal.returns-in-Err-clause-few
+returns-in-Err-clause-few g c = λ of_reading text h.
+    inr (fields_of c.next_row.new.row ∷ [], c.in-Ok-true.ensures.more c.in-Ok-true.field-0-test text [] h, omega arith)
+
+pub returns-in-Err-take_row-clause-few : goal.returns-in-Err-take_row-clause-few
+returns-in-Err-take_row-clause-few g c = λ of_reading text h.
+    let (rows, read, p) = c.loop-rows.invariant.read text h in
+    let fields = fields_of c.next_row-in-loop-rows.new.row in
+    let many = length-append rows (fields ∷ []) in
+    let few = few-reading rows _ _ _ p in
+    inr (rows ++ fields ∷ [], c.in-Ok-true-next_row.ensures.more c.in-Ok-true-next_row.field-0-test text rows read, omega (arith, many, few))
+
+pub returns-in-Err-Length-next_row-clause-err : goal.returns-in-Err-Length-next_row-clause-err
+returns-in-Err-Length-next_row-clause-err g c = λ text h nr nm.
+    let (rows, read, p) = c.loop-rows.invariant.read text h in
+    let (next, begins, other, some) = c.in-Err-Length-next_row.ensures.length (search rules) text rows read in
+    let taken = taken-plan _ text rows _ _ p (λ e. cc e) (λ e. cc e) read in
+    of_length rows next taken begins (other-seven rows next some taken.seven other) some (few-reading rows _ _ _ p) (ap is_unfinished p)
+
+pub returns-in-Err-Length-clause-err : goal.returns-in-Err-Length-clause-err
+returns-in-Err-Length-clause-err g c = λ text h nr nm.
+    let (next, begins, other, some) = c.in-Err-Length.ensures.length (search rules) text [] h in
+    absurd (omega (arith, some))
+
+pub returns-in-Err-Read-clause-few : goal.returns-in-Err-Read-clause-few
+returns-in-Err-Read-clause-few g c = λ of_reading text h. inl (c.in-Err-Read.ensures.failed (search rules) text [] h)
+
+pub returns-in-Err-Memory-clause-few : goal.returns-in-Err-Memory-clause-few
+returns-in-Err-Memory-clause-few g c = λ of_reading text h. inl (c.in-Err-Memory.ensures.failed (search rules) text [] h)
+
+pub returns-in-Err-Read-next_row-clause-few : goal.returns-in-Err-Read-next_row-clause-few
+returns-in-Err-Read-next_row-clause-few g c = λ of_reading text h.
+    let (rows, read, p) = c.loop-rows.invariant.read text h in
+    inl (c.in-Err-Read-next_row.ensures.failed (search rules) text rows read)
+
+pub returns-in-Err-Memory-next_row-clause-few : goal.returns-in-Err-Memory-next_row-clause-few
+returns-in-Err-Memory-next_row-clause-few g c = λ of_reading text h.
+    let (rows, read, p) = c.loop-rows.invariant.read text h in
+    inl (c.in-Err-Memory-next_row.ensures.failed (search rules) text rows read)

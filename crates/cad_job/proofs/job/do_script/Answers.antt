@@ -3,7 +3,8 @@ use Rattle.std.proofs.KnownBytes.{Appends-trans, Appends-nil, Appends-kept}
 use Rattle.std.proofs.lemmas.List.{length_push}
 use Rattle.csv.specs.Records.{fields_of}
 use Rattle.cad_history.specs.History.{beginning}
-use Rattle.cad_job.proofs.JobFacts.{front-whole, flushed_does, other_than_seven, job_taken, job_taken_more, job_taken_next}
+use Rattle.cad_files.proofs.SevenFields.{other-seven}
+use Rattle.cad_job.proofs.JobFacts.{front-whole, flushed_does, job_taken, job_taken_more, job_taken_next}
 use Rattle.cad_job.proofs.ScriptFacts.{AreAnswered-more, AreGoneThrough-more, through-answered}
 use Rattle.cad_job.specs.Stopped.{AreGoneThrough, stops}
 use Rattle.cad_job.proofs.job.do_script.Goals as goal
@@ -50,11 +51,11 @@ returns-in-Err-Length-clause-does g c = λ text plan rows h opens.
     let so_far = c.loop-turn.invariant.done text plan h in
     let all = job_taken g.R.Read.remaining text plan so_far.script c.loop-turn.reader rows opens so_far.read in
     let few : length so_far.script ≤ 1000000 = omega (arith, so_far.count, c.loop-turn.invariant.few) in
-    let (next, begins, other) = c.in-Err-Length.ensures.length (search rules) text (plan ++ so_far.script) so_far.read in (
+    let (next, begins, other, some) = c.in-Err-Length.ensures.length (search rules) text (plan ++ so_far.script) so_far.read in (
       so_far.written,
       Appends-kept _ _ _ _ so_far.wrote c.flushed-in-Err-Length.ensures.kept,
       flushed_does c.args.stop _ c.flushed-in-Err-Length.result text plan so_far.script (g.M.MapView.map c.args.store) c.args.depth so_far.written _ _ all few (so_far.now, through-answered c.args.stop _ so_far.script so_far.written so_far.now so_far.told)
-          (so_far.script, next, all, begins, other_than_seven plan so_far.script rows next opens all.seven other, few, (so_far.now, so_far.told)) c.flushed-in-Err-Length.ensures.ended,
+          (so_far.script, next, all, begins, other-seven (plan ++ so_far.script) next some all.seven other, few, (so_far.now, so_far.told)) c.flushed-in-Err-Length.ensures.ended,
     )
 
 pub returns-in-Err-Memory-clause-does : goal.returns-in-Err-Memory-clause-does
@@ -92,7 +93,7 @@ returns-in-Err-write_all-clause-does g c = λ text plan rows h opens.
     let after = c.in-Ok-true.ensures.more c.in-Ok-true.field-0-test text (plan ++ so_far.script) so_far.read in
     let longer = length_push so_far.script fields in
     let few : length (so_far.script ++ (fields ∷ [])) ≤ 1000000 = omega (arith, so_far.count, c.loop-turn.invariant.few, longer) in
-    let (end, answered, standing) = c.in-Ok-answer_of_row.ensures so_far.now so_far.stands in
+    let (end, answered, standing) = c.in-Ok-answer_of_row.ensures.told so_far.now so_far.stands in
     let (front, front_of, grown) = c.in-Err-write_all.ensures.err in
     let (rest, whole) = front_of in
     let more = AreAnswered-more (beginning (g.M.MapView.map c.args.store) c.args.depth) so_far.script so_far.written so_far.now fields _ end (through-answered c.args.stop _ so_far.script so_far.written so_far.now so_far.told) answered in (
@@ -111,7 +112,7 @@ loop-turn-preserved g c =
     let fields = fields_of c.next_row.new.row in
     let start = beginning (g.M.MapView.map c.args.store) c.args.depth in
     let (h, standing) = c.loop-turn.invariant.some in
-    let (next, answered, stands) = c.in-Ok-answer_of_row.ensures h standing in
+    let (next, answered, stands) = c.in-Ok-answer_of_row.ensures.told h standing in
     let goes_on : c.args.stop ≡ true → stops c.in-Ok-answer_of_row.text.items ≡ false = elim c.else-stop.branch [
       | else-stop-via-then-stop+else-stops w ↦ λ stop. ap stops (sym w.as_slice-then-stop.ensures.value) ∙ sym w.stops.ensures ∙ w.if-stops.false
       | else-stop-via-else-stop w ↦ λ stop. let bad : false ≡ true = sym w.if-stop.false ∙ stop in cc
@@ -120,7 +121,7 @@ loop-turn-preserved g c =
       done = λ text plan h.
           let so_far = c.loop-turn.invariant.done text plan h in
           let after = c.in-Ok-true.ensures.more c.in-Ok-true.field-0-test text (plan ++ so_far.script) so_far.read in
-          let (end, answered, stands) = c.in-Ok-answer_of_row.ensures so_far.now so_far.stands in
+          let (end, answered, stands) = c.in-Ok-answer_of_row.ensures.told so_far.now so_far.stands in
           record {
             script = so_far.script ++ (fields ∷ []);
             written = so_far.written ++ _;
@@ -148,7 +149,7 @@ returns-then-stops-clause-does g c = λ text plan rows h opens.
     let few : length (so_far.script ++ (fields ∷ [])) ≤ 1000000 = omega (arith, so_far.count, c.loop-turn.invariant.few, longer) in
     let counted : c.loop-turn.turn + 1 ≡ length so_far.script + 1 = ap (λ n. n + 1) (sym so_far.count) in
     let within : c.loop-turn.turn + 1 ≤ 1000000 = omega (arith, so_far.count, few, longer) in
-    let (end, answered, standing) = c.in-Ok-answer_of_row.ensures so_far.now so_far.stands in
+    let (end, answered, standing) = c.in-Ok-answer_of_row.ensures.told so_far.now so_far.stands in
     let more = AreAnswered-more start so_far.script so_far.written so_far.now fields answer end (through-answered c.args.stop _ so_far.script so_far.written so_far.now so_far.told) answered in
     let through : AreGoneThrough true start so_far.script so_far.written so_far.now =
     subst (λ (s : Bool). AreGoneThrough s start so_far.script so_far.written so_far.now) c.if-stop.true so_far.told in

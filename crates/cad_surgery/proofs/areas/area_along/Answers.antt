@@ -7,7 +7,7 @@ use Rattle.half_table.specs.declared.half.Half.{Half}
 use Rattle.half_table.specs.Cycle.{orbit}
 use Rattle.half_table.specs.Rows.{halves, next, origin_of}
 use Rattle.half_paths.specs.Path.{AreIn}
-use Rattle.map_parts.specs.Rows.{rows_in}
+use Rattle.numbered_rows.specs.Rows.{rows_in}
 use Rattle.cad_surgery.proofs.AreasAlong.{area_ahead, ahead-is, cycle-in, past-first}
 use Rattle.cad_surgery.proofs.areas.area_along.Goals as goal
 

@@ -3,7 +3,7 @@ use Rattle.geo_exact.specs.Measure.{measure_limit, doubled_area}
 use Rattle.cad_map.specs.Map.{Map, empty_map, position_of, sum_of_ring}
 use Rattle.half_table.specs.Rows.{origin_of, cycle}
 use Rattle.half_paths.specs.Path.{AreIn}
-use Rattle.map_parts.specs.Rows.{rows_in}
+use Rattle.numbered_rows.specs.Rows.{rows_in}
 use Rattle.cad_surgery.proofs.AreasAlong.{area_ahead}
 use Rattle.cad_surgery.proofs.areas.area_along.Given as goal
 

@@ -3,7 +3,7 @@ use Rattle.cad_rows.specs.declared.rows.StringRow.{StringRow}
 use Rattle.cad_rings.specs.Surgery.{without}
 use Rattle.cad_map.specs.Boundaries.{bounding, canonical_order}
 use Rattle.cad_map.specs.Map.{strings_at}
-use Rattle.cad_map.specs.Table.{without_row}
+use Rattle.numbered_rows.specs.Rows.{without_row}
 use Rattle.cad_map.specs.Changes.{by_number, string_joining}
 use Rattle.cad_map.proofs.CallerLemmas.{none-filter, meet-at, left-is, room-without}
 use Rattle.cad_edit.proofs.edits.join.join.Goals as goal

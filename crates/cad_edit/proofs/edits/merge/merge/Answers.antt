@@ -1,7 +1,7 @@
 use Rattle.std.proofs.Common.{◌∙◌, [], ◌∷◌, ◌++◌}
 use Rattle.cad_rows.specs.declared.names.Face.TheVariants.{Parcel}
 use Rattle.cad_map.specs.Boundaries.{canonical_order}
-use Rattle.cad_map.specs.Table.{without_row}
+use Rattle.numbered_rows.specs.Rows.{without_row}
 use Rattle.cad_map.specs.Merger.{shared_chains, is_shared}
 use Rattle.cad_map.specs.Changes.{merge_at}
 use Rattle.cad_edit.proofs.StringRows.{taken-filtered}

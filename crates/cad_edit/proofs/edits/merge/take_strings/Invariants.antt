@@ -1,5 +1,5 @@
 use Rattle.std.proofs.Common.{◌≡◌, drop, fold}
-use Rattle.cad_map.specs.Table.{without_row}
+use Rattle.numbered_rows.specs.Rows.{without_row}
 use Rattle.cad_edit.proofs.edits.merge.take_strings.Given as goal
 
 abbrev pub invariant-loop-no : goal.invariant-loop-no

@@ -2,7 +2,7 @@ use Rattle.std.proofs.Common.{sym, [], ◌∷◌, ◌++◌, map, append_assoc}
 use Rattle.cad_rows.specs.declared.rows.StringRow.{StringRow}
 use Rattle.cad_rings.specs.Surgery.{put_on}
 use Rattle.cad_map.specs.Boundaries.{bounding, canonical_order}
-use Rattle.cad_map.specs.Table.{without_row}
+use Rattle.numbered_rows.specs.Rows.{without_row}
 use Rattle.cad_map.proofs.CallerLemmas.{none-filter, none-push}
 use Rattle.cad_edit.proofs.edits.split.split.Goals as goal
 

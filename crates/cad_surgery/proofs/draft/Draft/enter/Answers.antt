@@ -2,7 +2,7 @@ use Rattle.std.proofs.Common.{subst, sym}
 use Rattle.std.proofs.lemmas.Result.{on_ok_weaker, on_err_weaker}
 use Rattle.edit_records.specs.Gridded.{IsGridOf}
 use Rattle.map_parts.specs.Building.{parts_of}
-use Rattle.map_parts.specs.Rows.{map_in}
+use Rattle.cad_map.specs.MapRows.{map_in}
 use Rattle.cad_surgery.proofs.GridBeside.{grid-fit}
 use Rattle.cad_surgery.proofs.draft.Draft.enter.Goals as goal
 

@@ -3,7 +3,7 @@ use Rattle.std.specs.Prelude.{IfOk}
 use Rattle.cad_map.proofs.CallerLemmas.{allowed}
 use Rattle.map_parts.specs.Parts.{map_of}
 use Rattle.edit_records.specs.Record.{Holds}
-use Rattle.map_parts.specs.Rows.{map_in}
+use Rattle.cad_map.specs.MapRows.{map_in}
 use Rattle.cad_surgery.proofs.DraftMade as draft
 use Rattle.cad_surgery.proofs.DraftRows.{held-rows}
 use Rattle.cad_surgery.proofs.FitParts.{parts-in}

@@ -1,5 +1,5 @@
 use Rattle.edit_records.specs.Record.{edit_of}
-use Rattle.map_parts.specs.Rows.{map_in}
+use Rattle.cad_map.specs.MapRows.{map_in}
 use Rattle.cad_surgery.proofs.DraftMade as draft
 use Rattle.cad_surgery.proofs.draft.Draft.remake_rows.Goals as goal
 

@@ -1,6 +1,6 @@
 use Rattle.std.proofs.lemmas.Result.{on_ok_weaker}
 use Rattle.edit_records.specs.Record.{edit_of}
-use Rattle.map_parts.specs.Rows.{map_in}
+use Rattle.cad_map.specs.MapRows.{map_in}
 use Rattle.cad_surgery.proofs.DraftMade as draft
 use Rattle.cad_surgery.proofs.draft.Draft.unmake_rows.Goals as goal
 

@@ -1,7 +1,7 @@
 use Rattle.std.proofs.Common.{subst, sym}
 use Rattle.edit_records.specs.Exchanged.{IsGridOfBoth}
 use Rattle.map_parts.specs.Building.{parts_of}
-use Rattle.map_parts.specs.Rows.{map_in}
+use Rattle.cad_map.specs.MapRows.{map_in}
 use Rattle.cad_surgery.proofs.GridBeside.{grid-fit}
 use Rattle.cad_surgery.proofs.draft.Draft.withdraw.Goals as goal
 

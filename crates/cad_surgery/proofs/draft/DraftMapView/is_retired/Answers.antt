@@ -1,9 +1,9 @@
 use Rattle.std.proofs.Common.{◌≡◌, ◌∙◌}
 use Rattle.std.specs.Prelude.{is_some}
-use Rattle.cad_map.specs.Table.{row_with}
-use Rattle.map_parts.specs.declared.map_rows.RetiredRow.{RetiredRow}
-use Rattle.map_parts.specs.Rows.{rows_in}
-use Rattle.map_parts.proofs.RowLists.{some-by_numbers}
+use Rattle.numbered_rows.specs.Rows.{row_with}
+use Rattle.cad_map.specs.declared.map_rows.RetiredRow.{RetiredRow}
+use Rattle.numbered_rows.specs.Rows.{rows_in}
+use Rattle.numbered_rows.proofs.ByNumbers.{some-by_numbers}
 use Rattle.cad_surgery.proofs.draft.DraftMapView.is_retired.Goals as goal
 
 pub returns : goal.returns

@@ -5,7 +5,7 @@ use Rattle.geo_exact.specs.Measure.{doubled_area}
 use Rattle.cad_map.specs.Map.{rings_at, sum_of_ring}
 use Rattle.cad_map.specs.Rings.{HasWholeRings, ring_at}
 use Rattle.map_parts.specs.Building.{parts_of}
-use Rattle.map_parts.specs.Rows.{map_in}
+use Rattle.cad_map.specs.MapRows.{map_in}
 use Rattle.map_parts.specs.Parts.{Parts, map_of, rings_kept}
 use Rattle.cad_surgery.proofs.PartsFaces.{half-kept, kept-there, ring-is, ring-short}
 use Rattle.cad_surgery.proofs.draft.DraftMapView.ring_area.Goals as goal

@@ -3,9 +3,9 @@ use Rattle.std.specs.Prelude.{IsPermutation}
 use Rattle.std.specs.Option.{option_copied}
 use Rattle.cad_rows.specs.declared.rows.StringRow.{StringRow}
 use Rattle.cad_map.specs.Map.{strings_at}
-use Rattle.cad_map.specs.Table.{row_with}
+use Rattle.numbered_rows.specs.Rows.{row_with}
 use Rattle.map_parts.specs.Parts.{Parts, map_of}
-use Rattle.map_parts.specs.Rows.{rows_in}
+use Rattle.numbered_rows.specs.Rows.{rows_in}
 use Rattle.map_parts.specs.Views.{view_strings}
 use Rattle.cad_surgery.proofs.StarStrings.{strings-each, string-told, none-told}
 use Rattle.cad_surgery.proofs.draft.DraftMapView.string_with.Goals as goal

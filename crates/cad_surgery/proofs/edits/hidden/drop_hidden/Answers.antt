@@ -2,7 +2,7 @@ use Rattle.std.proofs.Common.{◌≡◌, ◌∙◌, false, ap, sym, subst}
 use Rattle.cad_map.specs.Rings.{HasWholeRings}
 use Rattle.map_parts.specs.Building.{parts_of}
 use Rattle.map_parts.specs.Parts.{Parts, map_of}
-use Rattle.map_parts.specs.Rows.{map_in}
+use Rattle.cad_map.specs.MapRows.{map_in}
 use Rattle.map_parts.specs.Shown.{KeepsShown}
 use Rattle.half_table.specs.declared.half.Half.{Half}
 use Rattle.cad_laws.specs.Local.{IsShown}

@@ -2,7 +2,7 @@ use Rattle.std.proofs.Common.{◌∙◌, ap}
 use Rattle.std.proofs.lemmas.Result.{on_ok_weaker}
 use Rattle.cad_map.specs.Changes.{change_parcel}
 use Rattle.cad_map.specs.Effects.{after}
-use Rattle.map_parts.specs.Rows.{map_in}
+use Rattle.cad_map.specs.MapRows.{map_in}
 use Rattle.cad_surgery.proofs.RowsMade.{source-back, point-came, point-back, dropped-gone, dropped-place, dropped-back, moved-there, moved-away, named-there, named-again, attached-there, attached-has, attached-back, detached-there, detached-place, detached-back}
 use Rattle.cad_surgery.proofs.edits.rows.unmake.Goals as goal
 

@@ -2,8 +2,9 @@ use Rattle.std.proofs.Common.{ℕ, List, sym, ap, subst, ◌∙◌}
 use Rattle.std.specs.Prelude.{IsSome}
 use Rattle.cad_rows.specs.declared.rows.ParcelRow.{ParcelRow}
 use Rattle.cad_map.specs.Map.{Map, parcel_of}
-use Rattle.cad_map.specs.Table.{without_row}
-use Rattle.map_parts.specs.Rows.{map_in, rows_in}
+use Rattle.numbered_rows.specs.Rows.{without_row}
+use Rattle.cad_map.specs.MapRows.{map_in}
+use Rattle.numbered_rows.specs.Rows.{rows_in}
 use Rattle.map_parts.proofs.edits.added.take_added.Goals as goal
 
 pub take_there-requires : goal.take_there-requires

@@ -1,4 +1,4 @@
-use Rattle.map_parts.specs.Rows.{map_in}
+use Rattle.cad_map.specs.MapRows.{map_in}
 use Rattle.map_parts.proofs.EndedRows as it
 use Rattle.map_parts.proofs.edits.ended.put_ended.Goals as goal
 

@@ -8,7 +8,7 @@ use Rattle.half_table.specs.Rows.{Table, cycle}
 use Rattle.map_parts.specs.declared.edits.passing.Passing.{Passing}
 use Rattle.map_parts.specs.Joined.{CanBeginJoin, HaveJoined}
 use Rattle.map_parts.specs.Passing.{CanGoPast, path_at}
-use Rattle.map_parts.specs.Rows.{map_in}
+use Rattle.cad_map.specs.MapRows.{map_in}
 use Rattle.map_parts.specs.Splitting.{CanMeet, FitMap}
 use Rattle.map_parts.proofs.TicksAdded.{two-steps}
 use Rattle.map_parts.proofs.RoomMade.{on-err, fit-grown}

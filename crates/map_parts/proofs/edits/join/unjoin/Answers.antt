@@ -4,7 +4,7 @@ use Rattle.std.proofs.lemmas.Option.{same_Some}
 use Rattle.cad_rows.specs.declared.rows.StringRow.{StringRow}
 use Rattle.map_parts.specs.declared.edits.passing.Passing.{Passing}
 use Rattle.map_parts.specs.Passing.{CanGoThrough}
-use Rattle.map_parts.specs.Rows.{map_in}
+use Rattle.cad_map.specs.MapRows.{map_in}
 use Rattle.map_parts.specs.Splitting.{CanPart}
 use Rattle.map_parts.proofs.Passing.JoinUndone as undone
 use Rattle.map_parts.proofs.edits.join.unjoin.Goals as goal

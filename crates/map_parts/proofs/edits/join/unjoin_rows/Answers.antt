@@ -1,8 +1,8 @@
 use Rattle.std.proofs.Common.{◌∙◌, ◌==◌, ap, not, List, insert}
 use Rattle.cad_rows.specs.declared.rows.StringRow.{StringRow}
-use Rattle.cad_map.specs.Table.{row_with, without_row}
+use Rattle.numbered_rows.specs.Rows.{row_with, without_row}
 use Rattle.cad_map.proofs.CallerLemmas.{none-filter}
-use Rattle.map_parts.specs.Rows.{rows_in}
+use Rattle.numbered_rows.specs.Rows.{rows_in}
 use Rattle.map_parts.proofs.Passing.JoinUndone.{none-inserted}
 use Rattle.map_parts.proofs.edits.join.unjoin_rows.Goals as goal
 

@@ -1,7 +1,7 @@
 use Rattle.std.proofs.Common.{rules, ◌∙◌, ap, sym, refl}
 use Rattle.std.specs.Prelude.{option_map}
 use Rattle.cad_map.specs.Changes.{change_parcel}
-use Rattle.map_parts.specs.Rows.{map_in}
+use Rattle.cad_map.specs.MapRows.{map_in}
 use Rattle.map_parts.proofs.RowsUndone.{parcel-is}
 use Rattle.map_parts.proofs.edits.labels.rename.Goals as goal
 

@@ -4,8 +4,8 @@ use Rattle.std.proofs.lemmas.List.{take_more}
 use Rattle.cad_rows.specs.declared.rows.StringRow.{StringRow}
 use Rattle.cad_map.proofs.CallerLemmas.{All-follows, All-push}
 use Rattle.entry_list.specs.Slots.{HasSlot}
-use Rattle.map_parts.specs.declared.map_rows.MapRows.{MapRows}
-use Rattle.map_parts.specs.Rows.{map_in}
+use Rattle.cad_map.specs.declared.map_rows.MapRows.{MapRows}
+use Rattle.cad_map.specs.MapRows.{map_in}
 use Rattle.map_parts.proofs.edits.parcel_rooms.keep_slots.Goals as goal
 
 pub loop-string-init : goal.loop-string-init

@@ -2,7 +2,7 @@ use Rattle.std.proofs.Common.{◌≡◌, take}
 use Rattle.std.specs.List.{AllByRecursion}
 use Rattle.cad_rows.specs.declared.rows.StringRow.{StringRow}
 use Rattle.entry_list.specs.Slots.{HasSlot, KeepsSlots}
-use Rattle.map_parts.specs.Rows.{map_in}
+use Rattle.cad_map.specs.MapRows.{map_in}
 use Rattle.map_parts.proofs.edits.parcel_rooms.keep_slots.Given as goal
 
 -- the strings so far have slots

@@ -2,9 +2,10 @@ use Rattle.std.proofs.Common.{◌≡◌, [], ◌∷◌, ◌++◌, List, refl, ap
 use Rattle.cad_rows.specs.declared.rows.StringRow.{StringRow}
 use Rattle.cad_map.specs.Map.{Map}
 use Rattle.map_parts.specs.declared.edits.placed_strings.PlacedString.{PlacedString}
-use Rattle.map_parts.specs.declared.map_rows.MapRows.{MapRows}
+use Rattle.cad_map.specs.declared.map_rows.MapRows.{MapRows}
 use Rattle.map_parts.specs.PlacedStrings.{CanPutPlaced, numbers_placed, StoodIn}
-use Rattle.map_parts.specs.Rows.{map_in, rows_in}
+use Rattle.cad_map.specs.MapRows.{map_in}
+use Rattle.numbered_rows.specs.Rows.{rows_in}
 use Rattle.map_parts.specs.StringRows.{without_rows}
 use Rattle.map_parts.proofs.StringRowsPut.{keeps-none, keeps-then}
 use Rattle.map_parts.proofs.Handed.{nothing-left}

@@ -3,7 +3,8 @@ use Rattle.std.specs.Vec.{vec_len}
 use Rattle.cad_rows.specs.declared.rows.StringRow.{StringRow}
 use Rattle.cad_map.specs.Valid.{EachPair}
 use Rattle.map_parts.specs.PlacedStrings.{CanPutPlaced, numbers_placed, StoodIn}
-use Rattle.map_parts.specs.Rows.{map_in, rows_in}
+use Rattle.cad_map.specs.MapRows.{map_in}
+use Rattle.numbered_rows.specs.Rows.{rows_in}
 use Rattle.map_parts.specs.Splitting.{AreStarsOf}
 use Rattle.map_parts.specs.StringRows.{without_rows, KeepsRoom}
 use Rattle.map_parts.proofs.edits.placed_strings.put_placed.Given as goal

@@ -2,7 +2,8 @@ use Rattle.std.proofs.Common.{◌≡◌, ◌≤◌, ◌+◌, ◌++◌, drop, len
 use Rattle.std.specs.List.{AllByRecursion}
 use Rattle.std.specs.Vec.{vec_len, vec_capacity}
 use Rattle.entry_list.specs.Slots.{HasSlot}
-use Rattle.map_parts.specs.Rows.{map_in, rows_in}
+use Rattle.cad_map.specs.MapRows.{map_in}
+use Rattle.numbered_rows.specs.Rows.{rows_in}
 use Rattle.map_parts.specs.PlacedStrings.{numbers_placed, StoodIn}
 use Rattle.map_parts.specs.StringRows.{CanTakeStrings, HasRoomFor, without_rows, KeepsRoom}
 use Rattle.map_parts.proofs.edits.placed_strings.take_placed.Given as goal

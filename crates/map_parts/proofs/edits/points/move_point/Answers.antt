@@ -1,10 +1,11 @@
 use Rattle.std.proofs.Common.{◌∙◌, ℕ, List, Option, ap, sym, subst, refl}
 use Rattle.std.specs.Prelude.{IsSome, is_some}
 use Rattle.cad_rows.specs.declared.rows.PointRow.{PointRow}
-use Rattle.cad_map.specs.Table.{row_with, with_row}
+use Rattle.numbered_rows.specs.Rows.{row_with, with_row}
 use Rattle.cad_map.proofs.CallerLemmas.{found-number}
 use Rattle.cad_laws.proofs.CallerLemmas.{found-changed, with-again}
-use Rattle.map_parts.specs.Rows.{map_in, rows_in}
+use Rattle.cad_map.specs.MapRows.{map_in}
+use Rattle.numbered_rows.specs.Rows.{rows_in}
 use Rattle.map_parts.proofs.RowsUndone.{point-is}
 use Rattle.map_parts.proofs.edits.points.move_point.Goals as goal
 

@@ -1,4 +1,4 @@
-use Rattle.map_parts.specs.Rows.{rows_in}
+use Rattle.numbered_rows.specs.Rows.{rows_in}
 use Rattle.map_parts.proofs.Retired.{none-retired}
 use Rattle.map_parts.proofs.edits.retired.retire.Goals as goal
 

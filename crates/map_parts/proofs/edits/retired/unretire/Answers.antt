@@ -1,9 +1,10 @@
 use Rattle.std.proofs.Common.{◌≡◌, ◌∙◌, ℕ, List, map, ap}
 use Rattle.std.specs.Prelude.{is_some}
-use Rattle.cad_map.specs.Table.{row_with, without_row}
-use Rattle.map_parts.specs.declared.map_rows.RetiredRow.{RetiredRow}
-use Rattle.map_parts.specs.Rows.{map_in, rows_in}
-use Rattle.map_parts.proofs.RowLists.{some-by_numbers}
+use Rattle.numbered_rows.specs.Rows.{row_with, without_row}
+use Rattle.cad_map.specs.declared.map_rows.RetiredRow.{RetiredRow}
+use Rattle.cad_map.specs.MapRows.{map_in}
+use Rattle.numbered_rows.specs.Rows.{rows_in}
+use Rattle.numbered_rows.proofs.ByNumbers.{some-by_numbers}
 use Rattle.map_parts.proofs.Retired.{retired-back}
 use Rattle.map_parts.proofs.edits.retired.unretire.Goals as goal
 

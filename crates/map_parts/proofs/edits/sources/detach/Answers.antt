@@ -1,5 +1,5 @@
 use Rattle.std.proofs.Common.{◌∙◌, ◌==◌, not, filter}
-use Rattle.map_parts.specs.Rows.{map_in}
+use Rattle.cad_map.specs.MapRows.{map_in}
 use Rattle.map_parts.proofs.RowsUndone.{same-sources}
 use Rattle.map_parts.proofs.edits.sources.detach.Goals as goal
 

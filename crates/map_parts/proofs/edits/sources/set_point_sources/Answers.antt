@@ -1,5 +1,5 @@
 use Rattle.std.proofs.Common.{◌∙◌, ap, sym, refl}
-use Rattle.map_parts.specs.Rows.{map_in}
+use Rattle.cad_map.specs.MapRows.{map_in}
 use Rattle.map_parts.proofs.RowsUndone.{point-is}
 use Rattle.map_parts.proofs.edits.sources.set_point_sources.Goals as goal
 

@@ -4,7 +4,7 @@ use Rattle.std.specs.Prelude.{IsSome}
 use Rattle.cad_rows.specs.declared.rows.StringRow.{StringRow}
 use Rattle.map_parts.specs.declared.edits.passing.Passing.{Passing}
 use Rattle.map_parts.specs.Passing.{CanGoPast}
-use Rattle.map_parts.specs.Rows.{map_in}
+use Rattle.cad_map.specs.MapRows.{map_in}
 use Rattle.map_parts.specs.Splitting.{CanMeet}
 use Rattle.map_parts.proofs.Passing.SplitUndone as undone
 use Rattle.map_parts.proofs.edits.split.unsplit.Goals as goal

@@ -1,6 +1,6 @@
 use Rattle.std.proofs.Common.{◌≡◌, ◌++◌, length}
 use Rattle.std.specs.Vec.Iter.{into_iter_items, into_iter_len}
-use Rattle.map_parts.specs.Rows.{map_in}
+use Rattle.cad_map.specs.MapRows.{map_in}
 use Rattle.map_parts.specs.Splitting.{AreStarsOf}
 use Rattle.map_parts.specs.StringRows.{CanPutStrings, KeepsRoom}
 use Rattle.map_parts.proofs.edits.string_rows.put_strings.Given as goal

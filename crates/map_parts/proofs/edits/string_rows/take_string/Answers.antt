@@ -2,9 +2,10 @@ use Rattle.std.proofs.Common.{◌≡◌, [], ℕ, List, Some, sym, ap, subst, �
 use Rattle.std.specs.Prelude.{IsSome}
 use Rattle.cad_rows.specs.declared.rows.StringRow.{StringRow}
 use Rattle.cad_map.specs.Map.{string_of}
-use Rattle.cad_map.specs.Table.{without_row}
-use Rattle.map_parts.specs.declared.map_rows.MapRows.{MapRows}
-use Rattle.map_parts.specs.Rows.{map_in, rows_in}
+use Rattle.numbered_rows.specs.Rows.{without_row}
+use Rattle.cad_map.specs.declared.map_rows.MapRows.{MapRows}
+use Rattle.cad_map.specs.MapRows.{map_in}
+use Rattle.numbered_rows.specs.Rows.{rows_in}
 use Rattle.map_parts.proofs.StringRowsPut as put
 use Rattle.map_parts.proofs.edits.string_rows.take_string.Goals.{After-take_there-taken}
 use Rattle.map_parts.proofs.edits.string_rows.take_string.Goals as goal

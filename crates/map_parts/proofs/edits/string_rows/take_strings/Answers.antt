@@ -1,8 +1,9 @@
 use Rattle.std.proofs.Common.{◌≡◌, [], ℕ, ◌+◌, List, drop, refl, sym, ap, subst, ◌∙◌, arith}
 use Rattle.std.proofs.lemmas.List.{drop_all}
 use Rattle.cad_map.specs.Map.{Map}
-use Rattle.map_parts.specs.declared.map_rows.MapRows.{MapRows}
-use Rattle.map_parts.specs.Rows.{map_in, rows_in}
+use Rattle.cad_map.specs.declared.map_rows.MapRows.{MapRows}
+use Rattle.cad_map.specs.MapRows.{map_in}
+use Rattle.numbered_rows.specs.Rows.{rows_in}
 use Rattle.map_parts.specs.StringRows.{CanTakeStrings, without_rows}
 use Rattle.map_parts.proofs.StringRowsPut.{keeps-none, keeps-then, take-one, next-of}
 use Rattle.map_parts.proofs.edits.string_rows.take_strings.Goals as goal

@@ -1,5 +1,5 @@
 use Rattle.std.proofs.Common.{◌≡◌, drop}
-use Rattle.map_parts.specs.Rows.{map_in}
+use Rattle.cad_map.specs.MapRows.{map_in}
 use Rattle.map_parts.specs.StringRows.{CanTakeStrings, without_rows, KeepsRoom}
 use Rattle.map_parts.proofs.edits.string_rows.take_strings.Given as goal
 

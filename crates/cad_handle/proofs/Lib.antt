@@ -1,0 +1,3 @@
+mod KeptValues
+mod PointFacts
+mod Values

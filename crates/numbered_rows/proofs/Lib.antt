@@ -1,0 +1,4 @@
+pub mod Entries
+pub mod ByNumbers
+pub mod Placed
+pub mod Removed
