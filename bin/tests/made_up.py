@@ -39,6 +39,7 @@ case $1 in
     try) {RT_TRY} ;;
     lib) echo "lib $(basename "$PWD") in $PWD" >> "$CALLS"; sleep "${{SECONDS_OF_LIB:-0}}"
          echo "fn $(basename "$PWD")::one: proved"
+         [ "$(basename "$PWD")" != cadedit_c ] || {{ mkdir -p out; cat "$MODULE" > out/libcadedit_c.a; }}
          [ "$(basename "$PWD")" != "${{FAILS-}}" ] || {{ echo "error: a goal is open"; exit 1; }} ;;
     run) echo "run $(basename "$PWD")" >> "$CALLS"; mkdir -p out; cp "$MODULE" "out/$(basename "$PWD")"
          chmod +x "out/$(basename "$PWD")" ;;
@@ -46,12 +47,33 @@ esac
 """
 CLANG = """#!/bin/sh
 level=${*##*-O}
-while [ "$1" != -o ]; do [ "$1" != -c ] || source=$2; shift; done
+while [ "$1" != -o ]; do case $1 in -c | ir) source=$2 ;; esac; shift; done
 { cat "$source"; echo "# -O${level%% *}"; } > "$2"
 """
 LINK = """#!/bin/sh
 while [ "$1" != -o ]; do shift; done
 cp "$3" "$2" && chmod +x "$2"
+"""
+LINK_LIBRARY = """#!/bin/sh
+while [ "$1" != -o ]; do shift; done
+made=$2
+while [ "$1" != --whole-archive ]; do shift; done
+cp "$2" "$made" && chmod +x "$made"
+"""
+ARCHIVE = """#!/bin/sh
+cp "$3" "$2"
+"""
+
+# In place of what asks a library for its answers: the library is a program here.
+SUBMITTED = """import subprocess, sys
+subprocess.run(sys.argv[1:])
+"""
+EXPORTING = """//! The library.
+use cad_handle::Handle;
+
+#[unsafe(no_mangle)]
+pub extern "C" fn cadedit_close(alloc: Global, handle: &mut Handle) {
+}
 """
 
 
@@ -69,14 +91,17 @@ class MadeUp(unittest.TestCase):
         self.folder = tempfile.mkdtemp(prefix='made-up-')
         self.addCleanup(shutil.rmtree, self.folder, ignore_errors=True)
         self.top, kit = os.path.join(self.folder, 'top'), os.path.join(self.folder, 'kit')
-        for name in ('program', 'cadedit', 'cadview', 'prove'):
-            os.makedirs(os.path.join(self.top, 'bin'), exist_ok=True)
+        os.makedirs(os.path.join(self.top, 'bin', 'lib'))
+        for name in ('program', 'cadedit', 'cadview', 'prove', 'build-library', 'lib/build.sh', 'lib/exports.py',
+                     'lib/exports.map', 'lib/__init__.py'):
             shutil.copy(os.path.join(TOP, 'bin', name), os.path.join(self.top, 'bin', name))
-        write(f'{self.top}/crates.txt', 'low:\nbeside:\nhigh: low beside clap\ncadedit: high\n')
+        write(f'{self.top}/bin/lib/submitted.py', SUBMITTED)
+        write(f'{self.top}/crates.txt', 'low:\nbeside:\nhigh: low beside clap\ncadedit: high\ncadedit_c staticlib: high\n')
         write(f'{self.top}/HANDLES', 'Handles allowed: none.\n')
         for name in ('low', 'beside', 'high'):
             write(f'{self.top}/crates/{name}/src/lib.rt', '// A crate.\n')
         write(f'{self.top}/crates/cadedit/src/main.rt', '// The program.\n')
+        write(f'{self.top}/crates/cadedit_c/src/lib.rt', EXPORTING)
         write(f'{self.top}/crates/cadedit/stdin', '')
         write(f'{self.top}/crates/cadedit/stdout', 'stored\n')
         for job in ('first', 'block'):
@@ -84,7 +109,8 @@ class MadeUp(unittest.TestCase):
             write(f'{self.top}/examples/{job}.out', f'answers of {job}\n')
         for name, text in (('rt', RT), ('rtlib.py', ''), ('rattle', '#!/bin/sh\n'), ('rattle-link', LINK)):
             write(f'{kit}/bin/{name}', text, 0o755)
-        write(f'{kit}/toolchain/bin/clang', CLANG, 0o755)
+        for name, text in (('clang', CLANG), ('ld.lld', LINK_LIBRARY), ('llvm-ar', ARCHIVE)):
+            write(f'{kit}/toolchain/bin/{name}', text, 0o755)
         write(f'{self.folder}/module', PROGRAM)
         write(f'{self.folder}/calls', '')
         os.makedirs(f'{self.folder}/tmp')
