@@ -75,16 +75,66 @@ const SOUTHWEST: Place = (0, 0);
 
 const NORTHEAST: Place = (1000, 1000);
 
-// Puts a string in. A refused growth leaves what is held, and is tried again.
-fn put(rt: &impl Abort, grid: &mut CellGrid, no: StringNo, a: Pt, b: Pt) -> Result<(), Memory>
+const WEST: i64 = -10_000_000_000;
+
+const EAST: i64 = 10_000_000_000;
+
+// A string or a point that is held: its number, and the coordinates between which it lies.
+type Held = (u32, i64, i64, i64, i64);
+
+// All strings that a grid holds, in order of their numbers.
+fn all_strings(rt: &(impl Abort + AllocGlobal), grid: &CellGrid) -> Result<Vec<Held>, Memory> {
+    let mut all = Vec::new(rt.alloc());
+    for held in grid.candidates(at(rt, (WEST, WEST)), at(rt, (EAST, EAST))) {
+        let (from, to) = (held.from, held.to);
+        all.push((held.string.get(), from.x, from.y, to.x, to.y))?;
+    }
+    all.sort_unstable();
+    Ok(all)
+}
+
+// And all points.
+fn all_points(rt: &(impl Abort + AllocGlobal), grid: &CellGrid) -> Result<Vec<Held>, Memory> {
+    let mut all = Vec::new(rt.alloc());
+    for held in grid.point_candidates(at(rt, (WEST, WEST)), at(rt, (EAST, EAST))) {
+        let place = held.position;
+        all.push((held.point.get(), place.x, place.y, place.x, place.y))?;
+    }
+    all.sort_unstable();
+    Ok(all)
+}
+
+// Fails where a grid holds something else.
+fn check_held(
+    rt: &(impl Abort + AllocGlobal),
+    grid: &CellGrid,
+    strings: &[Held],
+    points: &[Held],
+) -> Result<(), Memory> {
+    let held = all_strings(rt, grid)?;
+    assert!(rt; held.as_slice() == strings);
+    let held = all_points(rt, grid)?;
+    assert!(rt; held.as_slice() == points);
+    Ok(())
+}
+
+// Puts a string in. A refused growth leaves what is held, and the string is put in again.
+fn put(
+    rt: &(impl Abort + AllocGlobal),
+    grid: &mut CellGrid,
+    no: StringNo,
+    a: Pt,
+    b: Pt,
+) -> Result<(), Memory>
     ensures { OnOk result (HoldsString grid.new no a b) }
 {
-    let before = strings_near(rt, grid, SOUTHWEST, NORTHEAST);
+    let strings = all_strings(rt, grid)?;
+    let points = all_points(rt, grid)?;
     assert!(rt; !is_candidate(grid, no, a, b));
     match grid.put_string(no, a, b) {
         Ok(()) => Ok(()),
         Err(_) => {
-            assert_eq!(rt; strings_near(rt, grid, SOUTHWEST, NORTHEAST), before);
+            check_held(rt, grid, strings.as_slice(), points.as_slice())?;
             assert!(rt; !is_candidate(grid, no, a, b));
             grid.put_string(no, a, b)
         }
@@ -92,15 +142,21 @@ fn put(rt: &impl Abort, grid: &mut CellGrid, no: StringNo, a: Pt, b: Pt) -> Resu
 }
 
 // And a point.
-fn put_spot(rt: &impl Abort, grid: &mut CellGrid, no: PointNo, a: Pt) -> Result<(), Memory>
+fn put_spot(
+    rt: &(impl Abort + AllocGlobal),
+    grid: &mut CellGrid,
+    no: PointNo,
+    a: Pt,
+) -> Result<(), Memory>
     ensures { OnOk result (HoldsPoint grid.new no a) }
 {
-    let before = points_near(rt, grid, SOUTHWEST, NORTHEAST);
+    let strings = all_strings(rt, grid)?;
+    let points = all_points(rt, grid)?;
     assert!(rt; !is_point_candidate(grid, no, a, a));
     match grid.put_point(no, a) {
         Ok(()) => Ok(()),
         Err(_) => {
-            assert_eq!(rt; points_near(rt, grid, SOUTHWEST, NORTHEAST), before);
+            check_held(rt, grid, strings.as_slice(), points.as_slice())?;
             assert!(rt; !is_point_candidate(grid, no, a, a));
             grid.put_point(no, a)
         }
@@ -108,8 +164,8 @@ fn put_spot(rt: &impl Abort, grid: &mut CellGrid, no: PointNo, a: Pt) -> Result<
 }
 
 // Squares of a metre and of eight, with the strings and points of the square and the island.
-fn filled(rt: &impl Abort, alloc: Global) -> Result<CellGrid, Memory> {
-    let mut grid = CellGrid::new(alloc, NumberHash::fixed(), 1000, 8000)?;
+fn filled(rt: &(impl Abort + AllocGlobal)) -> Result<CellGrid, Memory> {
+    let mut grid = CellGrid::new(rt.alloc(), NumberHash::fixed(), 1000, 8000)?;
     for (number, from, to) in STRINGS {
         put(rt, &mut grid, string(rt, number), at(rt, from), at(rt, to))?;
     }
@@ -132,8 +188,8 @@ fn points_are(rt: &impl Abort, grid: &CellGrid, from: Place, to: Place, near: [b
 }
 
 #[test]
-fn strings_and_points_of_a_square(rt: HostRuntime) -> Result<(), Fail> {
-    let grid = filled(&rt, rt.alloc())?;
+fn strings_and_points_put_again(rt: HostRuntime) -> Result<(), Fail> {
+    let grid = filled(&rt)?;
     strings_are(&rt, &grid, SOUTHWEST, NORTHEAST, ALL);
     points_are(&rt, &grid, SOUTHWEST, NORTHEAST, ALL);
     strings_are(
@@ -155,7 +211,7 @@ fn strings_and_points_of_a_square(rt: HostRuntime) -> Result<(), Fail> {
 
 #[test]
 fn far_away(rt: HostRuntime) -> Result<(), Fail> {
-    let mut grid = filled(&rt, rt.alloc())?;
+    let mut grid = filled(&rt)?;
     let no = string(&rt, 41);
     let a = at(&rt, (-1_000_000, 0));
     let b = at(&rt, (-1_001_000, 0));
@@ -192,7 +248,7 @@ fn long_string_from_its_middle(rt: HostRuntime) -> Result<(), Fail> {
 
 #[test]
 fn taken_out(rt: HostRuntime) -> Result<(), Fail> {
-    let mut grid = filled(&rt, rt.alloc())?;
+    let mut grid = filled(&rt)?;
     let a = at(&rt, (-2500, 500));
     let b = at(&rt, (2500, 600));
     let no = string(&rt, 61);
@@ -242,8 +298,8 @@ fn long_near(rt: &impl Abort, grid: &CellGrid, from: Place, to: Place) -> [bool;
 }
 
 // Puts one of them in, takes it out and puts it in again.
-fn put_again(
-    rt: &impl Abort,
+fn put_twice(
+    rt: &(impl Abort + AllocGlobal),
     grid: &mut CellGrid,
     no: StringNo,
     a: Pt,
@@ -259,10 +315,10 @@ fn put_again(
 }
 
 // All of them.
-fn fill_long(rt: &impl Abort, grid: &mut CellGrid) -> Result<(), Memory> {
+fn fill_long(rt: &(impl Abort + AllocGlobal), grid: &mut CellGrid) -> Result<(), Memory> {
     for (number, from, to) in LONG {
         let no = string(rt, number);
-        put_again(rt, grid, no, at(rt, from), at(rt, to))?;
+        put_twice(rt, grid, no, at(rt, from), at(rt, to))?;
     }
     Ok(())
 }
@@ -278,11 +334,11 @@ const EACH_KIND: [(u32, Place, Place); 5] = [
 ];
 
 #[test]
-fn each_kind_of_cell(rt: HostRuntime) -> Result<(), Fail> {
+fn each_kind_of_cell_put_again(rt: HostRuntime) -> Result<(), Fail> {
     let mut grid = CellGrid::new(rt.alloc(), NumberHash::fixed(), 1000, 8000)?;
     for (number, from, to) in EACH_KIND {
         let no = string(&rt, number);
-        put_again(&rt, &mut grid, no, at(&rt, from), at(&rt, to))?;
+        put_twice(&rt, &mut grid, no, at(&rt, from), at(&rt, to))?;
     }
     let middle = at(&rt, (450, 450));
     let beside = at(&rt, (100_001, -1));
@@ -292,10 +348,6 @@ fn each_kind_of_cell(rt: HostRuntime) -> Result<(), Fail> {
     }
     Ok(())
 }
-
-const WEST: i64 = -10_000_000_000;
-
-const EAST: i64 = 10_000_000_000;
 
 // What is seen of them from a segment.
 const LOOKS: [(Place, Place, [bool; 5]); 8] = [
@@ -337,7 +389,7 @@ fn lanes_both_ways(rt: HostRuntime) -> Result<(), Fail> {
 
 #[test]
 fn very_wide_search(rt: HostRuntime) -> Result<(), Fail> {
-    let mut grid = filled(&rt, rt.alloc())?;
+    let mut grid = filled(&rt)?;
     fill_long(&rt, &mut grid)?;
     points_are(&rt, &grid, (WEST, WEST), (EAST, EAST), ALL);
     strings_are(

@@ -1,9 +1,9 @@
 //! Tables of half-edges.
-ghost use Rattle.std.specs.Prelude.{◌≡◌, true};
+ghost use Rattle.std.specs.Prelude.{◌≡◌, ◌<◌, true};
 ghost use Rattle.half_table.specs.Rows.{has};
 
 use crate::values::{point, string};
-use cad_rows::{Face, Memory, ParcelNo};
+use cad_rows::{Face, Memory, ParcelNo, PointNo};
 use half_table::{Half, HalfTable, Ticks};
 use number_hash::NumberHash;
 use std::alloc::{AllocError, Global};
@@ -31,6 +31,62 @@ fn add(
     let string = string(rt, number);
     assert!(rt; !table.has_string(string));
     table.add_loose(string, point(rt, from), point(rt, to))
+}
+
+/// What is seen of halves: what comes before and after each, where it begins, and the face that has it.
+type Seen = (Half, Half, PointNo, Face);
+
+/// What is seen of a half.
+fn seen_of(rt: &impl Abort, table: &HalfTable<Ticks>, number: u32, forward: bool) -> Seen {
+    (
+        table.prev(half(rt, table, number, forward)),
+        table.next(half(rt, table, number, forward)),
+        table.origin(half(rt, table, number, forward)),
+        table.face(half(rt, table, number, forward)),
+    )
+}
+
+/// What is seen of the halves of the first so many strings.
+fn all_seen(
+    rt: &impl Abort,
+    alloc: Global,
+    table: &HalfTable<Ticks>,
+    strings: u32,
+) -> Result<Vec<Seen>, AllocError> {
+    let mut seen = Vec::new(alloc);
+    for before in 0..strings {
+        seen.push(seen_of(rt, table, before + 1, true))?;
+        seen.push(seen_of(rt, table, before + 1, false))?;
+    }
+    Ok(seen)
+}
+
+/// Adds the string behind the first so many, from one point to another. Where a growth is refused, the table is as it was,
+/// and the string is added again.
+fn add_again(
+    rt: &impl Abort,
+    alloc: Global,
+    table: &mut HalfTable<Ticks>,
+    strings: u32,
+    ends: (u32, u32),
+) -> Result<(), Memory>
+    requires { strings < 1000 }
+{
+    let string = string(rt, strings + 1);
+    let (from, to) = (point(rt, ends.0), point(rt, ends.1));
+    let before = all_seen(rt, alloc, table, strings)?;
+    let work = table.work();
+    assert!(rt; !table.has_string(string));
+    match table.add_loose(string, from, to) {
+        Ok(()) => Ok(()),
+        Err(_) => {
+            let now = all_seen(rt, alloc, table, strings)?;
+            assert!(rt; now.as_slice() == before.as_slice());
+            assert_eq!(rt; table.work(), work);
+            assert!(rt; !table.has_string(string));
+            table.add_loose(string, from, to)
+        }
+    }
 }
 
 fn remove(rt: &impl Abort, table: &mut HalfTable<Ticks>, number: u32) {
@@ -228,5 +284,53 @@ fn reads_a_loose_string(rt: HostRuntime) -> Result<(), Fail> {
     assert!(rt; table.next(half(&rt, &table, 33, true)).string.get() == 33);
     assert!(rt; table.prev(half(&rt, &table, 33, true)).string.get() == 33);
     assert!(rt; has_face(&rt, &table, (33, true), &Face::Outside));
+    Ok(())
+}
+
+/// How many strings a larger ring has. Its table grows several times.
+const RING: u32 = 40;
+
+/// The halves inside the ring, from that of its first string on.
+fn inside_ring(alloc: Global) -> Result<Vec<Named>, AllocError> {
+    let mut halves = Vec::new(alloc);
+    for before in 0..RING {
+        halves.push((before + 1, true))?;
+    }
+    Ok(halves)
+}
+
+/// The halves outside, the other way round.
+fn outside_ring(alloc: Global) -> Result<Vec<Named>, AllocError> {
+    let mut halves = Vec::new(alloc);
+    halves.push((1, false))?;
+    for passed in 1..RING {
+        halves.push((RING + 1 - passed, false))?;
+    }
+    Ok(halves)
+}
+
+/// The table of the ring, whose strings are added one after another and each spliced to the one before it.
+fn ring(rt: &impl Abort, alloc: Global) -> Result<HalfTable<Ticks>, Memory> {
+    let mut table = HalfTable::new(alloc, NumberHash::fixed(), Ticks::new());
+    for before in 0..RING {
+        let number = before + 1;
+        add_again(rt, alloc, &mut table, before, (number, number % RING + 1))?;
+        if before > 0 {
+            splice(rt, &mut table, (before, true), (number, false));
+        }
+    }
+    splice(rt, &mut table, (RING, true), (1, false));
+    Ok(table)
+}
+
+#[test]
+fn strings_of_a_ring_added_again(rt: HostRuntime) -> Result<(), Fail> {
+    let alloc = rt.alloc();
+    let table = ring(&rt, alloc)?;
+    assert_eq!(rt; table.work(), 80);
+    let inside = inside_ring(alloc)?;
+    goes_on(&rt, alloc, &table, (1, true), inside.as_slice())?;
+    let outside = outside_ring(alloc)?;
+    goes_on(&rt, alloc, &table, (1, false), outside.as_slice())?;
     Ok(())
 }

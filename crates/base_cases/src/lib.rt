@@ -1,5 +1,5 @@
 //! The crates that know nothing of a map, or only of its rows and rings, as tests. What is expected was worked out by
-//! hand, never by the program.
+//! hand, never by the program. A test whose name ends in `again` makes a call again that a refused growth has ended.
 #![tactic(auto)]
 
 #[cfg(test)]

@@ -155,7 +155,7 @@ fn moved(rt: HostRuntime) -> Result<(), Fail> {
 }
 
 #[test]
-fn taken_out_and_put_again(rt: HostRuntime) -> Result<(), Fail> {
+fn taken_out_and_put_anew(rt: HostRuntime) -> Result<(), Fail> {
     for (numbers, _) in SHAPES {
         let [a, b, c, d, e, f] = numbers;
         let mut table = filled(&rt, rt.alloc(), &numbers)?;

@@ -1,6 +1,6 @@
 //! Readers and sinks that fail, and how a fault is told.
 use crate::bases::{ISLAND, ISLAND_ANSWERS, ISLAND_COUNTS, ISLAND_SCRIPT, OPEN, PLAN, SQUARE};
-use crate::cases::{lines, run_deep};
+use crate::cases::{check_bytes, lines, run_deep};
 use crate::damaged::first_lines;
 use cad_files::{MemSink, PlanFault, Sink, SinkFault};
 use cad_job::{JobFault, status};
@@ -202,6 +202,22 @@ fn a_short_record_and_a_flush_that_fails(rt: HostRuntime) -> Result<(), Fail> {
         assert!(rt; sink.bytes() == answers.as_slice());
     }
     Ok(())
+}
+
+/// A growth that is refused, also one of the sink's own, ends a job with a front of its answers. Done again, it gives all.
+#[test]
+fn a_job_done_again(rt: HostRuntime) -> Result<(), Fail> {
+    let job = lines(rt.alloc(), JOB)?;
+    let answers = answers_to(rt.alloc(), 5)?;
+    let mut sink = MemSink::new(rt.alloc(), u64::MAX);
+    let end = run_deep(&rt, job.as_slice(), &mut sink);
+    if end == Ok(()) {
+        assert!(rt; sink.bytes() == answers.as_slice());
+        return Ok(());
+    }
+    assert!(rt; matches!(end, Err(JobFault::Memory | JobFault::Write)));
+    assert!(rt; answers.as_slice().starts_with(sink.bytes()));
+    check_bytes(&rt, job.as_slice(), answers.as_slice(), &Ok(()))
 }
 
 fn tells(alloc: Global, fault: JobFault, number: u8, line: &str) -> Result<bool, Fail> {

@@ -1,4 +1,5 @@
-//! Worked jobs as tests across the crates. The expected answers were worked out by hand, never by the program.
+//! Worked jobs as tests across the crates. The expected answers were worked out by hand, never by the program. A test
+//! whose name ends in `again` makes a call again that a refused growth has ended.
 #![tactic(auto)]
 
 #[cfg(test)]

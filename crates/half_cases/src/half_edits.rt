@@ -5,7 +5,7 @@ use crate::steps::{check_steps, made, refused};
 use std::test::Fail;
 
 #[test]
-fn strings_split_and_joined(rt: HostRuntime) -> Result<(), Fail> {
+fn strings_split_and_joined_again(rt: HostRuntime) -> Result<(), Fail> {
     check_steps(
         &rt,
         &[
@@ -17,7 +17,7 @@ fn strings_split_and_joined(rt: HostRuntime) -> Result<(), Fail> {
 }
 
 #[test]
-fn points_added_and_moved(rt: HostRuntime) -> Result<(), Fail> {
+fn points_added_and_moved_again(rt: HostRuntime) -> Result<(), Fail> {
     check_steps(
         &rt,
         &[
@@ -35,7 +35,7 @@ fn points_added_and_moved(rt: HostRuntime) -> Result<(), Fail> {
 }
 
 #[test]
-fn rows_changed(rt: HostRuntime) -> Result<(), Fail> {
+fn rows_changed_again(rt: HostRuntime) -> Result<(), Fail> {
     check_steps(
         &rt,
         &[

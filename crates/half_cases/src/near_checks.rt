@@ -414,7 +414,7 @@ fn areas_asked<R: Abort + AllocGlobal>(rt: &R, plan: &str, edit: &str) -> Result
 }
 
 #[test]
-fn an_area_that_is_kept_is_not_added_up_again(rt: HostRuntime) -> Result<(), Fail> {
+fn an_area_that_is_kept_is_not_added_up_twice(rt: HostRuntime) -> Result<(), Fail> {
     let lot = long_lot(rt.alloc(), 40)?;
     for edit in ["move,5,50,-3,,,", "split,5,900,55,-3,901,902", "join,5,900"] {
         assert_eq!(rt; areas_asked(&rt, lot.as_str(), edit)?, 0);

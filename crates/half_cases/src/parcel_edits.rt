@@ -14,7 +14,7 @@ use crate::steps::{check_steps, made, refused};
 use std::test::Fail;
 
 #[test]
-fn parcels_divided(rt: HostRuntime) -> Result<(), Fail> {
+fn parcels_divided_again(rt: HostRuntime) -> Result<(), Fail> {
     check_steps(
         &rt,
         &[
@@ -29,7 +29,7 @@ fn parcels_divided(rt: HostRuntime) -> Result<(), Fail> {
 }
 
 #[test]
-fn holes_of_divided_parcels(rt: HostRuntime) -> Result<(), Fail> {
+fn holes_of_divided_parcels_again(rt: HostRuntime) -> Result<(), Fail> {
     check_steps(
         &rt,
         &[
@@ -42,7 +42,7 @@ fn holes_of_divided_parcels(rt: HostRuntime) -> Result<(), Fail> {
 }
 
 #[test]
-fn outside_divided(rt: HostRuntime) -> Result<(), Fail> {
+fn outside_divided_again(rt: HostRuntime) -> Result<(), Fail> {
     check_steps(
         &rt,
         &[
@@ -74,7 +74,7 @@ fn divisions_refused(rt: HostRuntime) -> Result<(), Fail> {
 }
 
 #[test]
-fn islands_enclosed(rt: HostRuntime) -> Result<(), Fail> {
+fn islands_enclosed_again(rt: HostRuntime) -> Result<(), Fail> {
     check_steps(
         &rt,
         &[
@@ -119,7 +119,7 @@ fn enclosures_refused(rt: HostRuntime) -> Result<(), Fail> {
 }
 
 #[test]
-fn parcels_merged_along_chains(rt: HostRuntime) -> Result<(), Fail> {
+fn parcels_merged_along_chains_again(rt: HostRuntime) -> Result<(), Fail> {
     check_steps(
         &rt,
         &[
@@ -134,7 +134,7 @@ fn parcels_merged_along_chains(rt: HostRuntime) -> Result<(), Fail> {
 }
 
 #[test]
-fn islands_merged(rt: HostRuntime) -> Result<(), Fail> {
+fn islands_merged_again(rt: HostRuntime) -> Result<(), Fail> {
     check_steps(
         &rt,
         &[
@@ -164,7 +164,7 @@ fn mergers_refused(rt: HostRuntime) -> Result<(), Fail> {
 }
 
 #[test]
-fn rings_that_pass_a_point_twice(rt: HostRuntime) -> Result<(), Fail> {
+fn rings_that_pass_a_point_twice_again(rt: HostRuntime) -> Result<(), Fail> {
     check_steps(
         &rt,
         &[
