@@ -56,6 +56,11 @@ uint32_t cadedit_answer(cadedit_map *map, uint64_t from, uint8_t *room, size_t r
 /* Tells where a point lies, in millimetres, x to the east and y to the north. But for status 0 nothing is told. */
 uint32_t cadedit_point(cadedit_map *map, uint32_t number, int64_t *x, int64_t *y);
 
+/* Tells the polygon of a parcel of the map, as well-known text in metres: the ring around it, and then those around its
+ * holes, cut so that none passes a point twice. The map keeps it as its latest answer. Statuses: DONE, CLOSED, MEMORY,
+ * UNKNOWN. Only after DONE is a text told; after another status of an open map its latest answer is the empty text. */
+uint32_t cadedit_shape(cadedit_map *map, uint32_t number, uint8_t *room, size_t room_length, uint64_t *length);
+
 /* Closes a map and gives its memory back. A closed one stays closed. */
 void cadedit_close(cadedit_map *map);
 

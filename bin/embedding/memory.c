@@ -104,6 +104,36 @@ struct counts {
     unsigned long records, undone, untold, done;
 };
 
+/* The first number that an answer to `areas` tells, or 0. */
+static uint32_t first_parcel(cadedit_map *map)
+{
+    static const char record[] = "areas,,,,,,\n", area[] = "area,";
+    submit(map, (const uint8_t *)record, sizeof record - 1, &now);
+    if (now.length < sizeof area || memcmp(now.bytes, area, sizeof area - 1))
+        return 0;
+    return (uint32_t)strtoul((const char *)now.bytes + sizeof area - 1, NULL, 10);
+}
+
+/* Tells the shape of a parcel, each allocation failing in turn, and answers how often memory ran out. */
+static unsigned long tell_shape(cadedit_map *map, cadedit_map *undisturbed)
+{
+    static const struct told none;
+    uint32_t parcel = first_parcel(undisturbed), wanted_status;
+    wanted_status = cadedit_shape(undisturbed, parcel, answer.bytes, ROOM, &answer.length);
+    for (unsigned long at = 0;; at++) {
+        unsigned long failed_before = failed;
+        left = (long)at;
+        uint32_t status = cadedit_shape(map, parcel, now.bytes, ROOM, &now.length);
+        left = -1;
+        if (failed == failed_before) {
+            need(status == wanted_status && is_same(&now, &answer), "the shape", (long)at, NULL, 0);
+            return at;
+        }
+        need(status == CADEDIT_MEMORY || status == wanted_status, "a shape's status", (long)at, NULL, 0);
+        need(is_told_again(map, status == CADEDIT_DONE ? &answer : &none), "a shape told again", (long)at, NULL, 0);
+    }
+}
+
 /* Does a record, each allocation failing in turn, until none is left that could. The other map has done it already:
  * `answer` is what that answered, `wanted` its plan. */
 static void do_record(cadedit_map *map, const uint8_t *record, size_t size, struct counts *counts)
@@ -152,11 +182,15 @@ int main(int count, char **words)
         print(&map, &now);
         need(is_same(&now, &wanted), "the plan", -1, script.bytes + at, size);
     }
+    unsigned long shapes = tell_shape(&map, &beside);
+    print(&map, &now);
+    need(is_same(&now, &wanted), "the plan after shapes", -1, NULL, 0);
     cadedit_close(&map);
     cadedit_close(&beside);
     free(plan.bytes);
     free(script.bytes);
     printf("%lu records; %lu allocations failed: opening %lu times, %lu records undone, %lu done and untold, "
-           "%lu done; %lu wrong\n", counts.records, failed, opens, counts.undone, counts.untold, counts.done, wrong);
-    return wrong || !opens || !counts.undone;
+           "%lu done; a shape %lu times; %lu wrong\n", counts.records, failed, opens, counts.undone, counts.untold,
+           counts.done, shapes, wrong);
+    return wrong || !opens || !counts.undone || !shapes;
 }

@@ -162,6 +162,41 @@ static void of_points(void)
     cadedit_close(&map);
 }
 
+static const char TRIANGLE[] =
+    "plan,2,,,,,\npoint,1,0,0,,,\npoint,2,3000,0,,,\npoint,3,0,-4007,,,\nparcel,9,Corner,,,,\n"
+    "string,11,1,3,9,0,\nstring,12,3,2,9,0,\nstring,13,2,1,9,0,\nopen,,,,,,\n";
+
+/* Its polygon, from whichever corner it is told. */
+static int is_triangle(void)
+{
+    return is_told("POLYGON((0.000 0.000,0.000 -4.007,3.000 0.000,0.000 0.000))")
+        || is_told("POLYGON((0.000 -4.007,3.000 0.000,0.000 0.000,0.000 -4.007))")
+        || is_told("POLYGON((3.000 0.000,0.000 0.000,0.000 -4.007,3.000 0.000))");
+}
+
+static void of_shapes(void)
+{
+    static const uint32_t none[] = {0, 1, 8, 10, 999999999, UINT32_MAX};
+    cadedit_map map = CADEDIT_CLOSED_MAP;
+    length = 99;
+    need(cadedit_shape(&map, 9, room, sizeof room, &length) == CADEDIT_CLOSED && !length, "a shape of a closed map");
+    need(open_with(&map, TRIANGLE, 9) == CADEDIT_DONE, "opening");
+    need(cadedit_shape(&map, 9, room, sizeof room, &length) == CADEDIT_DONE && is_triangle(), "a shape");
+    memset(room, 0, sizeof room);
+    need(cadedit_answer(&map, 0, room, sizeof room, &length) == CADEDIT_DONE && is_triangle(), "the shape told again");
+    uint64_t whole = length;
+    memset(room, '.', sizeof room);
+    need(cadedit_shape(&map, 9, room, 7, &length) == CADEDIT_DONE && length == whole && !memcmp(room, "POLYGON.", 8),
+         "a shape in a room of 7 bytes");
+    for (size_t i = 0; i < sizeof none / sizeof *none; i++) {
+        length = 99;
+        need(cadedit_shape(&map, none[i], room, sizeof room, &length) == CADEDIT_UNKNOWN && !length, "no parcel's shape");
+        need(cadedit_answer(&map, 0, room, sizeof room, &length) == CADEDIT_DONE && !length, "no answer to no parcel");
+    }
+    need(submit(&map, "undo,,,,,,") == CADEDIT_DONE && is_told("nothing,,,,,,\n"), "no edit done by a shape");
+    cadedit_close(&map);
+}
+
 /* A record of a megabyte, of one field and of very many. */
 static void of_long_records(void)
 {
@@ -192,6 +227,7 @@ int main(void)
     of_rooms();
     of_records();
     of_points();
+    of_shapes();
     of_long_records();
     printf("%lu calls, %lu wrong\n", tried, wrong);
     return wrong > 0;

@@ -41,6 +41,11 @@ case $1 in
          echo "fn $(basename "$PWD")::one: proved"
          [ "$(basename "$PWD")" != cadedit_c ] || {{ mkdir -p out; cat "$MODULE" > out/libcadedit_c.a; }}
          [ "$(basename "$PWD")" != "${{FAILS-}}" ] || {{ echo "error: a goal is open"; exit 1; }} ;;
+    ci) echo "begun $2" >> "$CALLS"
+        case " ${{BURNS-}} " in *" $2 "*) timeout 1 sh -c 'while :; do :; done' ;; esac
+        case " ${{KEPT-}} " in *" $2 "*) echo "rt: $2 is kept: an earlier run" ;; esac
+        echo "ended $2" >> "$CALLS"
+        [ "$2" != "${{FAILS-}}" ] || {{ echo "error: a goal is open"; exit 1; }} ;;
     run) echo "run $(basename "$PWD")" >> "$CALLS"; mkdir -p out; cp "$MODULE" "out/$(basename "$PWD")"
          chmod +x "out/$(basename "$PWD")" ;;
 esac
@@ -92,8 +97,8 @@ class MadeUp(unittest.TestCase):
         self.addCleanup(shutil.rmtree, self.folder, ignore_errors=True)
         self.top, kit = os.path.join(self.folder, 'top'), os.path.join(self.folder, 'kit')
         os.makedirs(os.path.join(self.top, 'bin', 'lib'))
-        for name in ('program', 'cadedit', 'cadview', 'prove', 'build-library', 'lib/build.sh', 'lib/exports.py',
-                     'lib/exports.map', 'lib/__init__.py'):
+        for name in ('program', 'cadedit', 'cadview', 'prove', 'gate-minutes', 'build-library', 'lib/build.sh',
+                     'lib/crates.py', 'lib/exports.py', 'lib/exports.map', 'lib/__init__.py'):
             shutil.copy(os.path.join(TOP, 'bin', name), os.path.join(self.top, 'bin', name))
         write(f'{self.top}/bin/lib/submitted.py', SUBMITTED)
         write(f'{self.top}/crates.txt', 'low:\nbeside:\nhigh: low beside clap\ncadedit: high\ncadedit_c staticlib: high\n')

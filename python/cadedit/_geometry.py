@@ -1,12 +1,7 @@
-"""Rings of positions as GeoJSON and as well-known text, in metres."""
+"""Polygons as GeoJSON has them, in metres."""
 from __future__ import annotations
 
-from collections.abc import Sequence
 from typing import Literal, TypedDict
-
-from cadedit._answers import Position
-
-Rings = Sequence[Sequence[Position]]
 
 
 class Polygon(TypedDict):
@@ -36,19 +31,13 @@ class FeatureCollection(TypedDict):
     features: list[Feature]
 
 
-def polygon_of(rings: Rings) -> Polygon:
-    """The polygon of these rings. A coordinate is the number that lies next to its thousandths."""
-    closed = [[*ring, ring[0]] for ring in rings]
-    return {'type': 'Polygon', 'coordinates': [[(it.x / 1000, it.y / 1000) for it in ring] for ring in closed]}
+def polygon_in(text: str) -> Polygon:
+    """The polygon that well-known text tells."""
+    rings = text[len('POLYGON(('):-len('))')].split('),(')
+    return {'type': 'Polygon', 'coordinates': [list(map(place_in, ring.split(','))) for ring in rings]}
 
 
-def metres(millimetres: int) -> str:
-    """The metres of whole millimetres, exactly, with three decimals."""
-    whole, thousandths = divmod(abs(millimetres), 1000)
-    return f'{"-" if millimetres < 0 else ""}{whole}.{thousandths:03}'
-
-
-def text_of(rings: Rings) -> str:
-    """The polygon of these rings as well-known text, as `cadview table` writes it."""
-    closed = (','.join(f'{metres(it.x)} {metres(it.y)}' for it in [*ring, ring[0]]) for ring in rings)
-    return f'POLYGON({",".join(f"({ring})" for ring in closed)})'
+def place_in(text: str) -> tuple[float, float]:
+    """A place of well-known text."""
+    x, y = text.split()
+    return float(x), float(y)

@@ -8,7 +8,7 @@ import subprocess
 import sys
 from collections.abc import Callable
 from pathlib import Path
-from typing import Any, NamedTuple, Optional
+from typing import Any, NamedTuple
 
 from cadedit._faults import NoLibrary
 
@@ -32,16 +32,18 @@ CALLS = {'cadedit_open': ('uint32_t', ['cadedit_map *', 'const uint8_t *', 'size
          'cadedit_submit': ('uint32_t', ['cadedit_map *', 'const uint8_t *', 'size_t', *ROOM]),
          'cadedit_answer': ('uint32_t', ['cadedit_map *', 'uint64_t', *ROOM]),
          'cadedit_point': ('uint32_t', ['cadedit_map *', 'uint32_t', 'int64_t *', 'int64_t *']),
+         'cadedit_shape': ('uint32_t', ['cadedit_map *', 'uint32_t', *ROOM]),
          'cadedit_close': ('void', ['cadedit_map *'])}
 
 
 class Library(NamedTuple):
-    """The library's calls. One without `point` is an older one."""
+    """The library's calls."""
     open: Callable[..., int]
     submit: Callable[..., int]
     answer: Callable[..., int]
+    point: Callable[..., int]
+    shape: Callable[..., int]
     close: Callable[..., object]
-    point: Optional[Callable[..., int]]
 
 
 def found_path() -> Path:
@@ -91,8 +93,6 @@ def library() -> Library:
     """The library, loaded once. Raises NoLibrary."""
     try:
         loaded = ctypes.CDLL(str(found_path()))
-        return Library(call_in(loaded, 'cadedit_open'), call_in(loaded, 'cadedit_submit'), call_in(loaded, 'cadedit_answer'),
-                       call_in(loaded, 'cadedit_close'),
-                       call_in(loaded, 'cadedit_point') if hasattr(loaded, 'cadedit_point') else None)
+        return Library(*(call_in(loaded, f'cadedit_{name}') for name in Library._fields))
     except (AttributeError, OSError) as error:
         raise NoLibrary(str(error)) from error

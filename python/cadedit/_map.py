@@ -6,20 +6,20 @@ import operator
 import os
 import secrets
 import threading
-from collections.abc import Callable, Iterable, Mapping
+from collections.abc import Iterable, Mapping
 from pathlib import Path
 from types import MappingProxyType
 from typing import SupportsIndex
 
 from cadedit._answers import Area, Position, Ring, areas_of, fault_of, positions_of, rings_of
 from cadedit._faults import PlanFault, SyntaxFault, ThreadFault
-from cadedit._geometry import Feature, FeatureCollection, Polygon, polygon_of, text_of
+from cadedit._geometry import Feature, FeatureCollection, Polygon, polygon_in
 from cadedit._library import CLOSED, DEPTH, DONE, MEMORY, NOT_ONE, PLAN, Handle, library
 from cadedit._records import listed, number, record, text
 
 ROOM = 4096  # Bytes of an answer that are told at once.
-DEPTHS, POINTS = 1 << 64, 1 << 32  # What there is room for in C.
-NONE = 0  # A depth and a point that there aren't.
+DEPTHS, NUMBERS = 1 << 64, 1 << 32  # What there is room for in C.
+NONE = 0  # A depth, and the number of a point and of a parcel, that there aren't.
 
 
 class Map:
@@ -221,12 +221,10 @@ class Map:
 
     def position(self, point: SupportsIndex) -> Position:
         """Where a point is, in millimetres. Raises KeyError where there is no such point."""
-        its_number = operator.index(point)
-        if not self._library.point:
-            return self.positions()[its_number]
         self._check_thread()
+        its_number = operator.index(point)
         x, y = ctypes.c_int64(), ctypes.c_int64()
-        status = self._library.point(self._at, its_number if 0 < its_number < POINTS else NONE, x, y)
+        status = self._library.point(self._at, its_number if 0 < its_number < NUMBERS else NONE, x, y)
         if status == CLOSED:
             raise ValueError('the map is closed')
         if status != DONE:
@@ -241,22 +239,23 @@ class Map:
             self._positions = MappingProxyType(positions_of(self.plan()))
         return self._positions
 
-    def _placed_rings(self, parcel: SupportsIndex, place: Callable[[int], Position]) -> list[list[Position]]:
-        """A parcel's rings with the positions of their points, which are asked for by `place`."""
-        rings = self.outline(parcel)
-        if not rings or rings[0].kind != 'outer':
-            raise ValueError('the outside has no outline')
-        return [[place(point) for point in ring.points] for ring in rings]
-
     def geometry(self, parcel: SupportsIndex) -> Polygon:
-        """A parcel as GeoJSON has a polygon, in metres; each number is the one next to its thousandths. Its rings are
-        those of `outline`: one may pass a point twice. Raises Refused where there is no such parcel, and ValueError
-        of the outside."""
-        return polygon_of(self._placed_rings(parcel, self.position))
+        """A parcel as GeoJSON has a polygon, in metres; each number is the one next to its thousandths. Raises Refused
+        where there is no such parcel, and ValueError of the outside."""
+        return polygon_in(self.wkt(parcel))
 
     def wkt(self, parcel: SupportsIndex) -> str:
         """The same as well-known text, in metres with three decimals: the millimetres, exactly."""
-        return text_of(self._placed_rings(parcel, self.position))
+        self._check_thread()
+        its_number = operator.index(parcel)
+        status = self._library.shape(self._at, its_number if 0 < its_number < NUMBERS else NONE, self._room, ROOM,
+                                     self._length_at)
+        if status == DONE:
+            return self._answer().decode()
+        if status == MEMORY:
+            raise MemoryError('memory ran out; nothing has changed')
+        self.outline(parcel)  # It raises what there is to raise of a closed map, and of a parcel that isn't there.
+        raise ValueError('the outside has no polygon')
 
     @property
     def __geo_interface__(self) -> FeatureCollection:
@@ -265,6 +264,5 @@ class Map:
 
     def _feature(self, area: Area) -> Feature:
         """A parcel with its number, label and area."""
-        polygon = polygon_of(self._placed_rings(area.number, self.positions().__getitem__))
-        return {'type': 'Feature', 'id': area.number, 'geometry': polygon,
+        return {'type': 'Feature', 'id': area.number, 'geometry': self.geometry(area.number),
                 'properties': {'number': area.number, 'label': area.label, 'area': area.area}}

@@ -44,6 +44,26 @@ string,17,2,5,101,102,1
 open,,,,,,
 """
 
+# A square of thirty metres round a triangle that touches its corner.
+TOUCHING = b"""plan,2,,,,,
+point,1,0,0,,,
+point,2,30000,0,,,
+point,3,30000,30000,,,
+point,4,0,30000,,,
+point,5,20000,10000,,,
+point,6,10000,20000,,,
+parcel,101,Field,,,,
+parcel,102,Pond,,,,
+string,11,1,2,101,0,
+string,12,2,3,101,0,
+string,13,3,4,101,0,
+string,14,4,1,101,0,
+string,21,1,5,102,101,
+string,22,5,6,102,101,
+string,23,6,1,102,101,
+open,,,,,,
+"""
+
 
 def block_parts() -> tuple[bytes, list[bytes]]:
     """The plan of examples/block.csv, and the records of its script, of which none has a line feed within."""
@@ -379,14 +399,30 @@ class Geometry(Case):
             with self.assertRaises(KeyError):
                 lots.position(point)
 
-    def test_a_library_that_tells_of_no_point(self) -> None:
-        older = _library.library()._replace(point=None)
-        with mock.patch('cadedit._map.library', return_value=older):
-            lots = self.two_lots()
-        self.assertEqual(lots.position(4), Position(20000, 10000))
-        with self.assertRaises(KeyError):
-            lots.position(7)
-        self.assertEqual(lots.wkt(102), self.two_lots().wkt(102))
+    def test_a_ring_that_passes_a_point_twice_is_cut(self) -> None:
+        with Map(TOUCHING) as touching:
+            self.assertEqual([len(it.points) for it in touching.outline(101)], [7])
+            outline, hole = touching.geometry(101)['coordinates']
+        self.assertEqual({*outline}, {(0.0, 0.0), (30.0, 0.0), (30.0, 30.0), (0.0, 30.0)})
+        self.assertEqual({*hole}, {(0.0, 0.0), (10.0, 20.0), (20.0, 10.0)})
+        self.assertEqual((len(outline), len(hole)), (5, 4))
+
+    def test_a_long_shape(self) -> None:
+        corners = [(place * 1000, 0) for place in range(500)] + [(499000, 1000), (0, 1000)]
+        rows = [f'point,{place},{x},{y},,,' for place, (x, y) in enumerate(corners, 1)] + ['parcel,1,Lane,,,,'] + [
+            f'string,{place},{place},{place % len(corners) + 1},1,0,' for place in range(1, len(corners) + 1)]
+        with Map('\n'.join(['plan,2,,,,,', *rows, 'open,,,,,,', '']).encode()) as lane:
+            text, ring = lane.wkt(1), lane.geometry(1)['coordinates'][0]
+        self.assertGreater(len(text), 4096)
+        self.assertEqual({*ring}, {(x / 1000, y / 1000) for x, y in corners})
+        self.assertEqual((ring[0], len(ring)), (ring[-1], len(corners) + 1))
+
+    def test_a_shape_for_which_memory_runs_out(self) -> None:
+        lots = self.two_lots()
+        lots._library = lots._library._replace(shape=lambda *_: _library.MEMORY)
+        with self.assertRaisesRegex(MemoryError, 'nothing has changed'):
+            lots.wkt(101)
+        self.assertEqual([it.number for it in lots.areas()], [101, 102])
 
     def test_the_outside(self) -> None:
         lots = self.two_lots()

@@ -1,4 +1,4 @@
-//! Worked jobs as tests across the crates. The expected answers were worked out by hand, never by the program. A test
+//! Worked jobs and views as tests across the crates. What is expected was worked out by hand, never by the program. A test
 //! whose name ends in `again` makes a call again that a refused growth has ended.
 #![tactic(auto)]
 
@@ -16,6 +16,8 @@ mod chains;
 mod damaged;
 #[cfg(test)]
 mod dividing;
+#[cfg(test)]
+mod drawings;
 #[cfg(test)]
 mod enclosing;
 #[cfg(test)]
@@ -46,3 +48,7 @@ mod stars;
 mod stopping;
 #[cfg(test)]
 mod stores;
+#[cfg(test)]
+mod tables;
+#[cfg(test)]
+mod viewed_plans;

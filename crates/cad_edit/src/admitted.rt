@@ -3,7 +3,7 @@ use cad_map::{Corner, SharedChain};
 use cad_rows::StringNo;
 
 /// What was found of an edit that nothing speaks against at once.
-#[derive(Clone, Copy, Debug)]
+#[derive(Clone, Copy)]
 pub struct Admitted {
     /// Of a division, the corners that its chain leaves at its two ends.
     pub corners: Option<(Corner, Corner)>,

@@ -1,6 +1,6 @@
 //! The texts of answers.
 ghost use Rattle.std.specs.Prelude.{◌≡◌, ◌∷◌, [], IfOk, decimal};
-ghost use Rattle.cad_history.specs.declared.commands.Answer.TheVariants.{Done};
+ghost use Rattle.cad_history.specs.declared.commands.Answer.TheVariants.{Done, Nothing};
 ghost use Rattle.cad_files.specs.Texts.{text_of};
 ghost use Rattle.cad_files.specs.Answers.{refused_record as refused_record_of, named_record, rule_name, refusal_record, answer_record, syntax_record};
 
@@ -113,13 +113,20 @@ fn done_text(alloc: Global) -> Result<Vec<u8>, Memory>
     Ok(Vec::from_slice(alloc, b"ok,,,,,,\n")?)
 }
 
+// The text of the record where there was nothing to undo or redo, likewise.
+fn nothing_text(alloc: Global) -> Result<Vec<u8>, Memory>
+    ensures { IfOk result (λ text. text.items ≡ text_of (answer_record Nothing ∷ [])) }
+{
+    Ok(Vec::from_slice(alloc, b"nothing,,,,,,\n")?)
+}
+
 /// The text of an answer.
 pub fn answer_text(alloc: Global, answer: &Answer) -> Result<Vec<u8>, Memory>
     ensures { IfOk result (λ text. text.items ≡ text_of (answer_record answer.now ∷ [])) }
 {
     match answer {
         Answer::Done => done_text(alloc),
-        Answer::Nothing => one_record(alloc, &[b"nothing", b"", b"", b"", b"", b"", b""]),
+        Answer::Nothing => nothing_text(alloc),
         Answer::Refused(refusal) => refusal_text(alloc, *refusal),
     }
 }

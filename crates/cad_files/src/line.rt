@@ -11,7 +11,7 @@ use csv::ByteRecord;
 use std::alloc::Global;
 
 /// What a record of a script asks for.
-#[derive(Debug, Drop)]
+#[derive(Drop)]
 pub enum Line {
     /// An edit, an undo or a redo.
     Command(Command),
@@ -24,7 +24,7 @@ pub enum Line {
 }
 
 /// Why a record is no line.
-#[derive(Clone, Copy, Debug, PartialEq, Eq)]
+#[derive(Clone, Copy, PartialEq, Eq)]
 pub enum LineFault {
     /// It is none of a script.
     Syntax,

@@ -122,7 +122,7 @@ fn is_repeated<Kind>(alloc: Global, list: &Numbers<Number<Kind>>) -> Result<bool
 }
 
 /// Sources of which none stands twice.
-#[derive(Debug, Drop)]
+#[derive(Drop)]
 pub struct DistinctSources {
     list: Numbers<SourceNo>,
 }

@@ -8,14 +8,14 @@ use cad_rows::{Face, Label, Memory, ParcelNo, PointNo, SourceRow, StringNo};
 use std::alloc::Global;
 
 /// The version of a plan.
-#[derive(Clone, Copy, Debug, PartialEq, Eq)]
+#[derive(Clone, Copy, PartialEq, Eq)]
 pub enum Version {
     One,
     Two,
 }
 
 /// A point of a plan, whose coordinates may be out of range and whose sources may be too many.
-#[derive(Debug, Drop)]
+#[derive(Drop)]
 pub struct PointRecord {
     pub number: PointNo,
     pub x: i64,
@@ -24,7 +24,7 @@ pub struct PointRecord {
 }
 
 /// A parcel of a plan, whose sources may be too many.
-#[derive(Debug, Drop)]
+#[derive(Drop)]
 pub struct ParcelRecord {
     pub number: ParcelNo,
     pub label: Label,
@@ -33,7 +33,7 @@ pub struct ParcelRecord {
 
 /// A string of a plan with the faces on its two sides, seen from its first to its second point; its
 /// sources may be too many.
-#[derive(Debug, Drop)]
+#[derive(Drop)]
 pub struct StringRecord {
     pub number: StringNo,
     pub from: PointNo,
@@ -44,7 +44,7 @@ pub struct StringRecord {
 }
 
 /// A record of a plan after the first.
-#[derive(Debug, Drop)]
+#[derive(Drop)]
 pub enum PlanRecord {
     Source(SourceRow),
     Point(PointRecord),

@@ -9,7 +9,7 @@ use std::alloc::Global;
 use std::marker::Model;
 
 /// A string of a plan, with the faces on its two sides, seen from its first to its second point.
-#[derive(Debug, Drop)]
+#[derive(Drop)]
 pub struct PlanString {
     pub row: StringRow,
     pub left: Face,
@@ -42,7 +42,6 @@ impl PlanRow {
 
 /// The rows of a plan, in the order of its records: each in range, none of its lists of sources too
 /// long or with a number twice, and not too many rows of a kind.
-#[derive(Debug)]
 pub struct PlanRows {
     pub sources: Vec<SourceRow>,
     pub points: Vec<PointRow>,

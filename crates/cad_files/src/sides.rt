@@ -3,7 +3,7 @@
 use cad_rows::{Face, PointNo, StringNo};
 
 /// A side of a string, from one point to another, with the face to its left and the side that follows it.
-#[derive(Clone, Copy, Debug)]
+#[derive(Clone, Copy)]
 pub(crate) struct PlanSide {
     pub(crate) string: StringNo,
     pub(crate) from: PointNo,

@@ -15,7 +15,7 @@ use number_hash::NumberHash;
 use std::alloc::Global;
 
 /// A side, and the spoke from its end to the point that follows it.
-#[derive(Clone, Copy, Debug)]
+#[derive(Clone, Copy)]
 pub(crate) struct Turn {
     from: PointNo,
     to: PointNo,

@@ -1,3 +1,3 @@
 mod KeptValues
-mod PointFacts
+mod NumberFacts
 mod Values

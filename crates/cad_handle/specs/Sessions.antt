@@ -13,6 +13,7 @@ use Rattle.cad_files.specs.Plan.{plan_of, opened}
 use Rattle.cad_files.specs.Building.{IsBuilt}
 use Rattle.cad_files.specs.Line.{line_of}
 use Rattle.cad_session.specs.Answered.{IsAnswered, IsCarriedOut}
+use Rattle.cad_views.specs.Shape.{IsShape}
 use Rattle.cad_handle.specs.declared.state.State.{State}
 
 -- the editor stands for this history
@@ -75,3 +76,14 @@ HasAnswer answer None = ⊥
 abbrev pub IsPosition : ℕ → Option Position → Option State → Type 0
 IsPosition number found (Some state) = (h : History) (m : Map) → Shows state.editor h → shown_map h ≡ Some m → found ≡ option_map (λ r. r.position) (point_of m number)
 IsPosition number found None = ⊥
+
+-- the parcel of the map that is shown has this shape, or the map hasn't the parcel
+abbrev pub IsShapeOf : ℕ → Option (List ℕ) → Option State → Type 0
+IsShapeOf number text (Some state) = (h : History) (m : Map) → Shows state.editor h → shown_map h ≡ Some m → IsShape m number text
+IsShapeOf number text None = ⊥
+
+-- it is open as it was, with this latest answer
+abbrev pub KeepsAnswer : List ℕ → Option State → Option State → Type 0
+KeepsAnswer answer (Some old) (Some new) = (new.editor ≡ old.editor) × (new.answer.items ≡ answer)
+KeepsAnswer answer (Some old) None = ⊥
+KeepsAnswer answer None new = ⊥

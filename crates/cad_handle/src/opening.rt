@@ -39,7 +39,12 @@ pub fn open_plan(
         Err(_) => return Err(PlanFault::Memory),
     };
     let answer = Vec::new(alloc);
-    match Box::new(alloc, State { editor, answer }) {
+    let state = State {
+        editor,
+        answer,
+        hash,
+    };
+    match Box::new(alloc, state) {
         Ok(state) => Ok(state),
         Err(_) => Err(PlanFault::Memory),
     }

@@ -1,27 +1,31 @@
 //! What is kept between calls.
-ghost use Rattle.std.specs.Prelude.{◌≡◌, ◌∷◌, [], ℕ, List, Some, option_map, IfErr, OnOk, OnErr, drop};
+ghost use Rattle.std.specs.Prelude.{◌≡◌, ◌∷◌, [], ℕ, List, Some, None, option_map, IfOk, IfErr, OnOk, OnErr, drop, false, if◌then◌else◌};
 ghost use Rattle.csv.specs.Reading.{strip_bom};
 ghost use Rattle.cad_map.specs.Map.{Map, point_of};
 ghost use Rattle.cad_history.specs.History.{History, shown_map};
 ghost use Rattle.cad_files.specs.Input.{IsWhole};
 ghost use Rattle.cad_files.specs.Line.{line_of};
 ghost use Rattle.cad_session.specs.Answered.{IsAnswered, IsSubmitFault};
+ghost use Rattle.cad_views.specs.Shape.{IsShape};
 ghost use Rattle.cad_handle.specs.Sessions.{Shows, ShowsSome};
 
 use cad_history::Editor;
 use cad_map::MapView;
-use cad_rows::PointNo;
+use cad_rows::{Memory, ParcelNo, PointNo};
 use cad_session::{SubmitFault, submit};
 use cad_surgery::HalfMap;
+use cad_views::shape_text;
 use geo_exact::Pt;
 use half_table::Ticks;
+use number_hash::NumberHash;
 use std::alloc::Global;
 
-/// An editor, and its latest answer.
+/// An editor, its latest answer, and the hash by which tables find numbers.
 #[derive(Drop)]
 pub struct State {
     pub editor: Editor<HalfMap<Ticks>>,
     pub answer: Vec<u8>,
+    pub hash: NumberHash,
 }
 
 impl State {
@@ -74,6 +78,31 @@ impl State {
         match self.editor.map().point(no) {
             Some(row) => Some(row.position),
             None => None,
+        }
+    }
+
+    /// Keeps the shape of a parcel of the map that is shown as the latest answer, and tells whether there is such a parcel.
+    /// Where there is none, or memory runs out, no answer is kept.
+    pub fn shape(&mut self, alloc: Global, number: u32) -> Result<bool, Memory>
+        requires { ShowsSome self.old.editor }
+        ensures shape { IfOk result (λ known. (h : History) (m : Map) → Shows self.old.editor h
+            → shown_map h ≡ Some m
+            → IsShape m number (if known then Some self.new.answer.items else None)) }
+        ensures unknown { IfOk result (λ known. known ≡ false → self.new.answer.items ≡ []) }
+        ensures none { OnErr result (self.new.answer.items ≡ []) }
+        ensures same { self.new.editor ≡ self.old.editor }
+    {
+        self.answer = Vec::new(alloc);
+        let Some(parcel) = ParcelNo::new(number) else {
+            return Ok(false);
+        };
+        match shape_text(alloc, self.hash, self.editor.map(), parcel) {
+            Ok(Some(text)) => {
+                self.answer = text;
+                Ok(true)
+            }
+            Ok(None) => Ok(false),
+            Err(Memory) => Err(Memory),
         }
     }
 }

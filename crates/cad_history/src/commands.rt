@@ -9,7 +9,7 @@ use std::marker::Model;
 pub const DEPTH_LIMIT: usize = 1000;
 
 /// How many edits can be undone, from 1 to 1,000.
-#[derive(Clone, Copy, Debug, PartialEq, Eq)]
+#[derive(Clone, Copy, PartialEq, Eq)]
 pub struct Depth {
     edits: usize,
 }
@@ -50,7 +50,7 @@ impl Depth {
 }
 
 /// What an editor can be told to do.
-#[derive(Debug, Drop)]
+#[derive(Drop)]
 pub enum Command {
     /// To make an edit.
     Edit(Edit),
@@ -61,7 +61,7 @@ pub enum Command {
 }
 
 /// What an editor answers a command.
-#[derive(Clone, Copy, Debug, PartialEq, Eq)]
+#[derive(Clone, Copy, PartialEq, Eq)]
 pub enum Answer {
     /// It was carried out.
     Done,
@@ -72,7 +72,7 @@ pub enum Answer {
 }
 
 /// Why an undo or a redo did nothing.
-#[derive(Clone, Copy, Debug, PartialEq, Eq)]
+#[derive(Clone, Copy, PartialEq, Eq)]
 pub enum UndoFault {
     /// There was no edit to go back or on.
     Nothing,

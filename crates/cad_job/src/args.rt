@@ -53,7 +53,7 @@ docs/FORMATS.md has all records, answers and statuses.";
 
 /// What the arguments say: how many edits can be undone, whether the job ends after the first record that isn't carried
 /// out, and the file that has the job, if one is named.
-#[derive(Clone, Copy, Debug)]
+#[derive(Clone, Copy)]
 pub struct Args<'a> {
     pub depth: Depth,
     pub stop: bool,

@@ -5,7 +5,7 @@ use cad_rings::Ring;
 use cad_rows::{Face, Memory};
 
 /// A ring, with the face to its left.
-#[derive(Debug, Drop)]
+#[derive(Drop)]
 pub struct Boundary {
     pub face: Face,
     pub ring: Ring,

@@ -19,7 +19,7 @@ use geo_exact::in_sector;
 use std::marker::Model;
 
 /// A point of a ring, with the one before it and the one after it.
-#[derive(Clone, Copy, Debug, PartialEq, Eq)]
+#[derive(Clone, Copy, PartialEq, Eq)]
 pub struct Corner {
     pub before: PointNo,
     pub at: PointNo,

@@ -12,7 +12,7 @@ use numbered_rows::{Numbered, Rows};
 use std::alloc::Global;
 
 /// The number of a parcel that a merger ended, as a row.
-#[derive(Clone, Copy, Debug)]
+#[derive(Clone, Copy)]
 pub struct RetiredRow {
     pub number: ParcelNo,
 }

@@ -15,7 +15,7 @@ use crate::walk::Walk;
 use cad_rows::{Face, PointNo, StringRow};
 
 /// What two faces have in common where that is one chain or one ring, as the rings of the first of them lead along it.
-#[derive(Clone, Copy, Debug)]
+#[derive(Clone, Copy)]
 pub enum SharedChain {
     /// A chain of so many sides, from the first to the last, each of them from one point to the next.
     Along {

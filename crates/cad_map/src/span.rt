@@ -8,7 +8,7 @@ use crate::store::MapView;
 use cad_rows::{PointNo, StringNo, StringRow};
 
 /// A string, and the points that it leads from and to.
-#[derive(Clone, Copy, Debug)]
+#[derive(Clone, Copy)]
 pub struct Span {
     pub string: StringNo,
     pub from: PointNo,

@@ -18,7 +18,7 @@ use std::marker::Model;
 
 /// A string as one of its points sees it: the point that it leads to, and its place among the
 /// strings.
-#[derive(Clone, Copy, Debug)]
+#[derive(Clone, Copy)]
 pub struct Spoke {
     /// The point that sees it.
     pub at: PointNo,

@@ -28,7 +28,7 @@ use cad_rows::{
 use std::alloc::Global;
 
 /// How many rows of each kind a map has.
-#[derive(Clone, Copy, Debug, PartialEq, Eq)]
+#[derive(Clone, Copy, PartialEq, Eq)]
 pub struct Counts {
     pub sources: usize,
     pub points: usize,

@@ -31,7 +31,7 @@ use std::alloc::Global;
 const FEW_RINGS: usize = 4;
 
 /// What the rings of a face tell, or those of several.
-#[derive(Clone, Copy, Debug)]
+#[derive(Clone, Copy)]
 pub(crate) struct FaceRules {
     /// Whether each face has its outlines.
     pub(crate) outlines: bool,

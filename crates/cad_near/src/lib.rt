@@ -49,7 +49,7 @@ use std::marker::Model;
 
 /// A point that was moved, and where it lay. One that came between the ends of a string counts as
 /// moved from where the first of them lies.
-#[derive(Clone, Copy, Debug)]
+#[derive(Clone, Copy)]
 pub struct Moved {
     pub point: PointNo,
     pub from: Pt,
@@ -69,7 +69,7 @@ impl Model for Moved {
 }
 
 /// A point that went from between two others, which one string joins then, and where it lay.
-#[derive(Clone, Copy, Debug)]
+#[derive(Clone, Copy)]
 pub struct Joined {
     pub point: PointNo,
     pub position: Pt,

@@ -13,7 +13,7 @@ use cad_valid::is_same;
 use geo_exact::{Pt, in_sector};
 
 /// A string as a point at one of its ends sees it.
-#[derive(Clone, Copy, Debug)]
+#[derive(Clone, Copy)]
 pub(crate) struct Ray {
     /// The point that it leads to.
     pub(crate) far: PointNo,

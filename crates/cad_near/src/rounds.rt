@@ -13,7 +13,7 @@ use cad_rows::PointNo;
 use geo_exact::{DoubledArea, Pt, SideMeasure};
 
 /// The doubled area of a ring, the one that it had before a move, and the least of its points.
-#[derive(Clone, Copy, Debug)]
+#[derive(Clone, Copy)]
 pub(crate) struct Round {
     pub(crate) area: i128,
     pub(crate) area_before: i128,

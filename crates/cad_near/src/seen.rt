@@ -14,7 +14,7 @@ use cad_rows::{PointNo, PointRow, StringNo, StringRow};
 use geo_exact::Pt;
 
 /// A string between the positions of its ends, or a point as a string from where it lies to there.
-#[derive(Clone, Copy, Debug)]
+#[derive(Clone, Copy)]
 pub(crate) struct Lying {
     pub(crate) number: u32,
     pub(crate) a: Pt,
@@ -33,7 +33,7 @@ impl Default for Lying {
 }
 
 /// A box, from its corner in the southwest to the one in the northeast.
-#[derive(Clone, Copy, Debug)]
+#[derive(Clone, Copy)]
 pub(crate) struct Reach {
     pub(crate) low: Pt,
     pub(crate) high: Pt,

@@ -16,7 +16,7 @@ use std::marker::Model;
 pub use sum::RING_LIMIT;
 
 /// A cyclic list of two points or more, with the parcel to its left.
-#[derive(Debug, Drop)]
+#[derive(Drop)]
 pub struct Ring {
     points: Vec<PointNo>,
 }

@@ -5,7 +5,6 @@ use crate::names::{Face, Item};
 use crate::numbers::{ParcelNo, PointNo, SourceNo, StringNo};
 
 /// One edit of a map. Coordinates are in millimetres, and may be out of range.
-#[derive(Debug)]
 pub enum Edit {
     /// A new source.
     AddSource {

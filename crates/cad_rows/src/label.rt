@@ -10,7 +10,7 @@ use std::marker::Model;
 pub const LABEL_LIMIT: usize = 80;
 
 /// A text of 1 to 80 bytes of UTF-8.
-#[derive(Debug, Drop)]
+#[derive(Drop)]
 pub struct Label {
     text: String,
 }

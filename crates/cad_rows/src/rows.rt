@@ -8,7 +8,7 @@ use crate::numbers::{ParcelNo, PointNo, SourceNo, StringNo};
 use geo_exact::Pt;
 
 /// A point: its number, its position in millimetres, and the sources that witness it.
-#[derive(Debug, Drop)]
+#[derive(Drop)]
 pub struct PointRow {
     pub number: PointNo,
     pub position: Pt,
@@ -29,7 +29,7 @@ impl PointRow {
 }
 
 /// A string: one straight line between two points, with its sources.
-#[derive(Debug, Drop)]
+#[derive(Drop)]
 pub struct StringRow {
     pub number: StringNo,
     pub from: PointNo,
@@ -52,7 +52,7 @@ impl StringRow {
 }
 
 /// A parcel: its number, its label, and its sources.
-#[derive(Debug, Drop)]
+#[derive(Drop)]
 pub struct ParcelRow {
     pub number: ParcelNo,
     pub label: Label,
@@ -75,7 +75,7 @@ impl ParcelRow {
 }
 
 /// A source: its number, and its text.
-#[derive(Debug, Drop)]
+#[derive(Drop)]
 pub struct SourceRow {
     pub number: SourceNo,
     pub text: Label,

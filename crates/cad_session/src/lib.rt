@@ -5,6 +5,7 @@ mod answers;
 mod faults;
 mod one_record;
 mod opening;
+mod plain;
 
 pub use answers::answer_of_row;
 pub use faults::{SubmitFault, Untold};

@@ -10,9 +10,11 @@ ghost use Rattle.cad_session.specs.Answered.{IsAnswered, IsSubmitFault};
 
 use crate::answers::answer_of_row;
 use crate::faults::{SubmitFault, Untold};
+use crate::plain::plain_row;
 use cad_files::{InputFault, next_row, records_of};
 use cad_history::Editor;
 use cad_map::MapStore;
+use cad_rows::Memory;
 use csv::ByteRecord;
 use std::alloc::Global;
 
@@ -45,8 +47,20 @@ pub fn submit<M: MapStore>(
     }
 }
 
-/// The one record of a text.
+/// The one record of a text: cut at its commas if the text is plain, and read if not.
 fn one_row(alloc: Global, text: &[u8]) -> Result<ByteRecord, SubmitFault>
+    ensures row { IfOk result (λ row. IsWhole (strip_bom text.now) (fields_of row ∷ [])) }
+    ensures undone { IfErr result (λ fault. fault ≢ SubmitFault.Done) }
+{
+    match plain_row(alloc, text) {
+        Ok(Some(row)) => Ok(row),
+        Ok(None) => read_row(alloc, text),
+        Err(Memory) => Err(SubmitFault::Undone),
+    }
+}
+
+/// The one record of a text, by a reader.
+fn read_row(alloc: Global, text: &[u8]) -> Result<ByteRecord, SubmitFault>
     ensures row { IfOk result (λ row. IsWhole (strip_bom text.now) (fields_of row ∷ [])) }
     ensures undone { IfErr result (λ fault. fault ≢ SubmitFault.Done) }
 {

@@ -16,7 +16,7 @@ use std::alloc::Global;
 
 /// A position, the place that it has among those asked of, and whether an odd number of the sides so
 /// far is counted there.
-#[derive(Clone, Copy, Debug)]
+#[derive(Clone, Copy)]
 pub(crate) struct Anchor {
     at: Pt,
     place: usize,

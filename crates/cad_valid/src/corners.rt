@@ -68,7 +68,7 @@ fn is_empty_corner<M: MapView>(map: &M, before: PointNo, at: PointNo, after: Poi
 }
 
 /// Where the corner at a point of a ring lies, and the points after and before it in the ring.
-#[derive(Clone, Copy, Debug)]
+#[derive(Clone, Copy)]
 struct Sector {
     at: Pt,
     after: Pt,

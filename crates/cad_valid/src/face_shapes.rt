@@ -21,7 +21,7 @@ const FEW: usize = 16;
 
 /// The rings of a face as they lie: outlines, which have positive doubled area, and holes, which
 /// have negative. Of others is known whether there is one.
-#[derive(Debug, Drop)]
+#[derive(Drop)]
 pub struct FaceShapes {
     outlines: Vec<PlacedRing>,
     holes: Vec<PlacedRing>,

@@ -12,7 +12,7 @@ use std::marker::Model;
 
 /// What the doubled areas of rings tell: how many are positive, and whether all others are
 /// negative.
-#[derive(Clone, Copy, Debug)]
+#[derive(Clone, Copy)]
 pub struct OutlineCount {
     outlines: usize,
     is_sound: bool,

@@ -14,7 +14,7 @@ use geo_exact::{Pt, meets, on_segment};
 
 /// A string from one point to another as it lies on the map, or a point as one from itself to
 /// itself.
-#[derive(Clone, Copy, Debug)]
+#[derive(Clone, Copy)]
 pub struct Placed {
     /// The point that it leads from.
     pub from: PointNo,

@@ -58,7 +58,7 @@ fn position_after<M: MapView>(map: &M, end: PointNo, at: Pt, point: PointNo) -> 
 }
 
 /// A ring with the positions of its points.
-#[derive(Debug, Drop)]
+#[derive(Drop)]
 pub struct PlacedRing {
     sides: Vec<(Pt, Pt)>,
     anchor: Pt,

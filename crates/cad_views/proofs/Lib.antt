@@ -6,3 +6,4 @@ pub mod ToldFacts
 pub mod DifferenceFacts
 pub mod LandFacts
 pub mod ReadingFacts
+pub mod ShapeFacts

@@ -7,3 +7,4 @@ pub mod Reading
 pub mod Tables
 pub mod Walked
 pub mod WellKnown
+pub mod Shape

@@ -1,5 +1,6 @@
 //! Rings, cut where they pass a point twice.
 ghost use Rattle.std.specs.Prelude.{◌≡◌, ℕ, List, [], ◌∷◌, ◌++◌, OnOk, IfOk, flat_map};
+ghost use Rattle.std.specs.List.{AllByRecursion};
 ghost use Rattle.geo_exact.specs.Measure.{Measure, sum_over};
 ghost use Rattle.cad_rows.specs.declared.names.Face.{Face as FaceOf};
 ghost use Rattle.cad_rings.specs.Cycle.{Ring as RingOf, sides_of, placed};
@@ -54,6 +55,19 @@ pub fn cut_ring(alloc: Global, hash: NumberHash, ring: &Ring) -> Result<Vec<Ring
         walk_to(alloc, &mut path, &mut pieces, points[place])?;
     }
     pieces.push(Ring::from_points(alloc, path.as_slice())?)?;
+    Ok(pieces)
+}
+
+/// Cuts rings, each as [`cut_ring`] does.
+pub(crate) fn cut_each(alloc: Global, hash: NumberHash, rings: &[Ring]) -> Result<Vec<Ring>, Memory>
+    requires { AllByRecursion HasTwoEndsEach rings.now }
+    ensures { IfOk result (λ pieces. AreCutFrom rings.now pieces.items) }
+{
+    let mut pieces = Vec::new(alloc);
+    for place in 0..rings.len() {
+        let mut cut = cut_ring(alloc, hash, &rings[place])?;
+        pieces.append(&mut cut)?;
+    }
     Ok(pieces)
 }
 

@@ -9,7 +9,7 @@ use cad_rows::{Memory, Name, PointNo, SourceNo, StringNo, StringRow};
 use std::alloc::Global;
 
 /// What became of a row.
-#[derive(Clone, Copy, Debug, PartialEq, Eq)]
+#[derive(Clone, Copy, PartialEq, Eq)]
 pub(crate) enum Mark {
     Same,
     Added,

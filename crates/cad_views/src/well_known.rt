@@ -6,7 +6,7 @@ ghost use Rattle.cad_rows.specs.Limits.{string_limit};
 ghost use Rattle.cad_views.specs.WellKnown.{coordinates, separator, coordinates_along, ring_text, outlines_first, point_geometry as point_geometry_of, line_geometry as line_geometry_of, polygon_geometry as polygon_geometry_of};
 
 use crate::metres::metres_text;
-use cad_map::{PlainMap, position, sum_round};
+use cad_map::{MapView, PlainMap, position, sum_round};
 use cad_rings::Ring;
 use cad_rows::{Memory, PointNo};
 use geo_exact::{DoubledArea, Pt};
@@ -42,14 +42,14 @@ pub(crate) fn push_separator(text: &mut Vec<u8>, place: usize) -> Result<(), Mem
 }
 
 // Appends the coordinates of points, with commas between them.
-fn push_along(
+fn push_along<M: MapView>(
     alloc: Global,
     text: &mut Vec<u8>,
-    map: &PlainMap,
+    map: &M,
     points: &[PointNo],
 ) -> Result<(), Memory>
     ensures { OnOk result (text.new.items
-        ≡ text.old.items ++ coordinates_along map.now points.now) }
+        ≡ text.old.items ++ coordinates_along (M.map map.now) points.now) }
 {
     for place in 0..points.len() {
         push_separator(text, place)?;
@@ -60,8 +60,14 @@ fn push_along(
 
 // Appends a ring, closed by its first point.
 #[tactic(auto, unfolding(crate::specs::WellKnown::ring_text))]
-fn push_ring(alloc: Global, text: &mut Vec<u8>, map: &PlainMap, ring: &Ring) -> Result<(), Memory>
-    ensures { OnOk result (text.new.items ≡ text.old.items ++ ring_text map.now ring.now) }
+fn push_ring<M: MapView>(
+    alloc: Global,
+    text: &mut Vec<u8>,
+    map: &M,
+    ring: &Ring,
+) -> Result<(), Memory>
+    ensures { OnOk result (text.new.items
+        ≡ text.old.items ++ ring_text (M.map map.now) ring.now) }
 {
     let points = ring.points();
     let mut closed = Vec::with_capacity(alloc, ring.len().saturating_add(1))?;
@@ -74,9 +80,9 @@ fn push_ring(alloc: Global, text: &mut Vec<u8>, map: &PlainMap, ring: &Ring) -> 
 }
 
 // Whether a ring has positive doubled area, or hasn't, as asked.
-fn is_wanted(map: &PlainMap, ring: &Ring, outer: bool) -> bool
+fn is_wanted<M: MapView>(map: &M, ring: &Ring, outer: bool) -> bool
     requires { length ring.now ≤ 2 * string_limit }
-    ensures { result ≡ is_outer map.now outer ring.now }
+    ensures { result ≡ is_outer (M.map map.now) outer ring.now }
 {
     let positive = sum_round(map, ring, &DoubledArea) > 0;
     if outer { positive } else { !positive }
@@ -95,15 +101,15 @@ fn push_wanted(listed: &mut Vec<Ring>, ring: &Ring, wanted: bool) -> Result<(), 
 }
 
 // Puts those of these rings last that have positive doubled area, or all others.
-fn push_outlines(
+fn push_outlines<M: MapView>(
     listed: &mut Vec<Ring>,
-    map: &PlainMap,
+    map: &M,
     rings: &[Ring],
     outer: bool,
 ) -> Result<(), Memory>
     requires { AllByRecursion (λ r. length r ≤ 2 * string_limit) rings.now }
     ensures { OnOk result (listed.new.items
-        ≡ listed.old.items ++ filter (is_outer map.now outer) rings.now) }
+        ≡ listed.old.items ++ filter (is_outer (M.map map.now) outer) rings.now) }
 {
     for place in 0..rings.len() {
         let wanted = is_wanted(map, &rings[place], outer);
@@ -113,9 +119,13 @@ fn push_outlines(
 }
 
 // The rings of positive doubled area, and then the others.
-fn with_outlines_first(alloc: Global, map: &PlainMap, rings: &[Ring]) -> Result<Vec<Ring>, Memory>
+fn with_outlines_first<M: MapView>(
+    alloc: Global,
+    map: &M,
+    rings: &[Ring],
+) -> Result<Vec<Ring>, Memory>
     requires { AllByRecursion (λ r. length r ≤ 2 * string_limit) rings.now }
-    ensures { IfOk result (λ ordered. ordered.items ≡ outlines_first map.now rings.now) }
+    ensures { IfOk result (λ ordered. ordered.items ≡ outlines_first (M.map map.now) rings.now) }
 {
     let mut ordered = Vec::new(alloc);
     push_outlines(&mut ordered, map, rings, true)?;
@@ -124,14 +134,14 @@ fn with_outlines_first(alloc: Global, map: &PlainMap, rings: &[Ring]) -> Result<
 }
 
 // Appends rings, with commas between them.
-fn push_rings(
+fn push_rings<M: MapView>(
     alloc: Global,
     text: &mut Vec<u8>,
-    map: &PlainMap,
+    map: &M,
     rings: &[Ring],
 ) -> Result<(), Memory>
     ensures { OnOk result (text.new.items
-        ≡ text.old.items ++ join_with_byte 44 (map_of (ring_text map.now) rings.now)) }
+        ≡ text.old.items ++ join_with_byte 44 (map_of (ring_text (M.map map.now)) rings.now)) }
 {
     for place in 0..rings.len() {
         push_separator(text, place)?;
@@ -172,9 +182,13 @@ pub fn line_geometry(
 /// Rings that pass no point twice, as one polygon of well-known text: the outline, and then the holes. `Err` where memory
 /// runs out.
 #[tactic(auto, unfolding(crate::specs::WellKnown::polygon_geometry))]
-pub fn polygon_geometry(alloc: Global, map: &PlainMap, rings: &[Ring]) -> Result<Vec<u8>, Memory>
+pub fn polygon_geometry<M: MapView>(
+    alloc: Global,
+    map: &M,
+    rings: &[Ring],
+) -> Result<Vec<u8>, Memory>
     requires { AllByRecursion (λ r. length r ≤ 2 * string_limit) rings.now }
-    ensures { IfOk result (λ text. text.items ≡ polygon_geometry_of map.now rings.now) }
+    ensures { IfOk result (λ text. text.items ≡ polygon_geometry_of (M.map map.now) rings.now) }
 {
     let ordered = with_outlines_first(alloc, map, rings)?;
     let mut text = Vec::new(alloc);

@@ -7,7 +7,7 @@ use command_line::run_named;
 use std::process::ExitCode;
 
 /// The program's version, as `--version` tells it. CHANGELOG.md says what each brought.
-const VERSION: &str = "1.2.0";
+const VERSION: &str = "1.3.0";
 
 fn main(rt: HostRuntime) -> ExitCode {
     ExitCode::from(run_named(&rt, "cadedit", |words| run_words(&rt, VERSION, words)))

@@ -1,7 +1,7 @@
 //! The editor for C and Python: `include/cadedit.h` declares these functions.
 #![tactic(auto)]
 
-ghost use Rattle.std.specs.Prelude.{◌≡◌, ◌≢◌, ◌⊎◌, ℕ, List, Some, None, drop, length};
+ghost use Rattle.std.specs.Prelude.{◌≡◌, ◌≢◌, ◌⊎◌, ℕ, List, [], Some, None, drop, length};
 ghost use Rattle.csv.specs.Reading.{strip_bom};
 ghost use Rattle.cad_history.specs.Depth.{IsDepth};
 ghost use Rattle.cad_files.specs.FaultTexts.{fault_text};
@@ -9,12 +9,13 @@ ghost use Rattle.cad_files.specs.declared.faults.PlanFault.{PlanFault as Fault};
 ghost use Rattle.cad_files.specs.declared.faults.PlanFault.TheVariants as faults;
 ghost use Rattle.cad_session.specs.Opening.{IsFaultyPlan};
 ghost use Rattle.cad_handle.specs.Held.{flag_of};
-ghost use Rattle.cad_handle.specs.Sessions.{IsUsable, IsOpened, IsSubmitted, IsUndone, IsDoneUntold, HasAnswer, IsPosition};
+ghost use Rattle.cad_handle.specs.Sessions.{IsUsable, IsOpened, IsSubmitted, IsUndone, IsDoneUntold, HasAnswer, IsPosition, IsShapeOf, KeepsAnswer};
 ghost use Rattle.cadedit_c.specs.Told.{told};
 
 use cad_files::PlanFault;
 use cad_handle::{Handle, open_plan};
 use cad_history::Depth;
+use cad_rows::Memory;
 use cad_session::SubmitFault;
 use number_hash::NumberHash;
 use std::alloc::Global;
@@ -246,6 +247,59 @@ pub extern "C" fn cadedit_point(
             DONE
         }
         None => UNKNOWN,
+    }
+}
+
+/// Tells the polygon of a parcel of the map, as well-known text in metres whose rings pass no point twice, and keeps it as
+/// the latest answer: as much of it as fits into the room, and how long it is.
+#[unsafe(no_mangle)]
+pub extern "C" fn cadedit_shape(
+    alloc: Global,
+    handle: &mut Handle,
+    number: u32,
+    room: &mut [u8],
+    whole: &mut u64,
+) -> u32
+    requires { IsUsable handle.old.kept.state }
+    ensures usable { IsUsable handle.new.kept.state }
+
+    // 0: this is the shape of the parcel of the map that is shown, and it is kept.
+    ensures done { result ≡ 0 → (text : List ℕ)
+        × IsShapeOf number (Some text) handle.old.kept.state
+        × KeepsAnswer text handle.old.kept.state handle.new.kept.state
+        × (room.new ≡ told text room.old) × (whole.new ≡ length text) }
+
+    // 7: the map that is shown has no parcel of this number. 5: memory ran out. No answer is kept.
+    ensures unknown { result ≡ 7 → IsShapeOf number None handle.old.kept.state
+        × KeepsAnswer [] handle.old.kept.state handle.new.kept.state }
+    ensures memory { result ≡ 5 → KeepsAnswer [] handle.old.kept.state handle.new.kept.state }
+
+    // 1: the map was closed, and is.
+    ensures closed { result ≡ 1
+        → (handle.old.kept.state ≡ None) × (handle.new.kept.state ≡ None) }
+
+    // There is no other status. But for 0 nothing is told.
+    ensures status { (result ≡ 0) ⊎ ((result ≡ 1) ⊎ ((result ≡ 5) ⊎ (result ≡ 7))) }
+    ensures quiet { result ≢ 0 → (room.new ≡ room.old) × (whole.new ≡ 0) }
+{
+    *whole = 0;
+    let Some(mut state) = handle.take(alloc) else {
+        return CLOSED;
+    };
+    match state.shape(alloc, number) {
+        Ok(true) => {
+            *whole = tell(state.answer.as_slice(), room);
+            handle.put(state);
+            DONE
+        }
+        Ok(false) => {
+            handle.put(state);
+            UNKNOWN
+        }
+        Err(Memory) => {
+            handle.put(state);
+            MEMORY
+        }
     }
 }
 

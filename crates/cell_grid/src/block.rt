@@ -14,7 +14,7 @@ const SHIFT: i64 = 17_179_869_184;
 
 /// How wide a cell is from west to east, and how high from south to north: two to the power of
 /// these, in millimetres.
-#[derive(Clone, Copy, Debug)]
+#[derive(Clone, Copy)]
 pub(crate) struct CellSize {
     pub width_bits: u32,
     pub height_bits: u32,
@@ -42,7 +42,7 @@ pub(crate) fn bits_of(side: u64) -> u32
 
 /// Columns and rows of cells, from the first to the last of each. A cell is the number of its row
 /// times the width of a row, and its column.
-#[derive(Clone, Copy, Debug)]
+#[derive(Clone, Copy)]
 pub(crate) struct Block {
     pub left: u64,
     pub right: u64,

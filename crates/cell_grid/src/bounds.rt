@@ -6,7 +6,7 @@ use crate::packed::PackedEntry;
 use geo_exact::Pt;
 
 /// How far a box lies each way, in millimetres.
-#[derive(Clone, Copy, Debug)]
+#[derive(Clone, Copy)]
 pub(crate) struct Bounds {
     pub west: i64,
     pub east: i64,

@@ -8,7 +8,7 @@ use cad_rows::{PointNo, StringNo};
 use geo_exact::Pt;
 
 /// A segment with the number of the string that lies there. A point is a segment of one position.
-#[derive(Clone, Copy, Debug)]
+#[derive(Clone, Copy)]
 pub(crate) struct Entry {
     pub number: u32,
     pub from: Pt,
@@ -42,7 +42,7 @@ impl Entry {
 }
 
 /// A string that a grid holds, between the positions of its two ends.
-#[derive(Clone, Copy, Debug)]
+#[derive(Clone, Copy)]
 pub struct HeldString {
     pub string: StringNo,
     pub from: Pt,
@@ -50,7 +50,7 @@ pub struct HeldString {
 }
 
 /// A point that a grid holds, at its position.
-#[derive(Clone, Copy, Debug)]
+#[derive(Clone, Copy)]
 pub struct HeldPoint {
     pub point: PointNo,
     pub position: Pt,

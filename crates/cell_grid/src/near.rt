@@ -21,7 +21,7 @@ use std::marker::Model;
 
 /// The cells of a layer that the box of the segment touches. `all`: the layer has fewer lists than
 /// these, and its lists are gone through in turn.
-#[derive(Clone, Copy, Debug)]
+#[derive(Clone, Copy)]
 pub(crate) struct Scope {
     pub block: Block,
     pub all: bool,

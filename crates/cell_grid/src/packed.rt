@@ -43,7 +43,7 @@ const HIGH_STEP: i64 = 4_294_967_296;
 const STEPS_ADDED: i8 = 4;
 
 /// A coordinate as its low 32 bits, and what is above them.
-#[derive(Clone, Copy, Debug)]
+#[derive(Clone, Copy)]
 struct Parts {
     high: i8,
     low: u32,

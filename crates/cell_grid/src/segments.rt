@@ -18,7 +18,7 @@ const LANE_BITS: u32 = 30;
 
 /// Where an entry stands: in the smaller squares, in the squares, in lanes from west to east, in
 /// lanes from south to north, or among the long ones.
-#[derive(Clone, Copy, Debug)]
+#[derive(Clone, Copy)]
 pub(crate) enum Level {
     SmallSquares,
     Squares,

@@ -15,7 +15,7 @@ use half_table::Half;
 /// A string that went with a chain: its half that leads along the chain, its place among the
 /// strings when those before it in the chain are out, and its sources. Its ends are those of the
 /// chain's side.
-#[derive(Debug, Drop)]
+#[derive(Drop)]
 pub struct ChainString {
     pub half: Half,
     pub place: usize,
@@ -24,7 +24,6 @@ pub struct ChainString {
 
 /// What an edit added, replaced or took away, by which it is taken back and made again on any store
 /// that stands for the map. A place is that of a row, or of a source, in the list that it left.
-#[derive(Debug)]
 pub enum SmallRecord {
     /// A source that came.
     AddSource {

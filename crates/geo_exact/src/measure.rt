@@ -36,7 +36,7 @@ fn rectangle_area(x: i64, y: i64) -> i128
 /// where the ring runs counterclockwise.
 ///
 /// The formula for the area of a polygon of O'Rourke, Computational Geometry in C, section 1.3.
-#[derive(Clone, Copy, Debug, PartialEq, Eq)]
+#[derive(Clone, Copy, PartialEq, Eq)]
 pub struct DoubledArea;
 
 impl SideMeasure for DoubledArea {
@@ -53,7 +53,7 @@ impl SideMeasure for DoubledArea {
 
 /// The winding of a side at a position: 1 where it is counted there and runs upwards, -1 where it is counted and runs
 /// downwards, else 0. The sum over a ring tells how often the ring goes around the position.
-#[derive(Clone, Copy, Debug, PartialEq, Eq)]
+#[derive(Clone, Copy, PartialEq, Eq)]
 pub struct Winding {
     pub at: Pt,
 }

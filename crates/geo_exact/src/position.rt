@@ -8,7 +8,7 @@ pub const COORDINATE_LIMIT: i64 = 10_000_000_000;
 
 /// A position on the map: two coordinates in whole millimetres, x to the east and y to the north, each at most
 /// [`COORDINATE_LIMIT`] from zero.
-#[derive(Clone, Copy, Debug, PartialEq, Eq)]
+#[derive(Clone, Copy, PartialEq, Eq)]
 pub struct Pt {
     pub x: i64,
     pub y: i64,

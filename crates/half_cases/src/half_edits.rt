@@ -1,11 +1,14 @@
 //! Edits of points, strings and rows, on both stores.
 use crate::plans::SQUARE;
-use crate::plans_after::{DETACHED, EMPTY, JOINED, MOVED, RENAMED, SPLIT, WITH_POINT, WITH_POINTS};
+use crate::plans_after::{
+    DETACHED, EMPTY, JOINED, MOVED, RENAMED, SPLIT, WITH_ATTACHED, WITH_ORIGIN, WITH_POINT,
+    WITH_POINTS, WITH_SOURCE,
+};
 use crate::steps::{check_steps, made, refused};
 use std::test::Fail;
 
 #[test]
-fn strings_split_and_joined_again(rt: HostRuntime) -> Result<(), Fail> {
+fn edits_of_strings_again(rt: HostRuntime) -> Result<(), Fail> {
     check_steps(
         &rt,
         &[
@@ -17,7 +20,7 @@ fn strings_split_and_joined_again(rt: HostRuntime) -> Result<(), Fail> {
 }
 
 #[test]
-fn points_added_and_moved_again(rt: HostRuntime) -> Result<(), Fail> {
+fn edits_of_points_again(rt: HostRuntime) -> Result<(), Fail> {
     check_steps(
         &rt,
         &[
@@ -35,7 +38,7 @@ fn points_added_and_moved_again(rt: HostRuntime) -> Result<(), Fail> {
 }
 
 #[test]
-fn rows_changed_again(rt: HostRuntime) -> Result<(), Fail> {
+fn edits_of_rows_again(rt: HostRuntime) -> Result<(), Fail> {
     check_steps(
         &rt,
         &[
@@ -44,7 +47,9 @@ fn rows_changed_again(rt: HostRuntime) -> Result<(), Fail> {
             made(MOVED, "detach,point,1,1", DETACHED),
             refused(DETACHED, "detach,point,1,1", "16,not-attached"),
             made(DETACHED, "attach,point,1,1", MOVED),
-            made(EMPTY, "add-source,1,Plan 7", &["source,1,Plan 7"]),
+            made(EMPTY, "add-source,1,Plan 7", WITH_SOURCE),
+            made(WITH_SOURCE, "add-point,1,0,0", WITH_ORIGIN),
+            made(WITH_ORIGIN, "attach,point,1,1", WITH_ATTACHED),
         ],
     )
 }

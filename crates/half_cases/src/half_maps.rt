@@ -1,7 +1,8 @@
 //! Maps on half-edges that are made of plain ones: what they show, and the halves of an island.
-ghost use Rattle.std.specs.Prelude.{◌≡◌, true};
+ghost use Rattle.std.specs.Prelude.{◌≡◌, true, IfOk};
 ghost use Rattle.cad_map.specs.Valid.{IsValid};
 ghost use Rattle.half_table.specs.Rows.{has};
+ghost use Rattle.map_parts.specs.Parts.{map_of as map_that_stands};
 
 use crate::plans::{ISLAND, PINCH, Plan, SQUARE, map_of, text_of};
 use cad_files::{area_text, outline_text, plan_text};
@@ -38,11 +39,22 @@ fn shown_by<M: MapView>(alloc: Global, map: &M) -> Result<Vec<u8>, Memory>
     Ok(text)
 }
 
+/// The map on half-edges of a plain map. Where a growth is refused, it is made again.
+fn make_again(alloc: Global, map: &PlainMap) -> Result<HalfMap<Ticks>, Memory>
+    requires { IsValid map.now }
+    ensures { IfOk result (λ made. map_that_stands made ≡ map.now) }
+{
+    match HalfMap::of(alloc, map, Ticks::new()) {
+        Ok(halves) => Ok(halves),
+        Err(_) => HalfMap::of(alloc, map, Ticks::new()),
+    }
+}
+
 /// What the map on half-edges of a plain map shows.
 fn shown_on_halves(alloc: Global, map: &PlainMap) -> Result<Vec<u8>, Memory>
     requires { IsValid map.now }
 {
-    let halves = HalfMap::of(alloc, map, Ticks::new())?;
+    let halves = make_again(alloc, map)?;
     shown_by(alloc, &halves)
 }
 
@@ -57,7 +69,7 @@ fn compare<R: Abort + AllocGlobal>(rt: &R, plan: Plan) -> Result<(), Fail> {
 }
 
 #[test]
-fn maps_of_worked_plans(rt: HostRuntime) -> Result<(), Fail> {
+fn maps_of_worked_plans_again(rt: HostRuntime) -> Result<(), Fail> {
     for plan in [SQUARE, ISLAND, PINCH] {
         compare(&rt, plan)?;
     }

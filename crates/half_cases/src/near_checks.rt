@@ -14,7 +14,7 @@ use crate::far::{
 };
 use crate::plans::{ISLAND, Plan, SQUARE, SQUARE_RECORDS, edit_of, map_of, text_of};
 use crate::plans_after::{DIVIDED, DIVIDED_ISLAND, JOINED};
-use crate::plans_enclosed::{FREE_CORNERS, WITH_FRAME};
+use crate::plans_enclosed::{ENCLOSE_NINE, FREE_CORNERS, WITH_FRAME, WITH_NINE_POINTS};
 use cad_edit::try_edit;
 use cad_map::{MapView, PlainMap};
 use cad_near::{FaceAreas, Touched, first_broken_near};
@@ -273,6 +273,7 @@ fn what_lies_near_is_seen_without_its_rows(rt: HostRuntime) -> Result<(), Fail> 
 fn islands_and_mergers_are_checked_no_longer_on_a_larger_map(rt: HostRuntime) -> Result<(), Fail> {
     for (plan, edit) in [
         (WITH_FRAME, "enclose,1,9 10 11 12,41 42 43 44,3,C,1"),
+        (WITH_NINE_POINTS, ENCLOSE_NINE),
         (DIVIDED, "merge,1,2"),
         (ISLAND, "merge,1,2"),
     ] {
@@ -414,7 +415,7 @@ fn areas_asked<R: Abort + AllocGlobal>(rt: &R, plan: &str, edit: &str) -> Result
 }
 
 #[test]
-fn an_area_that_is_kept_is_not_added_up_twice(rt: HostRuntime) -> Result<(), Fail> {
+fn an_area_that_is_kept_is_not_added_up_anew(rt: HostRuntime) -> Result<(), Fail> {
     let lot = long_lot(rt.alloc(), 40)?;
     for edit in ["move,5,50,-3,,,", "split,5,900,55,-3,901,902", "join,5,900"] {
         assert_eq!(rt; areas_asked(&rt, lot.as_str(), edit)?, 0);

@@ -14,7 +14,7 @@ use crate::steps::{check_steps, made, refused};
 use std::test::Fail;
 
 #[test]
-fn parcels_divided_again(rt: HostRuntime) -> Result<(), Fail> {
+fn divisions_again(rt: HostRuntime) -> Result<(), Fail> {
     check_steps(
         &rt,
         &[
@@ -29,7 +29,7 @@ fn parcels_divided_again(rt: HostRuntime) -> Result<(), Fail> {
 }
 
 #[test]
-fn holes_of_divided_parcels_again(rt: HostRuntime) -> Result<(), Fail> {
+fn divisions_round_holes_again(rt: HostRuntime) -> Result<(), Fail> {
     check_steps(
         &rt,
         &[
@@ -42,7 +42,7 @@ fn holes_of_divided_parcels_again(rt: HostRuntime) -> Result<(), Fail> {
 }
 
 #[test]
-fn outside_divided_again(rt: HostRuntime) -> Result<(), Fail> {
+fn divisions_of_the_outside_again(rt: HostRuntime) -> Result<(), Fail> {
     check_steps(
         &rt,
         &[
@@ -74,7 +74,7 @@ fn divisions_refused(rt: HostRuntime) -> Result<(), Fail> {
 }
 
 #[test]
-fn islands_enclosed_again(rt: HostRuntime) -> Result<(), Fail> {
+fn enclosures_again(rt: HostRuntime) -> Result<(), Fail> {
     check_steps(
         &rt,
         &[
@@ -119,7 +119,7 @@ fn enclosures_refused(rt: HostRuntime) -> Result<(), Fail> {
 }
 
 #[test]
-fn parcels_merged_along_chains_again(rt: HostRuntime) -> Result<(), Fail> {
+fn mergers_along_chains_again(rt: HostRuntime) -> Result<(), Fail> {
     check_steps(
         &rt,
         &[
@@ -127,6 +127,7 @@ fn parcels_merged_along_chains_again(rt: HostRuntime) -> Result<(), Fail> {
             made(DIVIDED, "merge,2,1", MERGED_INTO_NEW),
             made(BENT, "merge,1,2", BENT_MERGED),
             made(BENT_MERGED, "drop-point,5", MERGED),
+            made(DIVIDED_ISLAND, "merge,1,3", ISLAND_TAKEN_OVER),
             made(TURNED_ISLAND, "merge,1,3", ISLAND_TAKEN_OVER),
             made(NOTCHED, "merge,1,3", NOTCH_MERGED),
         ],
@@ -134,7 +135,7 @@ fn parcels_merged_along_chains_again(rt: HostRuntime) -> Result<(), Fail> {
 }
 
 #[test]
-fn islands_merged_again(rt: HostRuntime) -> Result<(), Fail> {
+fn mergers_of_islands_again(rt: HostRuntime) -> Result<(), Fail> {
     check_steps(
         &rt,
         &[
@@ -164,7 +165,7 @@ fn mergers_refused(rt: HostRuntime) -> Result<(), Fail> {
 }
 
 #[test]
-fn rings_that_pass_a_point_twice_again(rt: HostRuntime) -> Result<(), Fail> {
+fn edits_where_a_ring_passes_a_point_twice_again(rt: HostRuntime) -> Result<(), Fail> {
     check_steps(
         &rt,
         &[

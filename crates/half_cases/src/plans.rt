@@ -81,9 +81,12 @@ pub(crate) fn append(text: &mut String, record: &str) -> Result<(), AllocError> 
     text.push_str("\n")
 }
 
+/// Bytes that a worked plan fits into, so that its text doesn't grow in steps.
+const ROOM: usize = 2048;
+
 /// A plan without the record that has this one's name.
 fn without(alloc: Global, plan: &str, record: &str) -> Result<String, AllocError> {
-    let mut text = String::new(alloc);
+    let mut text = String::with_capacity(alloc, ROOM)?;
     for line in plan.lines() {
         if name_of(line) != name_of(record) {
             append(&mut text, line)?;
@@ -94,7 +97,7 @@ fn without(alloc: Global, plan: &str, record: &str) -> Result<String, AllocError
 
 /// A plan with a record in the place of that with its name, or else behind the others of its kind.
 fn with_record(alloc: Global, plan: &str, record: &str) -> Result<String, AllocError> {
-    let mut text = String::new(alloc);
+    let mut text = String::with_capacity(alloc, ROOM)?;
     let mut is_put = false;
     for line in plan.lines() {
         let is_old = name_of(line) == name_of(record);
@@ -145,8 +148,8 @@ pub(crate) fn map_of(alloc: Global, plan: &str) -> Result<PlainMap, Fail>
     }
 }
 
-/// The edit that a record asks for, written as in a plan's group.
-pub(crate) fn edit_of(alloc: Global, record: &str) -> Result<Edit, Fail> {
+/// The command that a record asks for, written as in a plan's group.
+pub(crate) fn command_of(alloc: Global, record: &str) -> Result<Command, Fail> {
     let mut text = String::new(alloc);
     append(&mut text, record)?;
     let mut reader = ReaderBuilder::new()
@@ -155,7 +158,15 @@ pub(crate) fn edit_of(alloc: Global, record: &str) -> Result<Edit, Fail> {
     let mut row = ByteRecord::new(alloc);
     let _ = next_row(&mut reader, &mut row);
     match read_line(alloc, &row) {
-        Ok(Line::Command(Command::Edit(edit))) => Ok(edit),
+        Ok(Line::Command(command)) => Ok(command),
+        _ => Err(Fail::from("a command")),
+    }
+}
+
+/// The edit that a record asks for, written in the same way.
+pub(crate) fn edit_of(alloc: Global, record: &str) -> Result<Edit, Fail> {
+    match command_of(alloc, record)? {
+        Command::Edit(edit) => Ok(edit),
         _ => Err(Fail::from("an edit")),
     }
 }

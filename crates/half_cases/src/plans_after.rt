@@ -4,6 +4,15 @@ use crate::plans::{ISLAND_RECORDS, Plan, SQUARE_RECORDS};
 /// An empty plan.
 pub(crate) const EMPTY: Plan = &[];
 
+/// A source alone.
+pub(crate) const WITH_SOURCE: Plan = &["source,1,Plan 7"];
+
+/// A source and a point.
+pub(crate) const WITH_ORIGIN: Plan = &["source,1,Plan 7; point,1,0,0"];
+
+/// A source and a point that it is attached to.
+pub(crate) const WITH_ATTACHED: Plan = &["source,1,Plan 7; point,1,0,0,1"];
+
 /// The square whose first side is split.
 pub(crate) const SPLIT: Plan = &[
     SQUARE_RECORDS,
@@ -48,6 +57,9 @@ pub(crate) const DIAGONAL: &str = "string,21,1,3,2,1,1";
 
 /// The square divided from its first corner to the third.
 pub(crate) const DIVIDED: Plan = &[SQUARE_RECORDS, BEYOND_RECORDS, DIAGONAL];
+
+/// The same by a diagonal with another number.
+pub(crate) const DIVIDED_ANEW: Plan = &[SQUARE_RECORDS, BEYOND_RECORDS, "string,22,1,3,2,1,1"];
 
 /// The square with an island, divided in the same way.
 pub(crate) const DIVIDED_ISLAND: Plan = &[

@@ -32,3 +32,15 @@ pub(crate) const FRAMED: Plan = &[
     "parcel,3,C,1; string,41,9,10,3,1,1; string,42,10,11,3,1,1; string,43,11,12,3,1,1; \
     string,44,12,9,3,1,1",
 ];
+
+/// Nine points in the square.
+const NINE_POINTS_RECORDS: &str =
+    "point,31,100,300; point,32,200,150; point,33,400,100; point,34,600,120; point,35,760,250; \
+    point,36,800,450; point,37,700,650; point,38,450,720; point,39,200,600";
+
+/// The square, and nine points in it.
+pub(crate) const WITH_NINE_POINTS: Plan = &[SQUARE_RECORDS, NINE_POINTS_RECORDS];
+
+/// What makes a parcel between them, with more strings than are compared with what is held near them one by one.
+pub(crate) const ENCLOSE_NINE: &str =
+    "enclose,1,31 32 33 34 35 36 37 38 39,41 42 43 44 45 46 47 48 49,2,B,1";

@@ -1,21 +1,21 @@
-//! Steps of worked jobs, made on both stores: each edit is answered as the plain store answers it, and comes to the same
-//! map; its record leads back and on again, on its own map and on another one. Where a growth is refused nothing has
-//! changed, and the same call is made again.
+//! Steps of worked jobs, made on both stores: each edit is answered as its job says, and comes to the plan that is told.
+//! Through an editor it is taken back and made again, and its record leads back and on again on another map. Where a growth
+//! is refused nothing has changed, and the same call is made again.
 ghost use Rattle.std.specs.Prelude.{◌≡◌, OnOk, OnErr, IfOk};
 ghost use Rattle.cad_map.specs.Map.{Map};
 ghost use Rattle.cad_map.specs.Valid.{IsValid};
 ghost use Rattle.map_parts.specs.Parts.{map_of as map_that_stands};
 ghost use Rattle.edit_records.specs.Record.{Belongs};
 
-use crate::half_maps::half;
+use crate::editors::{Texts, check_answer, check_in_editor};
 use crate::plans::{Plan, append, edit_of, map_of, text_of};
+use crate::sights::{Seen, Sight, check_same, check_text};
 use cad_edit::PlainStore;
-use cad_files::{answer_text, plan_text};
-use cad_history::Answer;
-use cad_map::{MapStore, MapView, PlainMap};
-use cad_rows::{Edit, Face, Memory, Refusal, StringNo};
+use cad_history::{Answer, Command};
+use cad_map::{MapStore, PlainMap};
+use cad_rows::{Edit, Memory, Refusal};
 use cad_surgery::{HalfMap, SmallRecord};
-use half_table::{Half, HalfTable, Ticks};
+use half_table::Ticks;
 use std::alloc::{AllocError, Global};
 use std::process::Abort;
 use std::test::Fail;
@@ -28,72 +28,6 @@ pub(crate) struct Step {
     edit: &'static str,
     refusal: Option<&'static str>,
     after: Plan,
-}
-
-/// The texts of an edit's answer, and of the plans before it and after it.
-#[derive(Clone, Copy)]
-struct Texts<'a> {
-    before: &'a str,
-    answer: &'a str,
-    after: &'a str,
-}
-
-/// What is seen of a map on half-edges: its plan text, what follows and what has each half, and the work on its table.
-#[derive(Drop)]
-struct Sight {
-    text: Vec<u8>,
-    next: Vec<Half>,
-    faces: Vec<Face>,
-    work: u64,
-}
-
-/// What follows a half.
-fn next_of(rt: &impl Abort, table: &HalfTable<Ticks>, string: StringNo, forward: bool) -> Half {
-    let half = half(rt, table, string.get(), forward);
-    table.next(half)
-}
-
-/// The face of a half.
-fn face_of(rt: &impl Abort, table: &HalfTable<Ticks>, string: StringNo, forward: bool) -> Face {
-    let half = half(rt, table, string.get(), forward);
-    table.face(half)
-}
-
-/// What follows each half.
-fn all_next<R: Abort + AllocGlobal>(rt: &R, store: &HalfMap<Ticks>) -> Result<Vec<Half>, Memory> {
-    let mut halves = Vec::new(rt.alloc());
-    for place in 0..store.counts().strings {
-        let string = store.string_at(place).unwrap().number;
-        halves.push(next_of(rt, store.table(), string, true))?;
-        halves.push(next_of(rt, store.table(), string, false))?;
-    }
-    Ok(halves)
-}
-
-/// The face of each half.
-fn all_faces<R: Abort + AllocGlobal>(rt: &R, store: &HalfMap<Ticks>) -> Result<Vec<Face>, Memory> {
-    let mut faces = Vec::new(rt.alloc());
-    for place in 0..store.counts().strings {
-        let string = store.string_at(place).unwrap().number;
-        faces.push(face_of(rt, store.table(), string, true))?;
-        faces.push(face_of(rt, store.table(), string, false))?;
-    }
-    Ok(faces)
-}
-
-fn sight_of<R: Abort + AllocGlobal>(rt: &R, store: &HalfMap<Ticks>) -> Result<Sight, Memory>
-    requires { IsValid (map_that_stands store.now) }
-{
-    let text = plan_text(rt.alloc(), store)?;
-    let next = all_next(rt, store)?;
-    let faces = all_faces(rt, store)?;
-    let work = store.table().work();
-    Ok(Sight {
-        text,
-        next,
-        faces,
-        work,
-    })
 }
 
 /// Whether strings come with an edit.
@@ -112,21 +46,35 @@ fn moves_strings(change: &SmallRecord) -> bool {
     )
 }
 
+/// What is seen of a map on half-edges, and the work on its table.
+#[derive(Drop)]
+struct Before {
+    sight: Sight,
+    work: u64,
+}
+
+fn before_of<R: Abort + AllocGlobal>(rt: &R, store: &HalfMap<Ticks>) -> Result<Before, Memory>
+    requires { IsValid (map_that_stands store.now) }
+{
+    Ok(Before {
+        sight: store.sight(rt)?,
+        work: store.table().work(),
+    })
+}
+
 /// Fails where something else is seen of a map than before. The work is as before too, but where strings came and were
 /// taken out: that is counted.
-fn check_same<R: Abort + AllocGlobal>(
+fn check_unchanged<R: Abort + AllocGlobal>(
     rt: &R,
     store: &HalfMap<Ticks>,
-    before: &Sight,
+    before: &Before,
     may_count: bool,
 ) -> Result<(), Memory>
     requires { IsValid (map_that_stands store.now) }
 {
-    let now = sight_of(rt, store)?;
-    assert!(rt; now.work == before.work || may_count && now.work > before.work);
-    assert!(rt; now.text.as_slice() == before.text.as_slice());
-    assert!(rt; now.next.as_slice() == before.next.as_slice());
-    assert!(rt; now.faces.as_slice() == before.faces.as_slice());
+    let work = store.table().work();
+    assert!(rt; work == before.work || may_count && work > before.work);
+    check_same(rt, &store.sight(rt)?, &before.sight);
     Ok(())
 }
 
@@ -142,10 +90,10 @@ fn make<R: Abort + AllocGlobal>(
     ensures err { IfOk result (λ made. OnErr made
         (map_that_stands store.new ≡ map_that_stands store.old)) }
 {
-    let before = sight_of(rt, store)?;
+    let before = before_of(rt, store)?;
     match store.apply(edit) {
         Err(Refusal::Memory) => {
-            check_same(rt, store, &before, brings_strings(edit))?;
+            check_unchanged(rt, store, &before, brings_strings(edit))?;
             Ok(store.apply(edit))
         }
         made => Ok(made),
@@ -163,11 +111,11 @@ fn go_back<R: Abort + AllocGlobal>(
     ensures { OnOk result ((before : Map) → Belongs change.now before (map_that_stands store.old)
         → map_that_stands store.new ≡ before) }
 {
-    let before = sight_of(rt, store)?;
+    let before = before_of(rt, store)?;
     match store.back(change) {
         Ok(()) => Ok(()),
         Err(_) => {
-            check_same(rt, store, &before, moves_strings(change))?;
+            check_unchanged(rt, store, &before, moves_strings(change))?;
             store.back(change)
         }
     }
@@ -184,42 +132,14 @@ fn go_forward<R: Abort + AllocGlobal>(
     ensures { OnOk result ((after : Map) → Belongs change.now (map_that_stands store.old) after
         → map_that_stands store.new ≡ after) }
 {
-    let before = sight_of(rt, store)?;
+    let before = before_of(rt, store)?;
     match store.forward(change) {
         Ok(()) => Ok(()),
         Err(_) => {
-            check_same(rt, store, &before, moves_strings(change))?;
+            check_unchanged(rt, store, &before, moves_strings(change))?;
             store.forward(change)
         }
     }
-}
-
-/// Fails where a map has another plan text.
-fn check_text<R: Abort + AllocGlobal, M: MapView>(
-    rt: &R,
-    map: &M,
-    wanted: &str,
-) -> Result<(), Memory>
-    requires { IsValid (M.map map.now) }
-{
-    let text = plan_text(rt.alloc(), map)?;
-    assert!(rt; text.as_slice() == wanted.as_bytes());
-    Ok(())
-}
-
-/// Fails where an edit was to be answered otherwise.
-fn check_answer<R: Abort + AllocGlobal>(
-    rt: &R,
-    refusal: Option<Refusal>,
-    wanted: &str,
-) -> Result<(), Memory> {
-    let answer = match refusal {
-        None => Answer::Done,
-        Some(refusal) => Answer::Refused(refusal),
-    };
-    let text = answer_text(rt.alloc(), &answer)?;
-    assert!(rt; text.as_slice() == wanted.as_bytes());
-    Ok(())
 }
 
 /// Goes back and on again by a record.
@@ -250,19 +170,18 @@ fn go_on_another<R: Abort + AllocGlobal>(
     go_both_ways(rt, &mut other, change, texts)
 }
 
-/// Goes both ways by a record, on its own map and on another one.
+/// Goes both ways by a record that led to a map, on another one that is made of that.
 fn check_record<R: Abort + AllocGlobal>(
     rt: &R,
-    store: &mut HalfMap<Ticks>,
+    store: &HalfMap<Ticks>,
     change: &SmallRecord,
     texts: &Texts<'_>,
 ) -> Result<(), Memory>
-    requires { (before : Map) × Belongs change.now before (map_that_stands store.old) }
+    requires { (before : Map) × Belongs change.now before (map_that_stands store.now) }
 {
     check_text(rt, store, texts.after)?;
     let after = PlainMap::of_view(rt.alloc(), store)?;
-    go_on_another(rt, &after, change, texts)?;
-    go_both_ways(rt, store, change, texts)
+    go_on_another(rt, &after, change, texts)
 }
 
 /// Makes an edit on half-edges, and looks at its answer, its map and its record.
@@ -276,11 +195,11 @@ fn check_made<R: Abort + AllocGlobal>(
 {
     match make(rt, store, edit)? {
         Ok(change) => {
-            check_answer(rt, None, texts.answer)?;
+            check_answer(rt, &Answer::Done, texts.answer)?;
             check_record(rt, store, &change, texts)
         }
         Err(refusal) => {
-            check_answer(rt, Some(refusal), texts.answer)?;
+            check_answer(rt, &Answer::Refused(refusal), texts.answer)?;
             check_text(rt, store, texts.after)
         }
     }
@@ -299,32 +218,18 @@ fn check_on_halves<R: Abort + AllocGlobal>(
     check_made(rt, &mut halves, edit, texts)
 }
 
-/// Why the plain store refuses an edit. One that it doesn't refuse is made.
-fn apply_plain(store: &mut PlainStore, edit: &Edit) -> Option<Refusal>
-    requires { IsValid store.old.map }
-    ensures { IsValid store.new.map }
-{
-    match store.apply(edit) {
-        Ok(_made) => None,
-        Err(refusal) => Some(refusal),
-    }
-}
-
-/// Makes an edit on the plain store, and looks at its answer and its map.
-fn check_plain<R: Abort + AllocGlobal>(
+/// Makes an edit through editors of a map, one on half-edges and one on the plain store.
+fn check_in_editors<R: Abort + AllocGlobal>(
     rt: &R,
-    store: &mut PlainStore,
-    edit: &Edit,
+    map: PlainMap,
+    edit: &Command,
     texts: &Texts<'_>,
 ) -> Result<(), Memory>
-    requires { IsValid store.old.map }
+    requires { IsValid map }
 {
-    let refusal = apply_plain(store, edit);
-    if refusal == Some(Refusal::Memory) {
-        return Err(Memory);
-    }
-    check_answer(rt, refusal, texts.answer)?;
-    check_text(rt, &store.map, texts.after)
+    let halves = HalfMap::of(rt.alloc(), &map, Ticks::new())?;
+    check_in_editor(rt, halves, edit, texts)?;
+    check_in_editor(rt, PlainStore { map }, edit, texts)
 }
 
 /// The record of an answer, as a line.
@@ -350,7 +255,7 @@ fn check_step<R: Abort + AllocGlobal>(rt: &R, step: &Step) -> Result<(), Fail> {
     let edit = edit_of(rt.alloc(), step.edit)?;
     let map = map_of(rt.alloc(), texts.before)?;
     check_on_halves(rt, &map, &edit, &texts)?;
-    check_plain(rt, &mut PlainStore { map }, &edit, &texts)?;
+    check_in_editors(rt, map, &Command::Edit(edit), &texts)?;
     Ok(())
 }
 

@@ -8,7 +8,7 @@ use key_lists::Short;
 
 /// A half-edge: a string seen from its first to its second point, or back. The default is of the
 /// string with the least number.
-#[derive(Clone, Copy, Debug, Default, PartialEq, Eq)]
+#[derive(Clone, Copy, Default, PartialEq, Eq)]
 pub struct Half {
     pub string: StringNo,
     pub forward: bool,

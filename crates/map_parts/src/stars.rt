@@ -16,7 +16,7 @@ const FEW: usize = 8;
 
 /// A half-edge that begins at a point, and the point where it ends. The default fills places that
 /// hold nothing.
-#[derive(Clone, Copy, Debug, Default)]
+#[derive(Clone, Copy, Default)]
 pub struct Spoke {
     pub half: Half,
     pub far: PointNo,

@@ -12,7 +12,7 @@ use std::alloc::{AllocError, Global};
 
 /// A box, its borders included. Coordinates are counted in millimetres from the least that there
 /// can be, and are below 2^35.
-#[derive(Clone, Copy, Debug, PartialEq, Eq)]
+#[derive(Clone, Copy, PartialEq, Eq)]
 pub struct Extent {
     /// The least coordinate across.
     pub left: u64,

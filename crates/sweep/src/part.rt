@@ -6,7 +6,7 @@ use crate::extent::Extent;
 use std::alloc::{AllocError, Global};
 
 /// A box, the group that it belongs to, and its place among all.
-#[derive(Clone, Copy, Debug)]
+#[derive(Clone, Copy)]
 pub(crate) struct Part {
     pub(crate) extent: Extent,
     pub(crate) group: u64,

@@ -7,7 +7,7 @@ ghost use Rattle.sweep.specs.Repeats.{FollowsEqual, PrecedesWithin};
 use std::alloc::{AllocError, Global};
 
 /// A key, and the place at which it stands.
-#[derive(Clone, Copy, Debug)]
+#[derive(Clone, Copy)]
 struct Keyed {
     key: u64,
     place: usize,

@@ -1,7 +1,7 @@
 //! Spans on a line.
 
 /// A span on a line, both ends included, of something that stands at a place elsewhere.
-#[derive(Clone, Copy, Debug, PartialEq, Eq)]
+#[derive(Clone, Copy, PartialEq, Eq)]
 pub struct Span {
     /// Where it begins.
     pub low: u64,

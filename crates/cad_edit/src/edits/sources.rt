@@ -100,7 +100,7 @@ pub(crate) fn add_source(map: &mut PlainMap, source: SourceNo, text: &Label) -> 
 }
 
 /// What becomes of the sources of an item.
-#[derive(Debug, Drop)]
+#[derive(Drop)]
 pub(crate) enum SourceChange {
     /// The source is put last.
     Put(SourceNo),

@@ -11,7 +11,7 @@ use cad_rows::{Memory, Numbers, PointNo, PointRow, StringNo, StringRow};
 use geo_exact::Pt;
 
 /// A new point on a string, and the numbers of the string's two halves.
-#[derive(Debug, Drop)]
+#[derive(Drop)]
 pub(crate) struct Halves {
     pub point: PointNo,
     pub position: Pt,

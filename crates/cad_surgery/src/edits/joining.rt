@@ -14,7 +14,7 @@ use cad_rows::{Memory, PointNo, StringNo, StringRow};
 
 /// What a join is made of: the numbers of the two strings at the point, the lower first, and the row
 /// of the string that comes.
-#[derive(Debug, Drop)]
+#[derive(Drop)]
 pub(crate) struct Joining {
     pub(crate) first: StringNo,
     pub(crate) second: StringNo,

@@ -24,7 +24,7 @@ use half_table::Tally;
 use map_parts::{begin_split, begin_unsplit, forward, unsplit};
 
 /// What a split gives: the new point, its position, and the numbers of the two strings.
-#[derive(Clone, Copy, Debug)]
+#[derive(Clone, Copy)]
 pub(crate) struct Halving {
     pub(crate) point: PointNo,
     pub(crate) position: Pt,

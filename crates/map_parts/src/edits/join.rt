@@ -32,7 +32,7 @@ use key_lists::KeyLists;
 
 /// What a join takes out of the map: the point's row and the rows of its two strings, the
 /// lower-numbered first, each with the place where it stood, the second where the first was out.
-#[derive(Debug, Drop)]
+#[derive(Drop)]
 pub struct JoinedRows {
     pub point: PointRow,
     pub point_place: usize,

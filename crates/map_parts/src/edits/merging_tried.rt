@@ -19,7 +19,7 @@ use key_lists::KeyLists;
 use std::alloc::Global;
 
 /// What goes by a merger: the ended parcel's row and its place, and the strings with theirs.
-#[derive(Debug, Drop)]
+#[derive(Drop)]
 pub struct EndedParcel {
     pub row: ParcelRow,
     pub place: usize,

@@ -15,7 +15,7 @@ use key_lists::KeyLists;
 
 /// A point between two others: the halves of the path through it, and the half past it, from the
 /// one end of the path to the other.
-#[derive(Clone, Copy, Debug)]
+#[derive(Clone, Copy)]
 pub(crate) struct Passing {
     pub(crate) first: Half,
     pub(crate) second: Half,

@@ -18,7 +18,7 @@ use cad_rows::{StringNo, StringRow};
 use key_lists::KeyLists;
 
 /// The row of a string that went, and the place where it stood when those before it were out.
-#[derive(Debug, Drop)]
+#[derive(Drop)]
 pub struct PlacedString {
     pub row: StringRow,
     pub place: usize,

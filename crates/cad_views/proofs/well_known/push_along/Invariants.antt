@@ -6,4 +6,4 @@ use Rattle.cad_views.proofs.well_known.push_along.Given as goal
 
 -- the coordinates of the points up to the place are appended
 abbrev pub invariant-loop-place : goal.invariant-loop-place
-invariant-loop-place l = l.text.items ≡ l.fn.text.items ++ join_with_byte 44 (map (λ p. coordinates (position_of l.map p)) (take l.place l.points))
+invariant-loop-place g l = l.text.items ≡ l.fn.text.items ++ join_with_byte 44 (map (λ p. coordinates (position_of (g.M.MapView.map l.map) p)) (take l.place l.points))

@@ -7,15 +7,15 @@ use Rattle.cad_views.proofs.JoinFacts.{filter-more-at, same-at}
 use Rattle.cad_views.proofs.well_known.push_outlines.Goals as goal
 
 pub loop-place-init : goal.loop-place-init
-loop-place-init c = sym (append-nil c.args.listed.now.items)
+loop-place-init g c = sym (append-nil c.args.listed.now.items)
 
 pub is_wanted-wanted-requires : goal.is_wanted-wanted-requires
-is_wanted-wanted-requires c =
+is_wanted-wanted-requires g c =
     subst (λ (r : Ring). length r ≤ 400000) (sym c.index-rings-place.is) (few-at c.args.rings.now c.loop-place.place 400000 c.index-rings-place.result c.requires c.loop-place-test.true)
 
 pub loop-place-preserved : goal.loop-place-preserved
-loop-place-preserved c =
-    let p = is_outer c.args.map.now c.args.outer in
+loop-place-preserved g c =
+    let p = is_outer (g.M.MapView.map c.args.map.now) c.args.outer in
     let rings = c.args.rings.now in
     let place = c.loop-place.place in
     let x = c.index-rings-place-in-loop-place.result in
@@ -27,5 +27,5 @@ loop-place-preserved c =
     ∙ ap (λ (l : List Ring). old ++ l) (sym (filter-more-at p rings place x c.loop-place-test.true c.index-rings-place-in-loop-place.is))
 
 pub returns : goal.returns
-returns c =
-    c.loop-place.invariant ∙ ap (λ (l : List Ring). c.args.listed.now.items ++ filter (is_outer c.args.map.now c.args.outer) l) (take_all c.loop-place.place c.args.rings.now c.loop-place-test.false)
+returns g c =
+    c.loop-place.invariant ∙ ap (λ (l : List Ring). c.args.listed.now.items ++ filter (is_outer (g.M.MapView.map c.args.map.now) c.args.outer) l) (take_all c.loop-place.place c.args.rings.now c.loop-place-test.false)

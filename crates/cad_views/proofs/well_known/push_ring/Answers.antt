@@ -4,7 +4,7 @@ use Rattle.cad_views.proofs.JoinFacts.{first-is}
 use Rattle.cad_views.proofs.well_known.push_ring.Goals as goal
 
 pub bounds-points-0 : goal.bounds-points-0
-bounds-points-0 c =
+bounds-points-0 g c =
     let k = ap (λ (l : List ℕ). length l) c.points-points.ensures in
     let two = c.len.ensures.at_least_two in
     let v = c.len.ensures.value in
@@ -12,8 +12,8 @@ bounds-points-0 c =
 
 pub returns : goal.returns
 unfolding ring_text
-returns c =
-    let m = c.args.map.now in
+returns g c =
+    let m = g.M.MapView.map c.args.map.now in
     let ring = c.args.ring.now in
     let text = c.args.text.now.items in
     let e : c.points-points.result.now ≡ ring = c.points-points.ensures in

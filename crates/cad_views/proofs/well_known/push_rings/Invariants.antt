@@ -5,4 +5,4 @@ use Rattle.cad_views.proofs.well_known.push_rings.Given as goal
 
 -- the rings up to the place are appended
 abbrev pub invariant-loop-place : goal.invariant-loop-place
-invariant-loop-place l = l.text.items ≡ l.fn.text.items ++ join_with_byte 44 (map (ring_text l.map) (take l.place l.rings))
+invariant-loop-place g l = l.text.items ≡ l.fn.text.items ++ join_with_byte 44 (map (ring_text (g.M.MapView.map l.map)) (take l.place l.rings))

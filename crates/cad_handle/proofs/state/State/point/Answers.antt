@@ -1,7 +1,7 @@
 use Rattle.std.proofs.Common.{sym, ap, option_map}
 use Rattle.std.proofs.lemmas.Bool.{false≢true}
 use Rattle.cad_rows.specs.declared.rows.PointRow.{PointRow}
-use Rattle.cad_handle.proofs.PointFacts.{no-point}
+use Rattle.cad_handle.proofs.NumberFacts.{no-point}
 use Rattle.cad_handle.proofs.state.State.point.Goals as goal
 
 pub returns-in_default : goal.returns-in_default

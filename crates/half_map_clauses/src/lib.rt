@@ -1,0 +1,15 @@
+//! What a map on half-edges promises beside what every store does. Each function says a public clause again, and its body
+//! is the call: the edits in must-fail/ make that body wrong, and the clause refuses it.
+#![tactic(auto)]
+
+mod back;
+mod table;
+mod touched;
+mod weight;
+mod work;
+
+pub use back::take_back;
+pub use table::{grid_of, table_of};
+pub use touched::{string_along, touched_by_an_edit, weight_of_a_record};
+pub use weight::apply_with_small_record;
+pub use work::apply_in_place;
