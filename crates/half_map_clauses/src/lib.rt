@@ -4,12 +4,10 @@
 
 mod back;
 mod table;
-mod touched;
 mod weight;
 mod work;
 
 pub use back::take_back;
-pub use table::{grid_of, table_of};
-pub use touched::{string_along, touched_by_an_edit, weight_of_a_record};
-pub use weight::apply_with_small_record;
+pub use table::table_of;
+pub use weight::{apply_with_small_record, weight_of_a_record};
 pub use work::apply_in_place;

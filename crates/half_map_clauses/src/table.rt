@@ -1,10 +1,8 @@
-//! The table of half-edges and the grid are the map's.
-ghost use Rattle.edit_records.specs.Gridded.{IsGridOf};
+//! The table of half-edges is the map's.
 ghost use Rattle.map_parts.specs.Parts.{map_of, kept_at};
 ghost use Rattle.cad_surgery.specs.Proper.{IsProper};
 
 use cad_surgery::HalfMap;
-use cell_grid::CellGrid;
 use half_table::{HalfTable, Tally};
 
 /// The table of half-edges of a map, also where another is at hand, as an empty one.
@@ -12,11 +10,4 @@ pub fn table_of<'a, T: Tally>(map: &'a HalfMap<T>, _aside: &'a HalfTable<T>) -> 
     ensures { IsProper (map_of map.now) result.now.rows (kept_at map.now) }
 {
     map.table()
-}
-
-/// The grid of a map's strings and points, also where another is at hand.
-pub fn grid_of<'a, T: Tally>(map: &'a HalfMap<T>, _aside: &'a CellGrid) -> &'a CellGrid
-    ensures { IsGridOf result.now (map_of map.now) }
-{
-    map.grid()
 }

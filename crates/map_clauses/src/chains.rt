@@ -1,10 +1,10 @@
 //! What two faces have in common.
-ghost use Rattle.std.specs.Prelude.{◌≡◌, [], not, ◌==◌, length, IfSome, IfNone};
+ghost use Rattle.std.specs.Prelude.{◌≡◌, [], IfSome, IfNone};
 ghost use Rattle.cad_map.specs.Merger.{is_shared as is_shared_of, shared_chains};
 ghost use Rattle.cad_map.specs.SharedChains.{IsSharedChain};
 ghost use Rattle.cad_map.specs.Valid.{IsValid};
 
-use cad_map::{MapView, SharedChain, find_shared_chain, has_shared_chain, is_shared};
+use cad_map::{MapView, SharedChain, find_shared_chain, is_shared};
 use cad_rows::{Face, StringRow};
 
 /// The one chain or the one ring that two faces have in common, and `None` where it is neither.
@@ -14,14 +14,6 @@ pub fn one_shared_chain<M: MapView>(map: &M, kept: &Face, ended: &Face) -> Optio
     ensures none { IfNone result (shared_chains (M.map map.now) kept.now ended.now ≡ []) }
 {
     find_shared_chain(map, kept, ended)
-}
-
-/// Whether what two faces have in common is one chain, with more sides on both rings, or just one ring.
-pub fn has_one_shared_chain<M: MapView>(map: &M, kept: &Face, ended: &Face) -> bool
-    requires { IsValid (M.map map.now) }
-    ensures { result ≡ not (length (shared_chains (M.map map.now) kept.now ended.now) == 0) }
-{
-    has_shared_chain(map, kept, ended)
 }
 
 /// Whether a string lies between two faces.

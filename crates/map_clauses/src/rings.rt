@@ -1,32 +1,15 @@
-//! The rings of a face.
-ghost use Rattle.std.specs.Prelude.{◌≡◌, map as map_of, is_some, IfSome, IfOk};
-ghost use Rattle.cad_map.specs.Map.{rings_at, has_face};
-ghost use Rattle.cad_map.specs.Outline.{outline_of};
-ghost use Rattle.cad_map.specs.Valid.{IsValid};
+//! A ring, written from another of its points on.
+ghost use Rattle.std.specs.Prelude.{◌≡◌, ◌≤◌, ◌<◌, length, slice_index};
+ghost use Rattle.cad_rings.specs.Cycle.{turned};
 
-use cad_map::{Boundary, MapView, PlainMap};
 use cad_rings::Ring;
-use cad_rows::{Face, Memory};
-use std::alloc::Global;
+use cad_rows::PointNo;
 
-/// The rings of a face: the one around it first, and then those around its holes. `None` for an unknown parcel, and an
-/// error where memory runs out.
-pub fn outline_of_a_face<M: MapView>(
-    alloc: Global,
-    map: &M,
-    face: Face,
-) -> Result<Option<Vec<Ring>>, Memory>
-    requires { IsValid (M.map map.now) }
-    ensures some { IfOk result
-        (λ told. IfSome told (λ rings. rings.items ≡ outline_of (M.map map.now) face)) }
-    ensures known { IfOk result (λ told. is_some told ≡ has_face (M.map map.now) face) }
+/// The point at a place of a ring as it is written from another place on.
+pub fn point_of_a_turned_ring(ring: &Ring, start: usize, place: usize) -> PointNo
+    requires start { start ≤ length ring.now }
+    requires place { place < length ring.now }
+    ensures { result ≡ slice_index (turned start ring.now) place }
 {
-    map.outline(alloc, face)
-}
-
-/// The rings of a face, in the order of all rings.
-pub fn run_of_a_face(map: &PlainMap, face: Face) -> &[Boundary]
-    ensures { map_of (λ b. b.ring) result.now ≡ rings_at face map.now.boundaries }
-{
-    map.run_of(face)
+    ring.turned_at(start, place)
 }

@@ -5,5 +5,5 @@
 mod everywhere;
 mod near;
 
-pub use everywhere::{first_broken_anywhere, first_broken_by_sorts};
+pub use everywhere::first_broken_anywhere;
 pub use near::first_broken_near_an_edit;
