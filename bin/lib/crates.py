@@ -2,29 +2,39 @@
 from __future__ import annotations
 
 import os
-from collections.abc import Iterator
+from collections.abc import Iterable
 
 TOP = os.path.dirname(os.path.dirname(os.path.dirname(os.path.realpath(__file__))))
 PARTS = ('src', 'specs', 'proofs')
 Crates = dict[str, list[str]]
 
 
+def named_in(text: str) -> Crates:
+    """Each crate of the text of a crates.txt, with all that its line names, libraries of the kit too."""
+    lines = (line.split('#')[0].partition(':') for line in text.splitlines())
+    return {name.split()[0]: below.split() for name, colon, below in lines if colon}
+
+
 def crates_of(path: str) -> Crates:
     """Each crate of a crates.txt, with those of this repository that it names."""
-    named: Crates = {}
     with open(path, encoding='utf-8') as file:
-        for line in file:
-            name, colon, below = line.split('#')[0].partition(':')
-            if colon:
-                named[name.split()[0]] = below.split()
+        named = named_in(file.read())
     return {name: [it for it in below if it in named] for name, below in named.items()}
 
 
-def with_below(names: list[str], crates: Crates) -> Iterator[str]:
-    """The crates with all below them, lower ones first, some more than once."""
+def with_below(names: Iterable[str], crates: Crates) -> list[str]:
+    """These crates and all below them, each once, and lower ones first."""
+    ordered: dict[str, None] = {}
+
+    def put(name: str) -> None:
+        if name not in ordered:
+            for below in crates[name]:
+                put(below)
+            ordered[name] = None
+
     for name in names:
-        yield from with_below(crates[name], crates)
-        yield name
+        put(name)
+    return list(ordered)
 
 
 def work_of(name: str) -> int:
