@@ -1,0 +1,5 @@
+//! The journal of a map file, as tests, in a store that memory holds. What is expected was worked out by hand.
+#![tactic(auto)]
+
+#[cfg(test)]
+mod journals;
