@@ -46,6 +46,6 @@ pub use plan::read_plan;
 pub use plan_map::{build, build_of};
 pub use plan_records::{ParcelRecord, PlanRecord, PointRecord, StringRecord, Version};
 pub use plan_texts::{face_number, one_plan, plan_text, plans_again};
-pub use rows::{PlanRows, PlanString};
+pub use rows::{PlanRow, PlanRows, PlanString};
 pub use sink::{MemSink, Sink, SinkFault, write_all};
 pub use writing::{finished, write_record, writer};

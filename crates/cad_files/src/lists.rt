@@ -1,10 +1,11 @@
 //! Lists of numbers in a field.
-ghost use Rattle.std.specs.Prelude.{◌≡◌, ◌<◌, ◌==◌, ◌∷◌, [], length, is_some, None, Some, IfOk, MatchOption, if◌then◌else◌};
+ghost use Rattle.std.specs.Prelude.{◌≡◌, ◌↔◌, IsTrue, ◌<◌, ◌==◌, ◌∷◌, [], length, is_some, None, Some, IfOk, MatchOption, if◌then◌else◌};
 ghost use Rattle.std.specs.List.{list_any, slice_split};
 ghost use Rattle.cad_files.specs.Fields.{numbers_of, distinct_of, is_space, repeated};
+ghost use Rattle.cad_files.specs.Rows.{IsSourceList};
 
 use crate::fields::row_number;
-use cad_rows::{Memory, Number, Numbers, SourceNo};
+use cad_rows::{Memory, Number, Numbers, SOURCE_LIMIT, SourceNo};
 use std::alloc::Global;
 use std::marker::Model;
 use sweep::first_repeated;
@@ -119,6 +120,16 @@ fn is_repeated<Kind>(alloc: Global, list: &Numbers<Number<Kind>>) -> Result<bool
         Some(told) => Ok(!told),
         None => has_repeated(alloc, list.as_slice()),
     }
+}
+
+/// Whether sources may be those of an item of a plan: not too many, and none twice. An error where memory runs out.
+pub(crate) fn is_source_list(alloc: Global, list: &Numbers<SourceNo>) -> Result<bool, Memory>
+    ensures { IfOk result (λ sound. IsTrue sound ↔ IsSourceList list.now) }
+{
+    if list.len() > SOURCE_LIMIT {
+        return Ok(false);
+    }
+    Ok(!is_repeated(alloc, list)?)
 }
 
 /// Sources of which none stands twice.

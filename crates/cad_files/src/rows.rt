@@ -1,7 +1,8 @@
 //! The rows of a plan.
-ghost use Rattle.std.specs.Prelude.{◌≡◌, length, IsTrue};
+ghost use Rattle.std.specs.Prelude.{◌≡◌, ◌↔◌, length, false, IfOk, OnErr, IsTrue};
 ghost use Rattle.cad_files.specs.Rows.{no_rows, has_room as has_room_for, with_row, sources_of, IsSourceList, IsPut};
 
+use crate::lists::is_source_list;
 use cad_rows::{
     Face, Memory, ParcelNo, ParcelRow, PointRow, ROW_LIMIT, STRING_LIMIT, SourceRow, StringRow,
 };
@@ -18,7 +19,7 @@ pub struct PlanString {
 
 /// A row of a plan.
 #[derive(Drop)]
-pub(crate) enum PlanRow {
+pub enum PlanRow {
     Source(SourceRow),
     Point(PointRow),
     Parcel(ParcelRow),
@@ -36,6 +37,18 @@ impl PlanRow {
             PlanRow::Parcel(row) => row.sources.len(),
             PlanRow::String(string) => string.row.sources.len(),
             PlanRow::Source(_) | PlanRow::Retired(_) => 0,
+        }
+    }
+
+    // Whether the sources that it names are not too many, and none of them stands twice. An error where memory runs out.
+    fn has_source_list(&self, alloc: Global) -> Result<bool, Memory>
+        ensures { IfOk result (λ sound. IsTrue sound ↔ IsSourceList (sources_of self.now)) }
+    {
+        match self {
+            PlanRow::Point(row) => is_source_list(alloc, &row.sources),
+            PlanRow::Parcel(row) => is_source_list(alloc, &row.sources),
+            PlanRow::String(string) => is_source_list(alloc, &string.row.sources),
+            PlanRow::Source(_) | PlanRow::Retired(_) => Ok(true),
         }
     }
 }
@@ -86,8 +99,8 @@ impl Model for PlanRows {
 }
 
 impl PlanRows {
-    // No rows.
-    pub(crate) fn new(alloc: Global) -> PlanRows
+    /// No rows.
+    pub fn new(alloc: Global) -> PlanRows
         ensures { result ≡ no_rows }
     {
         PlanRows {
@@ -110,6 +123,22 @@ impl PlanRows {
             PlanRow::String(_) => self.strings.len() < STRING_LIMIT,
             PlanRow::Retired(_) => self.retired.len() < ROW_LIMIT,
         }
+    }
+
+    /// Puts a row last among those of its kind, and says whether it may stand there: whether there is room for it, and its
+    /// sources are not too many and none of them stands twice. If not, or where memory runs out, the rows stay as they were.
+    pub fn add(&mut self, alloc: Global, row: PlanRow) -> Result<bool, Memory>
+        ensures decides { IfOk result (λ added. IsTrue added
+            ↔ (IsTrue (has_room_for self.old row) × IsSourceList (sources_of row))) }
+        ensures added { IfOk result (λ added. IsTrue added → self.new ≡ with_row self.old row) }
+        ensures left { IfOk result (λ added. added ≡ false → self.new ≡ self.old) }
+        ensures err { OnErr result (self.new ≡ self.old) }
+    {
+        if !self.has_room(&row) || !row.has_source_list(alloc)? {
+            return Ok(false);
+        }
+        self.put(row)?;
+        Ok(true)
     }
 
     // Puts a row last among those of its kind.

@@ -6,4 +6,4 @@ mod reading;
 mod writing;
 
 pub use reading::{TableError, read_rows};
-pub use writing::{Layout, append_rows};
+pub use writing::{Layout, append_rows, clear_rows};

@@ -1,7 +1,7 @@
 //! Rows are written.
-ghost use Rattle.std.specs.Prelude.{◌≡◌, ◌<◌, ◌^◌, ◌+◌, ◌++◌, List, length, map, OnOk};
+ghost use Rattle.std.specs.Prelude.{◌≡◌, ◌<◌, ◌^◌, ◌+◌, ◌++◌, [], List, length, map, pos, OnOk};
 ghost use Rattle.sqlite_value.specs.Order.{Row as RowOf};
-ghost use Rattle.sqlite_trees.specs.Tree.{put_row};
+ghost use Rattle.sqlite_trees.specs.Tree.{put_row, without_rowid};
 ghost use Rattle.sqlite_trees.specs.View.{IsClean, IsQuiet, KeepsSchema, SetsTree};
 ghost use Rattle.sqlite_trees.specs.declared.store.Shape.TheVariants as shapes;
 ghost use Rattle.stored_rows.specs.Tables.{placed, placed_from, PutsRows};
@@ -25,6 +25,14 @@ pub trait Layout<T> {
     fn read(&self, alloc: Global, row: &Row) -> Result<Option<T>, AllocError>;
 }
 
+// The key of the row under a place.
+fn key_of(place: u64) -> i64
+    requires { place < 2 ^ 63 }
+    ensures { result ≡ pos place }
+{
+    place as i64
+}
+
 // Writes a row under its place.
 pub(crate) fn write_placed<T, L: Layout<T>>(
     row: &mut Row,
@@ -36,8 +44,7 @@ pub(crate) fn write_placed<T, L: Layout<T>>(
     ensures { OnOk result (row.new ≡ placed place (L.fields layout.now item.now)) }
 {
     row.clear();
-    let key = place as i64;
-    if row.push(ValueRef::Int(key)).is_err() || row.push(ValueRef::Null).is_err() {
+    if row.push(ValueRef::Int(key_of(place))).is_err() || row.push(ValueRef::Null).is_err() {
         return Err(StoreError::OutOfMemory);
     }
     match layout.write(item, row) {
@@ -91,6 +98,36 @@ pub fn append_rows<S: Store, T, L: Layout<T>>(
     for item in items {
         place += 1;
         put_placed(store, row, tree, layout, place, item)?;
+    }
+    Ok(())
+}
+
+// Takes the row under a place out.
+fn delete_placed<S: Store>(store: &mut S, tree: u32, place: u64) -> Result<(), StoreError>
+    requires place { place < 2 ^ 63 }
+    requires shape { IsClean (S.view store.old) → (S.view store.old).shape tree ≡ shapes.Table }
+    ensures ok { OnOk result (IsClean (S.view store.new)
+        → SetsTree (S.view store.old) (S.view store.new) tree (without_rowid (pos place))) }
+    ensures schema { KeepsSchema (S.view store.old) (S.view store.new) }
+    ensures quiet { IsQuiet S.view S.faults S.recovers S.is_shielded store.old store.new }
+{
+    store.delete(tree, key_of(place))
+}
+
+/// Takes the `count` rows of a table out, in the transaction that is open. An error where the store fails or memory runs
+/// out, as in [`append_rows`].
+pub fn clear_rows<S: Store>(store: &mut S, tree: u32, count: u64) -> Result<(), StoreError>
+    requires few { count < 2 ^ 63 }
+    requires shape { IsClean (S.view store.old) → (S.view store.old).shape tree ≡ shapes.Table }
+    requires there { IsClean (S.view store.old) → (rows : List RowOf)
+        × ((S.view store.old).trees tree ≡ placed_from 1 rows) × (length rows ≡ count) }
+    ensures cleared { OnOk result (IsClean (S.view store.new)
+        → PutsRows (S.view store.old) tree [] (S.view store.new)) }
+    ensures schema { KeepsSchema (S.view store.old) (S.view store.new) }
+    ensures quiet { IsQuiet S.view S.faults S.recovers S.is_shielded store.old store.new }
+{
+    for gone in 0..count {
+        delete_placed(store, tree, count - gone)?;
     }
     Ok(())
 }
