@@ -20,7 +20,7 @@ const TABLE: Object<'static> = Object {
 };
 
 // These texts, a line each.
-fn lines(alloc: Global, texts: &[&str]) -> Result<Vec<Bytes>, Fail> {
+pub(crate) fn lines(alloc: Global, texts: &[&str]) -> Result<Vec<Bytes>, Fail> {
     let mut lines = Vec::new(alloc);
     for text in texts {
         lines.push(Bytes::from_slice(alloc, text.as_bytes())?)?;

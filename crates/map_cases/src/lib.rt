@@ -1,5 +1,11 @@
-//! The journal of a map file, as tests, in a store that memory holds. What is expected was worked out by hand.
+//! A map file, as tests, in a store that memory holds. What is expected was worked out by hand.
 #![tactic(auto)]
 
 #[cfg(test)]
 mod journals;
+#[cfg(test)]
+mod plans;
+#[cfg(test)]
+mod sessions;
+#[cfg(test)]
+mod tables;
