@@ -44,7 +44,7 @@ fn has<S: Store>(
 }
 
 // Opens the journal, and keeps these lines behind those that it has, by one commit.
-fn keep<S: Store>(alloc: Global, store: &mut S, texts: &[&str]) -> Result<(), Fail> {
+pub(crate) fn keep<S: Store>(alloc: Global, store: &mut S, texts: &[&str]) -> Result<(), Fail> {
     let lines = lines(alloc, texts)?;
     let count = open_journal(store, alloc)?.len();
     if count > 1_000 || lines.len() > 1_000 {

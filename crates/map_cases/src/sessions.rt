@@ -39,7 +39,7 @@ fn store_of_plan(rt: &impl Abort, alloc: Global) -> PlainStore
 }
 
 /// The one record of a text.
-fn row_of(rt: &impl Abort, alloc: Global, record: &str) -> ByteRecord {
+pub(crate) fn row_of(rt: &impl Abort, alloc: Global, record: &str) -> ByteRecord {
     let mut row = ByteRecord::new(alloc);
     let read = next_row(&mut records_of(alloc, record.as_bytes()), &mut row);
     assert!(rt; matches!(read, Ok(true)), "{record}");

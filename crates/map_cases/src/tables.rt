@@ -2,6 +2,7 @@
 ghost use Rattle.std.specs.Prelude.{IfOk};
 ghost use Rattle.sqlite_trees.specs.Memory.{memory_view};
 ghost use Rattle.map_tables.specs.Tables.{AreEmpty};
+ghost use Rattle.map_job.specs.Files.{IsFresh};
 
 use crate::plans::{PLAN, map_of, rows};
 use cad_files::{PlanRows, plan_text};
@@ -27,8 +28,9 @@ const TABLE: Object<'static> = Object {
 };
 
 /// The tables of a map file, without a row.
-fn new_tables(alloc: Global) -> Result<MemStore, Fail>
-    ensures { IfOk result (λ store. AreEmpty (memory_view store).trees) }
+pub(crate) fn new_tables(alloc: Global) -> Result<MemStore, Fail>
+    ensures empty { IfOk result (λ store. AreEmpty (memory_view store).trees) }
+    ensures fresh { IfOk result (λ store. IsFresh (memory_view store)) }
 {
     Ok(MemStore::new(alloc, &[TABLE, TABLE, TABLE, TABLE, TABLE, TABLE, TABLE])?)
 }

@@ -1,3 +1,3 @@
 mod AnswerFacts
 mod LineFacts
-mod ReplayFacts
+pub mod ReplayFacts

@@ -1,0 +1,2 @@
+mod BatchFacts
+mod FileFacts
