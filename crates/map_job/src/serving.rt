@@ -49,22 +49,22 @@ struct Batch {
 fn do_record<M: MapStore>(
     alloc: Global,
     editor: &mut Editor<M>,
-    record: &ByteRecord,
+    given: &ByteRecord,
     batch: &mut Batch,
 ) -> Result<(), Memory>
     requires { StandsForSome M.map M.belongs editor.old }
     ensures done { OnOk result ((first h : History) (script : List Record)
         → IsBatch first script batch.old.lines.items batch.old.answers.items h
         → StandsFor M.map M.belongs editor.old h → (end : History)
-        × IsBatch first (script ++ fields_of record.now ∷ []) batch.new.lines.items batch.new.answers.items end
+        × IsBatch first (script ++ fields_of given.now ∷ []) batch.new.lines.items batch.new.answers.items end
         × StandsFor M.map M.belongs editor.new end) }
     ensures few { OnOk result (length batch.new.lines.items ≤ length batch.old.lines.items + 1) }
     ensures stands { OnOk result (StandsForSome M.map M.belongs editor.new) }
 {
-    let taken = take_row(alloc, editor, record)?;
+    let taken = take_row(alloc, editor, given)?;
     batch.answers.extend_from_slice(taken.answer.as_slice())?;
     if taken.done {
-        batch.lines.push(line_of_row(alloc, record)?)?;
+        batch.lines.push(line_of_row(alloc, given)?)?;
     }
     Ok(())
 }

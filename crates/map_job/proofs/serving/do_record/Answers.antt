@@ -7,7 +7,7 @@ use Rattle.map_job.proofs.serving.do_record.Goals.{then-taken+in_ok-line_of_row+
 pub returns-clause-done : goal.returns-clause-done
 returns-clause-done g c first h script batch stands =
     let (end, answered, leads, after) = c.in_ok-taken.ensures h stands in
-    let fields = fields_of c.args.record.now in
+    let fields = fields_of c.args.given.now in
     let old = c.args.batch.now in
     let more = c.in_ok-taken.taken.answer.items in
     let told = c.extend_from_slice.new.self.items in
